@@ -4,7 +4,7 @@ ghost use mathlib.Core.List.{[], _++_, _∷_};
 ghost use mathlib.Core.Option.{some};
 ghost use Prim.Native.Nat.{_*_, _+_, _<_, _≤_, min};
 ghost use lib.Dec.{eqb};
-ghost use lib.ListN.{drop, length, take};
+ghost use lib.ListN.{drop, getD, length, take};
 ghost use Rattle.graph.specs.Total.{_⊕_};
 ghost use Rattle.model.specs.Word.{noneWord, ofWord, word};
 ghost use Rattle.model.specs.Words.{bytesOf, wordAt};
@@ -107,6 +107,50 @@ pub fn word_at(s: &[u8], i: usize) -> u32
     let c = wide(s[i + 2]);
     let d = wide(s[i + 3]);
     a + 256 * b + 65536 * c + 16777216 * d
+}
+
+// ---- the map's two bodies: roads of 12 bytes, places of the order of 4
+
+// The tail of road i.
+pub fn tail_of(roads: &[u8], i: usize) -> Junction
+    requires { ⌜ 12 * i + 12 ≤ length (now roads) ⌝ }
+    ensures { λ r. ⌜ r .0 ≡ wordAt (now (roads .entry)) (12 * i) ⌝ }
+{
+    Junction(word_at(roads, 12 * i))
+}
+
+// The head of road i.
+pub fn head_of(roads: &[u8], i: usize) -> Junction
+    requires { ⌜ 12 * i + 12 ≤ length (now roads) ⌝ }
+    ensures { λ r. ⌜ r .0 ≡ wordAt (now (roads .entry)) (12 * i + 4) ⌝ }
+{
+    Junction(word_at(roads, 12 * i + 4))
+}
+
+// The base time of road i.
+pub fn base_of(roads: &[u8], i: usize) -> Time
+    requires { ⌜ 12 * i + 12 ≤ length (now roads) ⌝ }
+    ensures { λ r. ⌜ r .0 ≡ wordAt (now (roads .entry)) (12 * i + 8) ⌝ }
+{
+    Time::of_word(word_at(roads, 12 * i + 8))
+}
+
+// The junction of a rank, by the order.
+pub fn junction_of(order: &[u8], r: Rank) -> Junction
+    requires { ⌜ 4 * r .0 + 4 ≤ length (now order) ⌝ }
+    ensures { λ j. ⌜ j .0 ≡ wordAt (now (order .entry)) (4 * r .0) ⌝ }
+{
+    let k = r.0 as usize;
+    Junction(word_at(order, 4 * k))
+}
+
+// The rank of a junction, by the area of ranks.
+pub fn rank_of(ranks: &[u32], j: Junction) -> Rank
+    requires { ⌜ j .0 < length (now ranks) ⌝ }
+    ensures { λ r. ⌜ r .0 ≡ getD (now (ranks .entry)) (j .0) 0 ⌝ }
+{
+    let k = j.0 as usize;
+    Rank(ranks[k])
 }
 
 // Writes the word w from byte i on, lowest byte first.
