@@ -7,9 +7,10 @@ use lib.ListN.{getD, length}
 use native.Mathlib.Omega.{arith}
 use Rattle.graph.specs.Network.{Arc}
 use Rattle.graph.specs.Bound.{CostsAtMost}
-use Rattle.graph.specs.Map.{Map, Valid}
-use Rattle.model.specs.Words.{wordAt, wordsAt}
+use Rattle.graph.specs.Map.{Map, Valid, pairsOf, rank}
+use Rattle.model.specs.Words.{listed, wordAt, wordsAt}
 use Rattle.model.specs.Card.{Rows, mapOf, rowsRefusal}
+use Rattle.model.specs.State.{recordsIn}
 use Rattle.model.specs.Laws.{listed-at, listed-length}
 use Rattle.model.specs.Accept.{RoadFacts, rows-facts, rows-most, rows-valid, sizes-facts}
 
@@ -71,3 +72,13 @@ module _ (roads order : List ℕ) where
 
   pub junction-in : (k : ℕ) → 4 * k + 4 ≤ length order → mapIn roads order .order k ≡ wordAt order (4 * k)
   junction-in k h = word-in order k h
+
+-- ---- what preparing leaves, as the code below the calls relies on it
+
+-- ranks by junction number; the records of all kept pairs, then zeros; their number
+pub record Prepared (roads order ranks pairs : List ℕ) (count : ℕ) : Type 0 where
+  pub sound : Sound roads order
+  pub ranks-are : ranks ≡ listed (mapIn roads order .vertices) (rank (mapIn roads order))
+  pub count-is : count ≡ length (pairsOf (mapIn roads order))
+  pub pairs-are : pairs ≡ recordsIn (mapIn roads order) (length pairs)
+  pub room : 4 * count ≤ length pairs
