@@ -91,6 +91,25 @@ impl Time {
     }
 }
 
+// Why something is refused: one variant for each question of document 01, in its order.
+pub enum Refusal {
+    Short,
+    Kinds,
+    Starts,
+    Sizes,
+    Road(u32),
+    Place(u32),
+    AreaLengths,
+    Room,
+    Lengths,
+    NoRoad,
+    NotAllowed,
+    NoJunction,
+    NoTarget,
+    LentLengths,
+    NoPath(u32),
+}
+
 fn wide(x: u8) -> u32
     ensures { λ r. ⌜ (r ≡ x) × (r < 256) ⌝ }
 {
