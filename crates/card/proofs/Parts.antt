@@ -7,7 +7,7 @@ use lib.ListN.{drop, getD, length, length-drop, take}
 use lib.Seq.{getD-drop, getD-take, length-take-le}
 use native.Mathlib.Nat.{add-assoc}
 use native.Mathlib.Omega.{arith}
-use Rattle.model.specs.Words.{wordAt, wordsAt}
+use Rattle.model.specs.Bytes.{wordAt, wordsAt}
 use Rattle.model.specs.Card.{Rows, kindsOk, orderBytes, roadBytes, rowsOf, startsOk}
 use Rattle.model.specs.Accept.{TableFacts, table-facts}
 use Rattle.model.specs.Ends.{listed-same}

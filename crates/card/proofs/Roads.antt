@@ -7,7 +7,7 @@ use Prim.Native.Nat.{_*_, _+_, _/_, _<_, _≤_, ℕ}
 use lib.ListN.{getD, length}
 use native.Mathlib.Nat.{div-div-eq-div-mul}
 use native.Mathlib.Omega.{arith}
-use Rattle.model.specs.Words.{wordAt}
+use Rattle.model.specs.Bytes.{wordAt}
 use Rattle.model.specs.Card.{Rows, mapOf, roadFits, roadOk}
 use Rattle.model.specs.Laws.{listed-length}
 use Rattle.card.proofs.Firsts.{failing, first-end, first-found, first-start, first-turn}

@@ -8,7 +8,7 @@ use borrow.Author.Tests.{eq-eqb, ne-eqb}
 use lib.Dec.{eqb, ltb}
 use lib.ListN.{drop, length, take}
 use native.Mathlib.Nat.{add-sub-cancel-left}
-use Rattle.model.specs.Words.{wordAt}
+use Rattle.model.specs.Bytes.{wordAt}
 use Rattle.model.specs.Card.{kindsOk, startsOk}
 
 module _ (card : List ℕ) (x y z : ℕ) (ex : x ≡ wordAt card 0) where

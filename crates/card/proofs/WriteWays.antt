@@ -10,7 +10,7 @@ use lib.ListN.{drop, drop-of-length-le, length, length-append, length-drop, take
 use lib.Seq.{drop-at, take-at}
 use native.Mathlib.Omega.{arith}
 use Rattle.model.specs.Types.{Accepted, AreaLengths, Refusal, Refused}
-use Rattle.model.specs.Words.{bytesOf}
+use Rattle.model.specs.Bytes.{bytesOf}
 use Rattle.model.specs.Card.{cardOf, rowsRefusal, writeRefusal}
 use Rattle.model.specs.Accept.{rows-facts, sizes-facts}
 use Rattle.model.specs.CardBack.{bytes-length, card-length}

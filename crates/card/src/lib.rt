@@ -2,7 +2,7 @@
 ghost use mathlib.Core.Path.{_≡_};
 ghost use Prim.Native.Nat.{_+_, _*_, _≤_};
 ghost use lib.ListN.{drop, length, take};
-ghost use Rattle.model.specs.Words.{wordAt};
+ghost use Rattle.model.specs.Bytes.{wordAt};
 ghost use Rattle.model.specs.Card.{cardOf, kindsOk, startsOk};
 ghost use Rattle.model.specs.Contracts.{ReadContract, WriteContract};
 ghost use Rattle.card.specs.Answers.{readingIn, rowsOf, writingIn};

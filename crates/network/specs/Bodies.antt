@@ -8,7 +8,7 @@ use native.Mathlib.Omega.{arith}
 use Rattle.graph.specs.Network.{Arc}
 use Rattle.graph.specs.Bound.{CostsAtMost}
 use Rattle.graph.specs.Map.{Map, Valid, pairsOf, rank}
-use Rattle.model.specs.Words.{listed, wordAt, wordsAt}
+use Rattle.model.specs.Bytes.{listed, wordAt, wordsAt}
 use Rattle.model.specs.Card.{Rows, mapOf, rowsRefusal}
 use Rattle.model.specs.State.{recordsIn}
 use Rattle.model.specs.Laws.{listed-at, listed-length}
