@@ -94,14 +94,16 @@ impl Streets {
 /// numbered in any order, the order is a good one.
 pub fn town(random: &mut Random, width: usize, height: usize, streets: Streets) -> Map {
     let mut roads = Vec::new();
-    for y in 0..height {
-        for x in 0..width {
-            if x + 1 < width {
-                block(random, streets, y, [y * width + x, y * width + x + 1], &mut roads);
-            }
-            if y + 1 < height {
-                block(random, streets, x, [y * width + x, (y + 1) * width + x], &mut roads);
-            }
+    for (line, [a, b]) in blocks(width, height) {
+        let main = line % 8 == 3;
+        if !main && random.chance(streets.missing) {
+            continue;
+        }
+        let [tail, head] = if line.is_multiple_of(2) { [a, b] } else { [b, a] };
+        let base = random.within(10..=40) / if main { 3 } else { 1 };
+        roads.push(Road { tail, head, base });
+        if main || !random.chance(streets.one_way) {
+            roads.push(Road { tail: head, head: tail, base: base + random.within(0..=5) });
         }
     }
     random.shuffle(&mut roads);
@@ -118,26 +120,29 @@ pub fn largest_town(random: &mut Random) -> Map {
     map
 }
 
-/// The roads of one block of a line of streets, between two junctions.
-fn block(
-    random: &mut Random,
-    streets: Streets,
-    line: usize,
-    ends: [usize; 2],
-    roads: &mut Vec<Road>,
-) {
-    let main = line % 8 == 3;
-    if !main && random.chance(streets.missing) {
-        return;
+/// A two-way grid with base times of 1 and a few of 2, junctions and roads numbered in any order:
+/// many totals and keys are equal. The order is a good one.
+pub fn even_grid(random: &mut Random, width: usize, height: usize) -> Map {
+    let mut numbers: Vec<u32> = (0..(width * height) as u32).collect();
+    random.shuffle(&mut numbers);
+    let mut roads = Vec::new();
+    for (_, ends) in blocks(width, height) {
+        let [a, b] = ends.map(|end| numbers[end as usize]);
+        for [tail, head] in [[a, b], [b, a]] {
+            roads.push(Road { tail, head, base: random.pick(&[1, 1, 1, 2]) });
+        }
     }
-    let ends = ends.map(|end| end as u32);
-    let [tail, head] = if line.is_multiple_of(2) { ends } else { [ends[1], ends[0]] };
-    let base = random.within(10..=40) / if main { 3 } else { 1 };
-    roads.push(Road { tail, head, base });
-    if main || !random.chance(streets.one_way) {
-        let base = base + random.within(0..=5);
-        roads.push(Road { tail: head, head: tail, base });
-    }
+    random.shuffle(&mut roads);
+    Map::in_good_order(width * height, roads)
+}
+
+/// The blocks of a grid with the number of their line, across or down, and the junctions at their
+/// ends, which are numbered line by line.
+fn blocks(width: usize, height: usize) -> impl Iterator<Item = (usize, [u32; 2])> {
+    let at = move |x, y| (y * width + x) as u32;
+    let across = move |y| (1..width).map(move |x| (y, [at(x - 1, y), at(x, y)]));
+    let down = move |x| (1..height).map(move |y| (x, [at(x, y - 1), at(x, y)]));
+    (0..height).flat_map(across).chain((0..width).flat_map(down))
 }
 
 /// A two-way line of junctions with the longest base times, its order from one end to the other:
@@ -154,19 +159,43 @@ pub fn star(n: usize) -> Map {
     Map { roads, order: (1..n as u32).chain([0]).collect() }
 }
 
-/// A one-way ring of at least 3 junctions with the longest base times, and one more road, from the
-/// last but one to the first. With the road into the last one closed, the search from 1 to the last
-/// has the largest key: that of 0, (n - 2) + (n - 1) roads.
+/// A one-way ring with the longest base times, its order once round.
 pub fn ring(n: usize) -> Map {
-    let road = |tail, head| Road { tail: tail as u32, head: head as u32, base: LONGEST };
-    let mut roads: Vec<Road> = (0..n).map(|i| road(i, (i + 1) % n)).collect();
-    roads.push(road(n - 2, 0));
+    let roads = (0..n).map(|i| long(i, (i + 1) % n)).collect();
     Map { roads, order: (0..n as u32).collect() }
 }
 
+/// A one-way line 0, 1 .. n - 2 with the longest base times; and from n - 3 roads back to 0 and, by
+/// way of n - 1, on to n - 2. With road n - 3, the line's last, closed, the search from 1 to n - 2 has
+/// two candidates at last: 0 with a key of 2n - 5 roads, 8,187,000,000 in the largest map, and n - 1
+/// with one of n - 2 roads, which would be the larger one if keys had 32 bits.
+pub fn wide_keys(n: usize) -> Map {
+    let mut roads: Vec<Road> = (0..n - 2).map(|i| long(i, i + 1)).collect();
+    roads.extend([long(n - 3, 0), long(n - 3, n - 1), long(n - 1, n - 2)]);
+    Map { roads, order: (0..n as u32).collect() }
+}
+
+/// Three maps alike but for the order: a one-way line 0, 1 .. n - 4 with the longest base times, roads
+/// from a = n - 3 and x = n - 2 to its first junction, and from its last to x and b = n - 1. The chain
+/// from a to b has n - 2 roads, and that by way of x 2(n - 2), in the largest map 8,188,000,000: the
+/// smaller one if it had 32 bits. The two are compared by contraction with the first order, by the down
+/// totals for b with the second, by the estimate of a for b with the third.
+pub fn wide_sums(n: usize) -> [Map; 3] {
+    let (a, x, b) = (n - 3, n - 2, n - 1);
+    let mut roads: Vec<Road> = (0..n - 4).map(|i| long(i, i + 1)).collect();
+    roads.extend([long(a, 0), long(x, 0), long(n - 4, x), long(n - 4, b)]);
+    [[x, a, b], [b, x, a], [a, x, b]].map(|last| {
+        let order = (0..n - 3).chain(last).map(|junction| junction as u32).collect();
+        Map { roads: roads.clone(), order }
+    })
+}
+
 fn both_ways(a: usize, b: usize) -> [Road; 2] {
-    let road = |tail, head| Road { tail: tail as u32, head: head as u32, base: LONGEST };
-    [road(a, b), road(b, a)]
+    [long(a, b), long(b, a)]
+}
+
+fn long(tail: usize, head: usize) -> Road {
+    Road { tail: tail as u32, head: head as u32, base: LONGEST }
 }
 
 #[cfg(test)]
@@ -184,9 +213,12 @@ mod tests {
             random(&mut r, MOST_JUNCTIONS, MOST_ROADS, LONGEST),
             town(&mut r, 10, 20, Streets::USUAL),
             largest_town(&mut r),
+            even_grid(&mut r, 20, 20),
             line(MOST_JUNCTIONS),
             star(MOST_JUNCTIONS),
             ring(MOST_JUNCTIONS),
+            wide_keys(MOST_JUNCTIONS),
+            wide_sums(MOST_JUNCTIONS)[0].clone(),
         ] {
             let card = map.card().unwrap();
             assert_eq!(card::map(&card), Ok(map.rows()));
