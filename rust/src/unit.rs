@@ -5,7 +5,7 @@
 use crate::card::Refusal;
 
 extern "C" {
-    fn card_read(card: *const u8, len: usize, out: *mut u32) -> u32;
+    fn card_read(card: *const u8, len: usize, first: *mut u32, second: *mut u32) -> u32;
     fn card_write(
         roads: *const u32,
         roads_len: usize,
@@ -22,13 +22,13 @@ const UNWRITTEN: u32 = 0xa5a5_a5a5;
 
 /// Questions 1 to 6: the numbers of junctions and of roads, or the first refusal.
 pub fn read(card: &[u8]) -> Result<(u32, u32), Refusal> {
-    let mut out = [UNWRITTEN; 2];
-    // SAFETY: the card is as long as is said, and `out` has the two words that are written.
-    let number = unsafe { card_read(card.as_ptr(), card.len(), out.as_mut_ptr()) };
-    match (number, out) {
-        (0, [n, m]) => Ok((n, m)),
-        (number, [place, 0]) => Err(refusal(number, place)),
-        (number, out) => panic!("refusal {number} with the words {out:?}"),
+    let (mut first, mut second) = (UNWRITTEN, UNWRITTEN);
+    // SAFETY: the card is as long as is said, and the two words are there to be written.
+    let number = unsafe { card_read(card.as_ptr(), card.len(), &mut first, &mut second) };
+    match (number, first, second) {
+        (0, n, m) => Ok((n, m)),
+        (number, place, 0) => Err(refusal(number, place)),
+        (number, place, m) => panic!("refusal {number} with the words {place} and {m}"),
     }
 }
 
