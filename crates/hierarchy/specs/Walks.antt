@@ -10,7 +10,6 @@ use Rattle.graph.specs.Total.{Total, _⊓_, _⊕_}
 use Rattle.graph.specs.Least.{minBelow}
 use Rattle.graph.specs.Network.{Arc}
 use Rattle.graph.specs.Bound.{CostsAtMost}
-use Rattle.graph.specs.Records.{Pair}
 use Rattle.graph.specs.Estimate.{downTotal, estimate}
 use Rattle.graph.specs.Meet.{reaches}
 use Rattle.graph.specs.Map.{Map, Valid, estimateOf, pairsOf, rank, weights}
@@ -87,6 +86,8 @@ Kept e z = (i : ℕ) → (getD e i 0 ≡ unasked → ⊥) → getD z i 0 ≡ get
 -- the estimate v of rank r
 pub record Climbed (n : ℕ) (order pairs : List ℕ) (count : ℕ) (down e z : List ℕ) (r v : ℕ) : Type 0 where
   pub kept : Kept e z
+  -- on any contents: the answer is stored, and it is not the mark unasked; so no entry is walked twice
+  pub stored : wordAt order (4 * r) < n → getD z (wordAt order (4 * r)) 0 ≡ v
   pub answered : v ≡ unasked → ⊥
   pub exact : (M : Map) → Holds M n order pairs count → (t : ℕ) → AimFacts M t down e
       → (v ≡ word (estimateAt M t r)) × (z ≡ filled M t (above M r) e)
