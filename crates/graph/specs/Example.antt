@@ -7,35 +7,39 @@ use mathlib.Core.Option.{none, some}
 use mathlib.Core.List.{List, [], _∷_, map}
 use Prim.Native.Nat.{ℕ}
 use lib.Dec.{eqb}
-use lib.ListN.{getD}
+use lib.ListN.{getD, length}
 use Rattle.graph.specs.Total.{Total, _⊕_, isNumber, noMore}
 use Rattle.graph.specs.Least.{firstBelow}
 use Rattle.graph.specs.Lists.{countBelow, filter, range}
 use Rattle.graph.specs.Network.{direct}
 use Rattle.graph.specs.Level.{dist}
 use Rattle.graph.specs.Pairs.{down, up}
+use Rattle.graph.specs.Records.{Pair}
 use Rattle.graph.specs.Estimate.{downTotal, estimate}
 use Rattle.graph.specs.Reach.{reaches}
 use Rattle.graph.specs.Search.{Entry, back, backStep, before, below-or, bestBelow, better, consider, countOf, extend, firstVia, hasGoal, history, is, logOf, next, offerVia, offered, push, routeOf, run, timeIn, totalIn, totalOf, vertices, wayIn}
-use Rattle.graph.specs.Map.{Map, downTotalOf, estimateOf, fills, rank, timeOf, weights}
+use Rattle.graph.specs.Map.{Map, downTotalOf, estimateOf, fills, pairsOf, rank, timeOf, weights}
 use Rattle.graph.specs.Go.{goOf}
 
 -- ---- the map
 
--- Arcs by number, tail - head - cost: 0: 1-0-1, 1: 3-0-2, 2: 3-1-1, 3: 0-2-1, 4: 3-2-5, 5: 3-4-5, 6: 0-2-1, 7: 2-3-10, 8: 0-3-30, 9: 0-3-20, 10: 1-4-1. No arc leaves 4.
+-- tail, head and cost of the arcs 0 to 10; no arc leaves 4
+abbrev arcs : List (ℕ × ℕ × ℕ)
+arcs =
+    (1, 0, 1) ∷ (3, 0, 2) ∷ (3, 1, 1) ∷ (0, 2, 1) ∷ (3, 2, 5) ∷ (3, 4, 5)
+    ∷ (0, 2, 1) ∷ (2, 3, 10) ∷ (0, 3, 30) ∷ (0, 3, 20) ∷ (1, 4, 1) ∷ []
+
+abbrev arc : ℕ → ℕ × ℕ × ℕ
+arc i = getD arcs i (0, 0, 0)
+
 abbrev costs : ℕ → Total
-costs i = some (getD (1 ∷ 2 ∷ 1 ∷ 1 ∷ 5 ∷ 5 ∷ 1 ∷ 10 ∷ 30 ∷ 20 ∷ 1 ∷ []) i 0)
+costs i = some (arc i .2)
 
 abbrev M : Map
 M = record {
   vertices = 5;
   order = λ i. getD (0 ∷ 4 ∷ 1 ∷ 2 ∷ 3 ∷ []) i 0;
-  base = record {
-    arcs = 11;
-    tail = λ i. getD (1 ∷ 3 ∷ 3 ∷ 0 ∷ 3 ∷ 3 ∷ 0 ∷ 2 ∷ 0 ∷ 0 ∷ 1 ∷ []) i 0;
-    head = λ i. getD (0 ∷ 0 ∷ 1 ∷ 2 ∷ 2 ∷ 4 ∷ 2 ∷ 3 ∷ 3 ∷ 3 ∷ 4 ∷ []) i 0;
-    cost = costs;
-  };
+  base = record { arcs = length arcs; tail = λ i. arc i .0; head = λ i. arc i .1; cost = costs };
 }
 
 -- the values at 0 to 4
@@ -68,6 +72,20 @@ pub downs-are : all (λ low. all (λ high. down (weights M) low high))
     ∷ []
 unfolding down direct
 downs-are = refl
+
+-- the kept pairs: low, high, up, down
+pub pairs-are : map {B = ℕ × ℕ × Total × Total} (λ (p : Pair). (p .low, p .high, p .upTime, p .downTime)) (pairsOf M)
+    ≡ (0, 2, none, some 1)
+    ∷ (0, 3, some 1, none)
+    ∷ (0, 4, some 20, some 2)
+    ∷ (1, 2, none, some 1)
+    ∷ (1, 4, none, some 5)
+    ∷ (2, 3, some 2, none)
+    ∷ (2, 4, some 21, some 1)
+    ∷ (3, 4, some 10, some 3)
+    ∷ []
+unfolding up down direct
+pairs-are = refl
 
 -- for the targets 2, 0 and 4: vertex 2 has no down total for target 0, but an estimate, over 3
 pub downTotals-are : map (λ (z : ℕ). all (downTotalOf M z)) (2 ∷ 0 ∷ 4 ∷ [])
