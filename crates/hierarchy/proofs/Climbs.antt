@@ -15,12 +15,11 @@ use Rattle.graph.specs.Least.{minBelow, minBelow-none, minBelow-skip}
 use Rattle.graph.specs.Pairs.{up}
 use Rattle.graph.specs.Records.{Pair}
 use Rattle.graph.specs.Estimate.{downTotal}
-use Rattle.graph.specs.Meet.{reaches, reaches-path}
+use Rattle.graph.specs.Reach.{reaches, reaches-path}
 use Rattle.graph.specs.Ranks.{rank-below, vertex-of-rank}
 use Rattle.graph.specs.Map.{Map, downTotalOf, estimateOf, pairsOf, rank, weights}
-use Rattle.model.specs.Words.{wordAt}
-use Rattle.model.specs.Word.{noneWord, ofWord, ofWord-word, word}
-use Rattle.model.specs.State.{unasked}
+use Rattle.model.specs.Bytes.{wordAt}
+use Rattle.model.specs.Word.{noneWord, ofWord, ofWord-word, unasked, word}
 use Rattle.model.specs.Calls.{filled}
 use Rattle.model.specs.Laws.{listed-at}
 use Rattle.model.specs.Ends.{filled-is}

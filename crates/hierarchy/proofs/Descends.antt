@@ -16,7 +16,7 @@ use Rattle.graph.specs.Records.{Pair}
 use Rattle.graph.specs.Folds.{hand, hand-all, pass, pass-append, seed}
 use Rattle.graph.specs.Ranks.{rank-below, vertex-of-rank}
 use Rattle.graph.specs.Map.{Map, downTotalOf, pairsOf, rank, weights}
-use Rattle.model.specs.Words.{wordAt}
+use Rattle.model.specs.Bytes.{wordAt}
 use Rattle.model.specs.Word.{noneWord, ofWord, ofWord-word, word}
 use Rattle.model.specs.Ends.{listed-is}
 use Rattle.model.specs.Use.{pairIn}

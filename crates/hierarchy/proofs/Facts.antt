@@ -14,13 +14,12 @@ use Rattle.graph.specs.Path.{Path, Weights, empty, link, path-join}
 use Rattle.graph.specs.Pairs.{down, up}
 use Rattle.graph.specs.Records.{Kept, Pair, pairOf, rows-member}
 use Rattle.graph.specs.Estimate.{downTotal, estimate, estimate-law}
-use Rattle.graph.specs.Meet.{Ups, path-reaches, reaches, reaches-path}
+use Rattle.graph.specs.Reach.{Ups, path-reaches, reaches, reaches-path}
 use Rattle.graph.specs.Bound.{totals-fit}
 use Rattle.graph.specs.Ranks.{rank-of-vertex}
 use Rattle.graph.specs.Map.{Map, pairsOf, rank, weights}
 use Rattle.graph.specs.Rows.{ranked-down, ranked-downTotal, ranked-estimate, ranked-up, rows-ascend, rows-has, ups-rows}
-use Rattle.model.specs.Word.{noneWord, word}
-use Rattle.model.specs.State.{unasked}
+use Rattle.model.specs.Word.{noneWord, unasked, word}
 use Rattle.model.specs.Good.{UpClosed}
 use Rattle.model.specs.Use.{pairIn, pairIn-mem}
 use Rattle.network.specs.Width.{fit, fit-is}

@@ -8,8 +8,7 @@ use lib.Dec.{eqb, ltb}
 use native.Mathlib.Decide.{ℕ-discrete}
 use native.Mathlib.Omega.{arith}
 use Rattle.graph.specs.Total.{and-true}
-use Rattle.model.specs.Word.{noneWord}
-use Rattle.model.specs.State.{unasked}
+use Rattle.model.specs.Word.{noneWord, unasked}
 use Rattle.hierarchy.specs.Walks.{Ascending, answer, leads, lowIn}
 
 -- ---- a record that leads up

@@ -7,7 +7,7 @@ use Rattle.graph.specs.Total.{_⊕_}
 use Rattle.graph.specs.Folds.{hand, pass, seed}
 use Rattle.graph.specs.Map.{Map, downTotalOf, pairsOf, rank}
 use Rattle.model.specs.Word.{ofWord, word}
-use Rattle.model.specs.Words.{listed, wordAt}
+use Rattle.model.specs.Bytes.{listed, wordAt}
 use Rattle.network.specs.Width.{fit}
 use Rattle.network.specs.Bodies.{Prepared, mapIn}
 use Rattle.hierarchy.specs.Walks.{Holds, downIn, highIn, lowIn}

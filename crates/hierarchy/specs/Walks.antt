@@ -11,11 +11,10 @@ use Rattle.graph.specs.Least.{minBelow}
 use Rattle.graph.specs.Network.{Arc}
 use Rattle.graph.specs.Bound.{CostsAtMost}
 use Rattle.graph.specs.Estimate.{downTotal, estimate}
-use Rattle.graph.specs.Meet.{reaches}
+use Rattle.graph.specs.Reach.{reaches}
 use Rattle.graph.specs.Map.{Map, Valid, estimateOf, pairsOf, rank, weights}
-use Rattle.model.specs.Words.{wordAt}
-use Rattle.model.specs.Word.{noneWord, word}
-use Rattle.model.specs.State.{unasked}
+use Rattle.model.specs.Bytes.{wordAt}
+use Rattle.model.specs.Word.{noneWord, unasked, word}
 use Rattle.model.specs.Calls.{filled}
 use Rattle.model.specs.Good.{AimFacts}
 use Rattle.model.specs.Use.{RecordAt, pairIn}

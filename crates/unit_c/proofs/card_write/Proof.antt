@@ -1,9 +1,7 @@
-use Rattle.model.specs.Card.{writeCard}
-use Rattle.card.specs.Answers.{rowsOf}
+use Rattle.model.specs.Card.{Written, writeCard}
+use Rattle.card.specs.Answers.{rowsOf, writingIn}
 use mathlib.Core.Path.{_∙_, ap, sym}
 use mathlib.Core.List.{List}
-use Rattle.model.specs.Card.{Written}
-use Rattle.card.specs.Answers.{writingIn}
 use Rattle.card.specs.declared.Writing.{Writing}
 use Prim.Native.Nat.{ℕ}
 use Rattle.unit_c.proofs.Told.{accepted-told, refused-told}

@@ -2,8 +2,7 @@ use mathlib.Core.Path.{_∙_, ap, sym}
 use borrow.Author.Tests.{not-false, not-true}
 use native.Mathlib.Omega.{arith}
 use Rattle.model.specs.Accept.{sizes-facts}
-use Rattle.card.specs.Answers.{rowsOf}
-use Rattle.card.specs.Answers.{failingIn}
+use Rattle.card.specs.Answers.{failingIn, rowsOf}
 use Rattle.card.proofs.Verdicts.{any-roads, by-4, by-5, by-6, by-none}
 use borrow.Author.Needs.{needs}
 use Rattle.card.proofs.row.check.Statement.{statement}
