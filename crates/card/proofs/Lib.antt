@@ -4,6 +4,5 @@ pub mod Roads
 pub mod Verdicts
 pub mod Numbers
 pub mod Table
-pub mod Parts
 pub mod ReadWays
 pub mod WriteWays

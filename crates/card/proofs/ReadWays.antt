@@ -11,7 +11,7 @@ use Rattle.model.specs.Types.{Kinds, Read, Refusal, Short, Starts, Unreadable}
 use Rattle.model.specs.Card.{Rows, cardRefusal, kindsOk, mapOf, mapOn, orderBytes, readCard, reading, roadBytes, rowsOf, rowsRefusal, startsOk}
 use Rattle.model.specs.Accept.{rows-facts, sizes-facts}
 use Rattle.network.specs.Bodies.{rowsIn}
-use Rattle.card.proofs.Parts.{BodyFacts}
+use Rattle.card.specs.Parts.{BodyFacts}
 use Rattle.card.proofs.Roads.{arcs, junctions}
 
 module _ (card : List ℕ) where

@@ -2,7 +2,7 @@ use mathlib.Core.Path.{_∙_, ap, sym}
 use borrow.Author.Tests.{not-false, not-true}
 use native.Mathlib.Omega.{arith}
 use Rattle.card.specs.Answers.{verdictIn}
-use Rattle.card.proofs.Parts.{body-facts, ends-within}
+use Rattle.card.specs.Parts.{body-facts, ends-within}
 use Rattle.card.proofs.ReadWays.{read-1, read-2, read-3, read-failed, read-passed, sizes-low}
 use borrow.Author.Needs.{needs}
 use Rattle.card.proofs.read.Statement.{statement}

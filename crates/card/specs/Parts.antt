@@ -1,17 +1,21 @@
 -- The bodies as parts of the card. Assumes nothing.
 use mathlib.Core.Path.{_∙_, _≡_, ap, ap₂, refl, sym}
 use mathlib.Core.Bool.{true}
+use mathlib.Core.Option.{none}
 use mathlib.Core.List.{List}
 use Prim.Native.Nat.{_*_, _+_, _/_, _<_, _≤_, ℕ}
+use lib.Dec.{leb}
 use lib.ListN.{drop, getD, length, length-drop, take}
 use lib.Seq.{getD-drop, getD-take, length-take-le}
 use native.Mathlib.Nat.{add-assoc}
 use native.Mathlib.Omega.{arith}
 use Rattle.model.specs.Bytes.{wordAt, wordsAt}
-use Rattle.model.specs.Card.{Rows, kindsOk, orderBytes, roadBytes, rowsOf, startsOk}
-use Rattle.model.specs.Accept.{TableFacts, table-facts}
+use Rattle.model.specs.Types.{Kinds, Short, Starts}
+use Rattle.model.specs.Card.{Rows, cardRefusal, kindsOk, mapOf, mapOn, orderBytes, roadBytes, rowsOf, rowsRefusal, startsOk}
+use Rattle.model.specs.Laws.{ask-none, listed-length}
+use Rattle.model.specs.Accept.{TableFacts, card-facts, rows-facts, sizes-facts, table-facts}
 use Rattle.model.specs.Ends.{listed-same}
-use Rattle.network.specs.Bodies.{rowsIn}
+use Rattle.network.specs.Bodies.{Sound, mapIn, rowsIn}
 
 part-byte : (card : List ℕ) (s l j : ℕ) → j < l → getD (take l (drop s card)) j 0 ≡ getD card (s + j) 0
 part-byte card s l j h = getD-take l (drop s card) j 0 h ∙ getD-drop s card j 0
@@ -49,3 +53,43 @@ body-facts card roads order k s er eo =
       roads-size = ap length er ∙ part-length card (wordAt card 8) (wordAt card 12) (e .0);
       order-size = ap length eo ∙ part-length card (wordAt card 20) (wordAt card 24) (e .1);
     }
+
+-- ---- the bodies of an accepted card, by the numbers of its roads and junctions
+
+abbrev pub roadsIn : (card : List ℕ) (m : ℕ) → List ℕ
+roadsIn card m = take (12 * m) (drop 28 card)
+
+abbrev pub orderIn : (card : List ℕ) (n m : ℕ) → List ℕ
+orderIn card n m = take (4 * n) (drop (28 + 12 * m) card)
+
+module _ (card : List ℕ) (ok : cardRefusal card ≡ none) (n m : ℕ) (en : n ≡ mapOn card .vertices) (em : m ≡ mapOn card .base .arcs) where
+  pub bodies : BodyFacts card (roadsIn card m) (orderIn card n m)
+  unfolding cardRefusal
+  bodies =
+      let p = ask-none (leb 28 (length card)) Short _ ok in
+      let q = ask-none (kindsOk card) Kinds _ (p .1) in
+      let s = ask-none (startsOk card) Starts _ (q .1) in
+      let z = sizes-facts (roadBytes card) (orderBytes card) (rows-facts (roadBytes card) (orderBytes card) (rowsOf card) (s .1) .sizes) in
+      let c = card-facts card ok in
+      let kn = listed-length (orderBytes card / 4) (λ i. wordAt card (wordAt card 20 + 4 * i)) in
+      let km = listed-length (roadBytes card / 4) (λ i. wordAt card (wordAt card 8 + 4 * i)) in
+      let la : 12 * m ≡ wordAt card 12 = omega (arith, em, km, z .0) in
+      let lb : 4 * n ≡ wordAt card 24 = omega (arith, en, kn, z .2) in
+      let sb : 28 + 12 * m ≡ wordAt card 20 = omega (arith, em, c .order-at) in
+      body-facts card (roadsIn card m) (orderIn card n m) (q .0) (s .0)
+      (ap₂ (λ (a : ℕ) (b : ℕ). take a (drop b card)) la (sym (c .roads-at)))
+      (ap₂ (λ (a : ℕ) (b : ℕ). take a (drop b card)) lb sb)
+
+  pub map-is : mapIn (roadsIn card m) (orderIn card n m) ≡ mapOn card
+  map-is = ap mapOf (bodies .rows)
+
+  pub card-sound : Sound (roadsIn card m) (orderIn card n m)
+  unfolding cardRefusal
+  card-sound =
+      let p = ask-none (leb 28 (length card)) Short _ ok in
+      let q = ask-none (kindsOk card) Kinds _ (p .1) in
+      let s = ask-none (startsOk card) Starts _ (q .1) in
+      let f = bodies in
+      record {
+        passes = ap (rowsRefusal (length (roadsIn card m)) (length (orderIn card n m))) (f .rows) ∙ ap₂ (λ (a : ℕ) (b : ℕ). rowsRefusal a b (rowsOf card)) (f .roads-size) (f .order-size) ∙ s .1;
+      }
