@@ -1,0 +1,4 @@
+pub mod Keys
+pub mod Improved
+pub mod Grouped
+pub mod Ways
