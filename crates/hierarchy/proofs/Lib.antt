@@ -1,0 +1,5 @@
+pub mod Tests
+pub mod Places
+pub mod Facts
+pub mod Climbs
+pub mod Prepares
