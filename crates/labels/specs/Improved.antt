@@ -1,6 +1,8 @@
 -- A label after one road more is relaxed. Definitions only.
 use mathlib.Core.Path.{_≡_}
+use mathlib.Core.List.{List}
 use Prim.Native.Nat.{_+_, _<_, _≤_, ℕ}
+use lib.ListN.{getD, set}
 use Rattle.model.specs.Word.{noneWord}
 use Rattle.labels.specs.Keys.{settledKey}
 
@@ -13,3 +15,13 @@ pub data Improved (w e i t q j : ℕ) : (time key via : ℕ) → Type 0 where
   later : (e ≡ noneWord → ⊥) → (q ≡ settledKey → ⊥) → t < w → Improved w e i t q j t q j
   tied : (e ≡ noneWord → ⊥) → (q ≡ settledKey → ⊥) → w ≡ t → i < j → Improved w e i t q j t q i
   behind : (e ≡ noneWord → ⊥) → (q ≡ settledKey → ⊥) → w ≡ t → j ≤ i → Improved w e i t q j t q j
+
+-- the label of v in three areas, before and after
+pub record Stored (w e i v : ℕ) (times keys vias times′ keys′ vias′ : List ℕ) : Type 0 where
+  pub time : ℕ
+  pub key : ℕ
+  pub via : ℕ
+  pub improves : Improved w e i (getD times v 0) (getD keys v 0) (getD vias v 0) time key via
+  pub times-are : times′ ≡ set times v time
+  pub keys-are : keys′ ≡ set keys v key
+  pub vias-are : vias′ ≡ set vias v via

@@ -65,11 +65,11 @@ labels-full {G} {H} {c} {d} {k} {l} a b times keys vias h v lv =
     refl (h v lv)
 
 -- the word of an estimate is a number, or that of none
-with-pot : (e : ℕ) (x : Total) → e ≡ word x → (e ≡ noneWord → ⊥) → (p : ℕ) × (x ≡ some p) × (e ≡ p)
+pub with-pot : (e : ℕ) (x : Total) → e ≡ word x → (e ≡ noneWord → ⊥) → (p : ℕ) × (x ≡ some p) × (e ≡ p)
 with-pot e none z ne = absurd (ne z)
 with-pot e (some p) z ne = (p, refl, z)
 
-without-pot : (e : ℕ) (x : Total) → e ≡ word x → ((p : ℕ) → x ≡ some p → p ≤ 4095000000) → e ≡ noneWord → x ≡ none
+pub without-pot : (e : ℕ) (x : Total) → e ≡ word x → ((p : ℕ) → x ≡ some p → p ≤ 4095000000) → e ≡ noneWord → x ≡ none
 without-pot e none z low ne = refl
 without-pot e (some p) z low ne = absurd (omega (arith, low p refl))
 

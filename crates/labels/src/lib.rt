@@ -3,12 +3,12 @@
 ghost use mathlib.Core.Path.{_≡_};
 ghost use Prim.Native.Nat.{ℕ, _*_, _+_, _<_, _≤_};
 ghost use lib.Dec.{ltb};
-ghost use lib.ListN.{getD, length};
+ghost use lib.ListN.{getD, length, set};
 ghost use Rattle.model.specs.Word.{noneWord};
 ghost use Rattle.model.specs.Words.{listed, wordAt};
 ghost use Rattle.model.specs.Calls.{first};
-ghost use Rattle.labels.specs.Keys.{Chosen, kept};
-ghost use Rattle.labels.specs.Improved.{Improved};
+ghost use Rattle.labels.specs.Keys.{Chosen, kept, settledKey};
+ghost use Rattle.labels.specs.Improved.{Improved, Stored};
 ghost use Rattle.labels.specs.Grouped.{Grouped};
 ghost use Rattle.labels.specs.Ways.{roadsBack, stepBack, wayOf};
 use network::Junction;
@@ -87,6 +87,32 @@ pub fn improved(old: Label, offer: Time, estimate: Time, i: u32) -> Label
     }
 }
 
+// Road i offers v the time `offer`: v's label is improved in the three areas.
+pub fn improve(
+    times: &mut [u32],
+    keys: &mut [u64],
+    vias: &mut [u32],
+    v: Junction,
+    offer: Time,
+    estimate: Time,
+    i: u32,
+)
+    requires { ⌜ (v .0 < length (now times)) × (v .0 < length (now keys)) × (v .0 < length (now vias)) ⌝ }
+    ensures { λ _. ⌜ Stored (offer .0) (estimate .0) i (v .0) (now (times .entry)) (now (keys .entry)) (now (vias .entry)) (now (times .exit)) (now (keys .exit)) (now (vias .exit)) ⌝ }
+{
+    let a = v.0 as usize;
+    let old = Label {
+        time: Time::of_word(times[a]),
+        key: keys[a],
+        via: vias[a],
+    };
+    let new = improved(old, offer, estimate, i);
+    let time = new.time;
+    times[a] = time.word();
+    keys[a] = new.key;
+    vias[a] = new.via;
+}
+
 pub enum Choice {
     At(Junction),
     Nothing,
@@ -114,6 +140,17 @@ pub fn choose(keys: &[u64], n: u32) -> Choice
     } else {
         Choice::At(Junction(at))
     }
+}
+
+// The candidate v is logged as number c.
+pub fn settle(keys: &mut [u64], log: &mut [u32], c: u32, v: Junction)
+    requires { ⌜ (v .0 < length (now keys)) × (c < length (now log)) ⌝ }
+    ensures { λ _. ⌜ (now (keys .exit) ≡ set (now (keys .entry)) (v .0) settledKey) × (now (log .exit) ≡ set (now (log .entry)) c (v .0)) ⌝ }
+{
+    let a = v.0 as usize;
+    let k = c as usize;
+    keys[a] = SETTLED;
+    log[k] = v.0;
 }
 
 // Every time becomes none.

@@ -1,0 +1,5 @@
+pub mod Facts
+pub mod Fills
+pub mod Roads
+pub mod Relaxes
+pub mod Begins

@@ -1,0 +1,123 @@
+// The search of a go (document 01: the search log): functions on slices. Its log is the theory's, one turn of the loop for one step of the definition.
+ghost use mathlib.Core.Path.{_≡_};
+ghost use Prim.Native.Nat.{ℕ, _*_, _+_, _<_, _≤_};
+ghost use lib.ListN.{getD, length};
+ghost use Rattle.model.specs.Words.{wordAt};
+ghost use Rattle.labels.specs.Keys.{noKey};
+ghost use Rattle.labels.specs.Grouped.{Grouped};
+ghost use Rattle.search.specs.State.{Begun, Relaxed, Sized};
+use hierarchy::estimate;
+use labels::clear;
+use labels::cost_of;
+use labels::improve;
+use network::Junction;
+use network::Time;
+use network::head_of;
+
+// Relaxes road i, whose tail has the time `from`: if it is open, its head's estimate is asked, and the head's label improved.
+fn relax_road(
+    n: u32,
+    m: u32,
+    count: u32,
+    roads: &[u8],
+    order: &[u8],
+    ranks: &[u32],
+    pairs: &[u32],
+    live: &[u32],
+    down: &[u32],
+    estimates: &mut [u32],
+    elapsed: &mut [u32],
+    keys: &mut [u64],
+    vias: &mut [u32],
+    i: u32,
+    from: Time,
+)
+    requires { ⌜ (i < m) × (n ≤ length (now keys)) × (n ≤ length (now vias)) × Sized n m count (length (now roads)) (length (now order)) (length (now ranks)) (length (now pairs)) (length (now live)) (length (now down)) (length (now estimates)) (length (now elapsed)) ⌝ }
+    ensures { λ _. ⌜ Relaxed (now (roads .entry)) (now (order .entry)) (now (ranks .entry)) (now (pairs .entry)) (now (live .entry)) (now (down .entry)) n m count (wordAt (now (roads .entry)) (12 * i)) (from .0) i (i + 1) (now (estimates .entry)) (now (elapsed .entry)) (now (keys .entry)) (now (vias .entry)) (now (estimates .exit)) (now (elapsed .exit)) (now (keys .exit)) (now (vias .exit)) ⌝ }
+{
+    let cost = cost_of(live, i);
+    if cost.is_none() {
+        return;
+    }
+    let head = head_of(roads, i as usize);
+    if n <= head.0 {
+        return;
+    }
+    let to_go = estimate(n, count, order, ranks, pairs, down, estimates, head);
+    let offer = Time::NONE.or_sum(from, cost);
+    improve(elapsed, keys, vias, head, offer, to_go, i);
+}
+
+// Relaxes the roads of the logged junction u.
+fn relax(
+    n: u32,
+    m: u32,
+    count: u32,
+    roads: &[u8],
+    order: &[u8],
+    ranks: &[u32],
+    pairs: &[u32],
+    live: &[u32],
+    down: &[u32],
+    estimates: &mut [u32],
+    elapsed: &mut [u32],
+    keys: &mut [u64],
+    vias: &mut [u32],
+    firsts: &[u32],
+    nexts: &[u32],
+    u: Junction,
+)
+    requires { ⌜ (u .0 < n) × (n ≤ length (now keys)) × (n ≤ length (now vias)) × (n ≤ length (now firsts)) × (m ≤ length (now nexts)) × Grouped (now roads) n m (now firsts) (now nexts) × Sized n m count (length (now roads)) (length (now order)) (length (now ranks)) (length (now pairs)) (length (now live)) (length (now down)) (length (now estimates)) (length (now elapsed)) ⌝ }
+    ensures { λ _. ⌜ Relaxed (now (roads .entry)) (now (order .entry)) (now (ranks .entry)) (now (pairs .entry)) (now (live .entry)) (now (down .entry)) n m count (u .0) (getD (now (elapsed .entry)) (u .0) 0) 0 m (now (estimates .entry)) (now (elapsed .entry)) (now (keys .entry)) (now (vias .entry)) (now (estimates .exit)) (now (elapsed .exit)) (now (keys .exit)) (now (vias .exit)) ⌝ }
+{
+    let a = u.0 as usize;
+    let from = Time::of_word(elapsed[a]);
+    let mut i = firsts[a];
+    while i < m {
+        relax_road(
+            n,
+            m,
+            count,
+            roads,
+            order,
+            ranks,
+            pairs,
+            live,
+            down,
+            estimates,
+            elapsed,
+            keys,
+            vias,
+            i,
+            from,
+        );
+        let k = i as usize;
+        i = nexts[k];
+    }
+}
+
+// Clears the times, and makes the start the first candidate, with time 0, if it has an estimate.
+fn begin(
+    n: u32,
+    count: u32,
+    order: &[u8],
+    ranks: &[u32],
+    pairs: &[u32],
+    down: &[u32],
+    estimates: &mut [u32],
+    elapsed: &mut [u32],
+    keys: &mut [u64],
+    start: Junction,
+)
+    requires { ⌜ (start .0 < n) × (n ≤ 4096) × (length (now order) ≡ 4 * n) × (length (now ranks) ≡ n) × (length (now down) ≡ n) × (length (now estimates) ≡ n) × (length (now elapsed) ≡ n) × (n ≤ length (now keys)) × (4 * count ≤ length (now pairs)) × (count ≤ 65536) × ((v : ℕ) → v < n → getD (now keys) v 0 ≡ noKey) ⌝ }
+    ensures { λ _. ⌜ Begun n count (now (order .entry)) (now (ranks .entry)) (now (pairs .entry)) (now (down .entry)) (start .0) (now (estimates .entry)) (now (estimates .exit)) (now (elapsed .exit)) (now (keys .exit)) ⌝ }
+{
+    clear(elapsed);
+    let to_go = estimate(n, count, order, ranks, pairs, down, estimates, start);
+    if to_go.is_none() {
+        return;
+    }
+    let a = start.0 as usize;
+    elapsed[a] = 0;
+    keys[a] = to_go.word() as u64;
+}
