@@ -3,3 +3,4 @@ pub mod Fills
 pub mod Roads
 pub mod Relaxes
 pub mod Begins
+pub mod Explores

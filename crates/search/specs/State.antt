@@ -2,13 +2,13 @@
 use mathlib.Core.Path.{_≡_}
 use mathlib.Core.Bool.{true}
 use mathlib.Core.Option.{some}
-use mathlib.Core.List.{List, []}
+use mathlib.Core.List.{List, [], reverse}
 use Prim.Native.Nat.{_*_, _<_, _≤_, ℕ}
 use lib.ListN.{getD, length}
-use Rattle.graph.specs.Search.{Entry, Problem, timeIn}
+use Rattle.graph.specs.Search.{Entry, Problem, history, timeIn, vertices}
 use Rattle.graph.specs.History.{Reached}
 use Rattle.graph.specs.Map.{Map, fills}
-use Rattle.model.specs.Calls.{liveOf, searchOf, settable}
+use Rattle.model.specs.Calls.{first, liveOf, searchOf, settable}
 use Rattle.model.specs.Good.{AimFacts, Filled}
 use Rattle.network.specs.Bodies.{Prepared, mapIn}
 use Rattle.labels.specs.Labelled.{Labels}
@@ -77,3 +77,16 @@ abbrev pub Begun : (n count : ℕ) (order ranks pairs down : List ℕ) (s : ℕ)
 Begun n count order ranks pairs down s e e′ times keys =
     (roads live vias : List ℕ) (m z : ℕ) → Ready roads order ranks pairs live n m count s z → AimFacts (mapIn roads order) z down e
     → Held roads order live s z [] z m down e e′ times keys vias
+
+-- The search is over: c junctions are logged, and the areas hold what the whole history gives. log₀ is the log area before.
+pub record Explored (roads order live : List ℕ) (s z : ℕ) (down e₀ log₀ e times keys vias log : List ℕ) (c : ℕ) : Type 0 where
+  pub upto : ℕ
+  pub count-is : c ≡ length (history (goIn roads order live s z))
+  pub log-is : log ≡ first (vertices (reverse (history (goIn roads order live s z)))) log₀
+  pub held : Held roads order live s z (history (goIn roads order live s z)) z upto down e₀ e times keys vias
+
+-- from the first candidate to the end
+abbrev pub Explores : (roads order ranks pairs live down : List ℕ) (n m count z : ℕ) (e times keys vias log e′ times′ keys′ vias′ log′ : List ℕ) (c : ℕ) → Type 0
+Explores roads order ranks pairs live down n m count z e times keys vias log e′ times′ keys′ vias′ log′ c =
+    (s : ℕ) (e₀ : List ℕ) → Ready roads order ranks pairs live n m count s z → Held roads order live s z [] z m down e₀ e times keys vias
+    → Explored roads order live s z down e₀ log e′ times′ keys′ vias′ log′ c

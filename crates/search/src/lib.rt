@@ -5,11 +5,14 @@ ghost use lib.ListN.{getD, length};
 ghost use Rattle.model.specs.Words.{wordAt};
 ghost use Rattle.labels.specs.Keys.{noKey};
 ghost use Rattle.labels.specs.Grouped.{Grouped};
-ghost use Rattle.search.specs.State.{Begun, Relaxed, Sized};
+ghost use Rattle.search.specs.State.{Begun, Explores, Relaxed, Sized};
 use hierarchy::estimate;
+use labels::Choice;
+use labels::choose;
 use labels::clear;
 use labels::cost_of;
 use labels::improve;
+use labels::settle;
 use network::Junction;
 use network::Time;
 use network::head_of;
@@ -120,4 +123,63 @@ fn begin(
     let a = start.0 as usize;
     elapsed[a] = 0;
     keys[a] = to_go.word() as u64;
+}
+
+// Logs one candidate after the other, until the target is logged or no candidate is left; answered with their number (document 01: count).
+fn explore(
+    n: u32,
+    m: u32,
+    count: u32,
+    roads: &[u8],
+    order: &[u8],
+    ranks: &[u32],
+    pairs: &[u32],
+    live: &[u32],
+    down: &[u32],
+    estimates: &mut [u32],
+    elapsed: &mut [u32],
+    keys: &mut [u64],
+    vias: &mut [u32],
+    firsts: &[u32],
+    nexts: &[u32],
+    log: &mut [u32],
+    target: Junction,
+) -> u32
+    requires { ⌜ (n ≤ length (now log)) × (n ≤ length (now keys)) × (n ≤ length (now vias)) × (n ≤ length (now firsts)) × (m ≤ length (now nexts)) × Grouped (now roads) n m (now firsts) (now nexts) × Sized n m count (length (now roads)) (length (now order)) (length (now ranks)) (length (now pairs)) (length (now live)) (length (now down)) (length (now estimates)) (length (now elapsed)) ⌝ }
+    ensures { λ c. ⌜ Explores (now (roads .entry)) (now (order .entry)) (now (ranks .entry)) (now (pairs .entry)) (now (live .entry)) (now (down .entry)) n m count (target .0) (now (estimates .entry)) (now (elapsed .entry)) (now (keys .entry)) (now (vias .entry)) (now (log .entry)) (now (estimates .exit)) (now (elapsed .exit)) (now (keys .exit)) (now (vias .exit)) (now (log .exit)) c ⌝ }
+{
+    let mut c: u32 = 0;
+    while c < n {
+        match choose(keys, n) {
+            Choice::Nothing => {
+                return c;
+            }
+            Choice::At(v) => {
+                settle(keys, log, c, v);
+                c += 1;
+                if v.0 == target.0 {
+                    return c;
+                }
+                relax(
+                    n,
+                    m,
+                    count,
+                    roads,
+                    order,
+                    ranks,
+                    pairs,
+                    live,
+                    down,
+                    estimates,
+                    elapsed,
+                    keys,
+                    vias,
+                    firsts,
+                    nexts,
+                    v,
+                );
+            }
+        }
+    }
+    c
 }
