@@ -4,3 +4,5 @@ pub mod Roads
 pub mod Relaxes
 pub mod Begins
 pub mod Explores
+pub mod Answers
+pub mod Wholes

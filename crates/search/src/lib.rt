@@ -6,13 +6,18 @@ ghost use Rattle.model.specs.Words.{wordAt};
 ghost use Rattle.labels.specs.Keys.{noKey};
 ghost use Rattle.labels.specs.Grouped.{Grouped};
 ghost use Rattle.search.specs.State.{Begun, Explores, Relaxed, Sized};
+ghost use Rattle.search.specs.Searches.{Searches};
 use hierarchy::estimate;
 use labels::Choice;
+use labels::NO_KEY;
 use labels::choose;
 use labels::clear;
 use labels::cost_of;
+use labels::finish;
+use labels::group;
 use labels::improve;
 use labels::settle;
+use labels::way_back;
 use network::Junction;
 use network::Time;
 use network::head_of;
@@ -182,4 +187,86 @@ fn explore(
         }
     }
     c
+}
+
+// The answer of a search: the total or none, the number of logged junctions (document 01: count), and of the route's roads.
+pub struct Searched {
+    pub total: Time,
+    pub count: u32,
+    pub roads: u32,
+}
+
+// The search of a go from the start to the target that was aimed at last.
+pub fn search(
+    n: u32,
+    m: u32,
+    count: u32,
+    roads: &[u8],
+    order: &[u8],
+    ranks: &[u32],
+    pairs: &[u32],
+    live: &[u32],
+    down: &[u32],
+    estimates: &mut [u32],
+    elapsed: &mut [u32],
+    route: &mut [u32],
+    log: &mut [u32],
+    start: Junction,
+    target: Junction,
+) -> Searched
+    requires { ⌜ (start .0 < n) × (target .0 < n) × (n ≤ length (now route)) × (n ≤ length (now log)) × Sized n m count (length (now roads)) (length (now order)) (length (now ranks)) (length (now pairs)) (length (now live)) (length (now down)) (length (now estimates)) (length (now elapsed)) ⌝ }
+    ensures { λ r. ⌜ Searches (now (roads .entry)) (now (order .entry)) (now (ranks .entry)) (now (pairs .entry)) (now (live .entry)) (now (down .entry)) count (start .0) (target .0) (now (estimates .entry)) (now (route .entry)) (now (log .entry)) (now (estimates .exit)) (now (elapsed .exit)) (now (route .exit)) (now (log .exit)) (r .total .0) (r .count) (r .roads) ⌝ }
+{
+    let mut keys = [NO_KEY; 4096];
+    let mut vias = [0u32; 4096];
+    let mut firsts = [m; 4096];
+    let mut nexts = [0u32; 16384];
+    group(roads, n, m, &mut firsts, &mut nexts);
+    begin(
+        n,
+        count,
+        order,
+        ranks,
+        pairs,
+        down,
+        estimates,
+        elapsed,
+        &mut keys,
+        start,
+    );
+    let logged = explore(
+        n,
+        m,
+        count,
+        roads,
+        order,
+        ranks,
+        pairs,
+        live,
+        down,
+        estimates,
+        elapsed,
+        &mut keys,
+        &mut vias,
+        &firsts,
+        &nexts,
+        log,
+        target,
+    );
+    finish(elapsed, &keys);
+    let z = target.0 as usize;
+    let total = Time::of_word(elapsed[z]);
+    if total.is_none() {
+        return Searched {
+            total: total,
+            count: logged,
+            roads: 0,
+        };
+    }
+    let number = way_back(roads, &vias, n, m, start, target, route);
+    Searched {
+        total: total,
+        count: logged,
+        roads: number,
+    }
 }
