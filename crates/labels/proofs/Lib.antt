@@ -1,0 +1,5 @@
+pub mod Upto
+pub mod Keys
+pub mod Improves
+pub mod Groups
+pub mod Backs

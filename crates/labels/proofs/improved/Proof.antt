@@ -1,0 +1,44 @@
+use Rattle.labels.proofs.Improves.{takes-over}
+use borrow.Author.Tests.{eqb-false, eqb-true}
+use native.Mathlib.Omega.{arith}
+use Rattle.labels.specs.Improved.{behind, later, lost, settled, tied}
+use mathlib.Core.Path.{_≡_, _∙_, sym}
+use borrow.Author.Needs.{needs}
+use Rattle.labels.proofs.improved.Statement.{statement}
+use Rattle.labels.proofs.improved.Tie as tie
+
+returns : tie.Need-returns
+returns c = lost (eqb-true _ _ (sym (c .before .is-none .ensures) ∙ c .if1 .taken))
+
+returns-2 : tie.Need-returns-2
+returns-2 c = settled (c .if2 .taken)
+
+returns-3 : tie.Need-returns-3
+returns-3 c = takes-over _ _ _ _ _ _ _ _ (c .before .before .word2 .ensures) (c .word3 .ensures) (eqb-false _ _ (sym (c .before .before .before .before .before .before .is-none .ensures) ∙ c .before .before .before .before .before .if1 .left)) (c .before .before .before .before .if2 .left) (omega arith)
+
+returns-4 : tie.Need-returns-4
+returns-4 c = later (eqb-false _ _ (sym (c .before .before .before .before .before .before .is-none .ensures) ∙ c .before .before .before .before .before .if1 .left)) (c .before .before .before .before .if2 .left) (omega arith)
+
+returns-5 : tie.Need-returns-5
+returns-5 c = tied (eqb-false _ _ (sym (c .before .before .before .before .before .before .before .is-none .ensures) ∙ c .before .before .before .before .before .before .if1 .left)) (c .before .before .before .before .before .if2 .left) (omega arith) (c .if5 .taken)
+
+returns-6 : tie.Need-returns-6
+returns-6 c = behind (eqb-false _ _ (sym (c .before .before .before .before .before .before .before .is-none .ensures) ∙ c .before .before .before .before .before .before .if1 .left)) (c .before .before .before .before .before .if2 .left) (omega arith) (c .if5 .left)
+
+pub improved-spec : {M : Type 1} → statement M
+improved-spec =
+    tie.close
+    (tie.spec
+    (λ c κs. search needs)
+    returns
+    returns-2
+    (λ c κs. search needs)
+    (λ c κs. search needs)
+    (λ c. search needs)
+    (λ c κs. search needs)
+    (λ c. search needs)
+    (λ c. search needs)
+    returns-3
+    returns-4
+    returns-5
+    returns-6)

@@ -1,0 +1,9 @@
+pub mod Keys
+pub mod Improved
+pub mod Grouped
+pub mod Ways
+pub mod Labelled
+pub mod Relax
+pub mod Log
+pub mod Begun
+pub mod Ended

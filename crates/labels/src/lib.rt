@@ -1,0 +1,270 @@
+// What a search keeps of each junction: its time, its key and the road that gave the time, and what is done with these labels.
+// Functions on slices; nothing here asks an estimate.
+ghost use mathlib.Core.Path.{_≡_};
+ghost use Prim.Native.Nat.{ℕ, _*_, _+_, _<_, _≤_};
+ghost use lib.Dec.{ltb};
+ghost use lib.ListN.{getD, length, set};
+ghost use Rattle.model.specs.Word.{noneWord};
+ghost use Rattle.model.specs.Bytes.{listed, wordAt};
+ghost use Rattle.model.specs.Calls.{first};
+ghost use Rattle.labels.specs.Keys.{Chosen, kept, settledKey};
+ghost use Rattle.labels.specs.Improved.{Improved, Stored};
+ghost use Rattle.labels.specs.Grouped.{Grouped};
+ghost use Rattle.labels.specs.Ways.{roadsBack, stepBack, wayOf};
+use network::Junction;
+use network::Time;
+use network::tail_of;
+
+// The key of a junction that never was a candidate, and that of a logged one. The key of a candidate is below both.
+pub const NO_KEY: u64 = 18446744073709551615;
+
+pub const SETTLED: u64 = 18446744073709551614;
+
+// The time of a road in force, none where it is closed: a road is open if it has one.
+pub fn cost_of(live: &[u32], i: u32) -> Time
+    requires { ⌜ i < length (now live) ⌝ }
+    ensures { λ r. ⌜ r .0 ≡ getD (now (live .entry)) i 0 ⌝ }
+{
+    let k = i as usize;
+    Time::of_word(live[k])
+}
+
+// The time of a candidate or of a logged junction, its key, and the road that gave the time.
+pub struct Label {
+    pub time: Time,
+    pub key: u64,
+    pub via: u32,
+}
+
+// The label of a junction after road i is relaxed too, which gives it the time `offer`; `estimate` is the junction's.
+pub fn improved(old: Label, offer: Time, estimate: Time, i: u32) -> Label
+    ensures { λ r. ⌜ Improved (offer .0) (estimate .0) i (old .time .0) (old .key) (old .via) (r .time .0) (r .key) (r .via) ⌝ }
+{
+    let time = old.time;
+    let key = old.key;
+    let via = old.via;
+    if estimate.is_none() {
+        return Label {
+            time: time,
+            key: key,
+            via: via,
+        };
+    }
+    if key == SETTLED {
+        return Label {
+            time: time,
+            key: key,
+            via: via,
+        };
+    }
+    let t = time.word();
+    let w = offer.word();
+    if w < t {
+        return Label {
+            time: offer,
+            key: w as u64 + estimate.word() as u64,
+            via: i,
+        };
+    }
+    if t < w {
+        return Label {
+            time: time,
+            key: key,
+            via: via,
+        };
+    }
+    if i < via {
+        return Label {
+            time: time,
+            key: key,
+            via: i,
+        };
+    }
+    Label {
+        time: time,
+        key: key,
+        via: via,
+    }
+}
+
+// Road i offers v the time `offer`: v's label is improved in the three areas.
+pub fn improve(
+    times: &mut [u32],
+    keys: &mut [u64],
+    vias: &mut [u32],
+    v: Junction,
+    offer: Time,
+    estimate: Time,
+    i: u32,
+)
+    requires { ⌜ (v .0 < length (now times)) × (v .0 < length (now keys)) × (v .0 < length (now vias)) ⌝ }
+    ensures { λ _. ⌜ Stored (offer .0) (estimate .0) i (v .0) (now (times .entry)) (now (keys .entry)) (now (vias .entry)) (now (times .exit)) (now (keys .exit)) (now (vias .exit)) ⌝ }
+{
+    let a = v.0 as usize;
+    let old = Label {
+        time: Time::of_word(times[a]),
+        key: keys[a],
+        via: vias[a],
+    };
+    let new = improved(old, offer, estimate, i);
+    let time = new.time;
+    times[a] = time.word();
+    keys[a] = new.key;
+    vias[a] = new.via;
+}
+
+pub enum Choice {
+    At(Junction),
+    Nothing,
+}
+
+// The candidate with the smallest key, on equal keys the smaller junction number.
+pub fn choose(keys: &[u64], n: u32) -> Choice
+    requires { ⌜ n ≤ length (now keys) ⌝ }
+    ensures { λ r. ⌜ Chosen (now (keys .entry)) n r ⌝ }
+{
+    let mut best = SETTLED;
+    let mut at: u32 = 0;
+    let mut i: u32 = 0;
+    while i < n {
+        let j = i;
+        i += 1;
+        let key = keys[j as usize];
+        if key < best {
+            best = key;
+            at = j;
+        }
+    }
+    if best == SETTLED {
+        Choice::Nothing
+    } else {
+        Choice::At(Junction(at))
+    }
+}
+
+// The candidate v is logged as number c.
+pub fn settle(keys: &mut [u64], log: &mut [u32], c: u32, v: Junction)
+    requires { ⌜ (v .0 < length (now keys)) × (c < length (now log)) ⌝ }
+    ensures { λ _. ⌜ (now (keys .exit) ≡ set (now (keys .entry)) (v .0) settledKey) × (now (log .exit) ≡ set (now (log .entry)) c (v .0)) ⌝ }
+{
+    let a = v.0 as usize;
+    let k = c as usize;
+    keys[a] = SETTLED;
+    log[k] = v.0;
+}
+
+// Every time becomes none.
+pub fn clear(times: &mut [u32])
+    ensures { λ _. ⌜ now (times .exit) ≡ listed (length (now (times .entry))) (λ v. noneWord) ⌝ }
+{
+    let mut i = 0;
+    while i < times.len() {
+        times[i] = Time::NONE.word();
+        i += 1;
+    }
+}
+
+// The times of candidates that were never logged become none.
+pub fn finish(times: &mut [u32], keys: &[u64])
+    requires { ⌜ length (now times) ≤ length (now keys) ⌝ }
+    ensures { λ _. ⌜ now (times .exit) ≡ listed (length (now (times .entry))) (kept (now (keys .entry)) (now (times .entry))) ⌝ }
+{
+    let mut i = 0;
+    while i < times.len() {
+        let k = i;
+        i += 1;
+        if keys[k] < SETTLED {
+            times[k] = Time::NONE.word();
+        }
+    }
+}
+
+// Links the roads of each junction by ascending number: its first road, and after each road the next of the same tail; m ends a row.
+pub fn group(roads: &[u8], n: u32, m: u32, firsts: &mut [u32], nexts: &mut [u32])
+    requires { ⌜ (12 * m ≤ length (now roads)) × (m ≤ length (now nexts)) × (n ≤ length (now firsts)) × ((u : ℕ) → u < n → getD (now firsts) u 0 ≡ m) ⌝ }
+    ensures { λ _. ⌜ Grouped (now (roads .entry)) n m (now (firsts .exit)) (now (nexts .exit)) ⌝ }
+{
+    let mut i = m;
+    while 0 < i {
+        i -= 1;
+        let tail = tail_of(roads, i as usize);
+        let u = tail.0;
+        if u < n {
+            let a = u as usize;
+            let k = i as usize;
+            nexts[k] = firsts[a];
+            firsts[a] = i;
+        }
+    }
+}
+
+// ---- the way back
+
+// The tail of the road that gave v its time.
+fn step_back(roads: &[u8], vias: &[u32], n: u32, m: u32, v: u32) -> u32
+    requires { ⌜ (v < n) × (n ≤ length (now vias)) × (12 * m ≤ length (now roads)) ⌝ }
+    ensures { λ r. ⌜ (r ≡ stepBack (now (roads .entry)) (now (vias .entry)) n m v) × (r < n) ⌝ }
+{
+    let a = v as usize;
+    let i = vias[a];
+    if m <= i {
+        return v;
+    }
+    let tail = tail_of(roads, i as usize);
+    let u = tail.0;
+    if n <= u {
+        return v;
+    }
+    u
+}
+
+// How many roads lead from the start to v.
+fn roads_back(roads: &[u8], vias: &[u32], n: u32, m: u32, start: u32, v: u32) -> u32
+    requires { ⌜ (v < n) × (n ≤ length (now vias)) × (12 * m ≤ length (now roads)) ⌝ }
+    ensures { λ r. ⌜ (r ≡ roadsBack (now (roads .entry)) (now (vias .entry)) n m start n v) × (r ≤ n) ⌝ }
+{
+    let mut k: u32 = 0;
+    let mut u = v;
+    while k < n {
+        if u == start {
+            return k;
+        }
+        u = step_back(roads, vias, n, m, u);
+        k += 1;
+    }
+    k
+}
+
+// Writes the k roads that lead to v, back to front.
+fn write_back(roads: &[u8], vias: &[u32], n: u32, m: u32, k: u32, v: u32, route: &mut [u32])
+    requires { ⌜ (v < n) × (n ≤ length (now vias)) × (12 * m ≤ length (now roads)) × (k ≤ length (now route)) ⌝ }
+    ensures { λ _. ⌜ now (route .exit) ≡ first (wayOf (now (roads .entry)) (now (vias .entry)) n m k v) (now (route .entry)) ⌝ }
+{
+    let mut j = k;
+    let mut u = v;
+    while 0 < j {
+        j -= 1;
+        let a = u as usize;
+        let at = j as usize;
+        route[at] = vias[a];
+        u = step_back(roads, vias, n, m, u);
+    }
+}
+
+// The route from the start to v, forwards, first in the part lent; answered with its number of roads.
+pub fn way_back(
+    roads: &[u8],
+    vias: &[u32],
+    n: u32,
+    m: u32,
+    start: Junction,
+    v: Junction,
+    route: &mut [u32],
+) -> u32
+    requires { ⌜ (v .0 < n) × (n ≤ length (now vias)) × (12 * m ≤ length (now roads)) × (n ≤ length (now route)) ⌝ }
+    ensures { λ r. ⌜ (r ≡ roadsBack (now (roads .entry)) (now (vias .entry)) n m (start .0) n (v .0)) × (now (route .exit) ≡ first (wayOf (now (roads .entry)) (now (vias .entry)) n m r (v .0)) (now (route .entry))) ⌝ }
+{
+    let k = roads_back(roads, vias, n, m, start.0, v.0);
+    write_back(roads, vias, n, m, k, v.0, route);
+    k
+}

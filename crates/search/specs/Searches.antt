@@ -1,0 +1,33 @@
+-- What a search answers and leaves (document 01: the search log). Definitions only.
+use mathlib.Core.Path.{_≡_}
+use mathlib.Core.Bool.{true}
+use mathlib.Core.Option.{some}
+use mathlib.Core.List.{List}
+use Prim.Native.Nat.{_<_, _≤_, ℕ}
+use lib.ListN.{length}
+use Rattle.graph.specs.Search.{countOf, history, logOf, routeOf, timeIn, totalOf, vertices}
+use Rattle.model.specs.Word.{word}
+use Rattle.model.specs.Bytes.{listed}
+use Rattle.model.specs.Calls.{asks, filled, first, goRoute, liveOf, settable}
+use Rattle.model.specs.Good.{AimFacts}
+use Rattle.network.specs.Bodies.{Prepared, mapIn}
+use Rattle.search.specs.State.{goIn}
+
+-- Total or none, count, number of roads; estimates, elapsed, route and log as go leaves them. e₀, route₀ and log₀ are the areas before.
+pub record Found (roads order live : List ℕ) (s z : ℕ) (e₀ route₀ log₀ e elapsed route log : List ℕ) (total count number : ℕ) : Type 0 where
+  pub total-is : total ≡ word (totalOf (goIn roads order live s z))
+  -- a total stays below the marks
+  pub fits : (t : ℕ) → totalOf (goIn roads order live s z) ≡ some t → t ≤ 4095000000
+  pub count-is : count ≡ countOf (goIn roads order live s z)
+  pub number-is : number ≡ length (routeOf (goIn roads order live s z))
+  pub estimates-are : e ≡ filled (mapIn roads order) z (asks (mapIn roads order) live s z) e₀
+  pub elapsed-is : elapsed ≡ listed (mapIn roads order .vertices) (λ v. word (timeIn (history (goIn roads order live s z)) v))
+  pub route-is : route ≡ goRoute (totalOf (goIn roads order live s z)) (routeOf (goIn roads order live s z)) route₀
+  pub log-is : log ≡ first (vertices (logOf (goIn roads order live s z))) log₀
+
+-- where preparing and aim left the areas, and each live time is one that set allows
+abbrev pub Searches : (roads order ranks pairs live down : List ℕ) (count s z : ℕ) (e₀ route₀ log₀ e elapsed route log : List ℕ) (total logged number : ℕ) → Type 0
+Searches roads order ranks pairs live down count s z e₀ route₀ log₀ e elapsed route log total logged number =
+    Prepared roads order ranks pairs count → AimFacts (mapIn roads order) z down e₀
+    → ((i : ℕ) → i < mapIn roads order .base .arcs → settable (mapIn roads order .base .cost i) (liveOf live i) ≡ true)
+    → Found roads order live s z e₀ route₀ log₀ e elapsed route log total logged number
