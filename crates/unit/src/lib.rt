@@ -1,0 +1,421 @@
+// The unit: preparing, and the four calls as methods of the header.
+ghost use mathlib.Core.Path.{_≡_};
+ghost use mathlib.Core.Bool.{_&&_};
+ghost use mathlib.Core.Option.{some};
+ghost use Prim.Native.Nat.{_*_, _+_, _≤_};
+ghost use lib.Dec.{leb};
+ghost use lib.ListN.{length};
+ghost use Rattle.model.specs.Word.{ofWord};
+ghost use Rattle.model.specs.State.{lengthsFit, question9};
+ghost use Rattle.model.specs.Calls.{goAnswer, settable};
+ghost use Rattle.model.specs.Contracts.{AimContract, EstimateContract, GoContract, SetContract, areasOf};
+ghost use Rattle.unit.specs.Shape.{answerIn, answeredIn, headerIn, lentOf};
+use network::Junction;
+use network::Refusal;
+use network::Time;
+
+// The junction that was aimed at last.
+pub enum Target {
+    At(Junction),
+    Absent,
+}
+
+// Numbers of junctions, roads and pairs, and the target.
+pub struct Header {
+    pub n: u32,
+    pub m: u32,
+    pub pairs: u32,
+    pub target: Target,
+}
+
+// What preparing and the four calls answer. `Gone` has total, count and number of roads.
+pub enum Answer {
+    Refused(Refusal),
+    Accepted,
+    Estimated(Time),
+    Gone(u64, u32, u32),
+}
+
+// What each call hands back.
+pub struct Answered {
+    pub header: Header,
+    pub answer: Answer,
+}
+
+// The lengths of the six areas, for questions 7 and 9.
+fn lengths_fit(
+    n: usize,
+    m: usize,
+    p: usize,
+    ranks: usize,
+    pairs: usize,
+    live: usize,
+    down: usize,
+    estimates: usize,
+    elapsed: usize,
+) -> bool
+    requires { ⌜ p ≤ 4294967295 ⌝ }
+    ensures { λ r. ⌜ r ≡ lengthsFit n m p ranks pairs live down estimates elapsed ⌝ }
+{
+    if ranks != n {
+        return false;
+    }
+    if pairs % 4 != 0 {
+        return false;
+    }
+    if pairs < 4 * p {
+        return false;
+    }
+    if 262144 < pairs {
+        return false;
+    }
+    if live != m {
+        return false;
+    }
+    if down != n {
+        return false;
+    }
+    if estimates != n {
+        return false;
+    }
+    elapsed == n
+}
+
+// Question 9, of the header's numbers and the lengths. A header out of range is refused too: no list of calls leaves one.
+fn fits(
+    n: u32,
+    m: u32,
+    p: u32,
+    card: usize,
+    ranks: usize,
+    pairs: usize,
+    live: usize,
+    down: usize,
+    estimates: usize,
+    elapsed: usize,
+) -> bool
+    ensures { λ r. ⌜ r ≡ (leb n 4096 && leb m 16384 && question9 n m p card ranks pairs live down estimates elapsed) ⌝ }
+{
+    if 4096 < n {
+        return false;
+    }
+    if 16384 < m {
+        return false;
+    }
+    let n = n as usize;
+    let m = m as usize;
+    let p = p as usize;
+    if card != 28 + 12 * m + 4 * n {
+        return false;
+    }
+    lengths_fit(n, m, p, ranks, pairs, live, down, estimates, elapsed)
+}
+
+// Question 11.
+fn allowed(base: Time, t: Time) -> bool
+    ensures { λ r. ⌜ r ≡ settable (some (base .0)) (ofWord (t .0)) ⌝ }
+{
+    if t.is_none() {
+        return true;
+    }
+    if t.0 < base.0 {
+        return false;
+    }
+    t.0 <= 1000000
+}
+
+// Question 14.
+fn lent_fit(n: u32, route: usize, log: usize) -> bool
+    ensures { λ r. ⌜ r ≡ (leb n route && leb n log) ⌝ }
+{
+    let n = n as usize;
+    if route < n {
+        return false;
+    }
+    n <= log
+}
+
+// A go's answer: 15 with the count where there is no total; else total, count and number of roads.
+fn gone(h: Header, total: Time, count: u32, roads: u32) -> Answered
+    ensures { λ r. ⌜ (r .header ≡ h) × (answerIn (r .answer) ≡ goAnswer (ofWord (total .0)) count roads) ⌝ }
+{
+    if total.is_none() {
+        return Answered {
+            header: h,
+            answer: Answer::Refused(Refusal::NoPath(count)),
+        };
+    }
+    Answered {
+        header: h,
+        answer: Answer::Gone(total.0 as u64, count, roads),
+    }
+}
+
+impl Header {
+    // Sets a road's live time, from its base time to 1,000,000, or closed.
+    pub fn set(
+        self,
+        card: &[u8],
+        ranks: &[u32],
+        pairs: &[u32],
+        live: &mut [u32],
+        down: &[u32],
+        estimates: &[u32],
+        elapsed: &[u32],
+        road: u32,
+        time: Time,
+    ) -> Answered
+        ensures { λ r. ⌜ SetContract (now (card .entry)) (headerIn self)
+            (areasOf (now (ranks .entry)) (now (pairs .entry)) (now (live .entry)) (now (down .entry)) (now (estimates .entry)) (now (elapsed .entry)))
+            (now (live .exit)) road (time .0) (answeredIn r) ⌝ }
+    {
+        let n = self.n;
+        let m = self.m;
+        if !fits(
+            n,
+            m,
+            self.pairs,
+            card.len(),
+            ranks.len(),
+            pairs.len(),
+            live.len(),
+            down.len(),
+            estimates.len(),
+            elapsed.len(),
+        ) {
+            return Answered {
+                header: self,
+                answer: Answer::Refused(Refusal::Lengths),
+            };
+        }
+        if m <= road {
+            return Answered {
+                header: self,
+                answer: Answer::Refused(Refusal::NoRoad),
+            };
+        }
+        let i = road as usize;
+        let base = network::base_of(card::roads_of(card, m), i);
+        if !allowed(base, time) {
+            return Answered {
+                header: self,
+                answer: Answer::Refused(Refusal::NotAllowed),
+            };
+        }
+        live[i] = time.word();
+        Answered {
+            header: self,
+            answer: Answer::Accepted,
+        }
+    }
+
+    // Aims at a junction: it becomes the target, with its down totals; each estimate becomes unasked.
+    pub fn aim(
+        self,
+        card: &[u8],
+        ranks: &[u32],
+        pairs: &[u32],
+        live: &[u32],
+        down: &mut [u32],
+        estimates: &mut [u32],
+        elapsed: &[u32],
+        j: Junction,
+    ) -> Answered
+        ensures { λ r. ⌜ AimContract (now (card .entry)) (headerIn self)
+            (areasOf (now (ranks .entry)) (now (pairs .entry)) (now (live .entry)) (now (down .entry)) (now (estimates .entry)) (now (elapsed .entry)))
+            (now (down .exit)) (now (estimates .exit)) (j .0) (answeredIn r) ⌝ }
+    {
+        let n = self.n;
+        let m = self.m;
+        let p = self.pairs;
+        if !fits(
+            n,
+            m,
+            p,
+            card.len(),
+            ranks.len(),
+            pairs.len(),
+            live.len(),
+            down.len(),
+            estimates.len(),
+            elapsed.len(),
+        ) {
+            return Answered {
+                header: self,
+                answer: Answer::Refused(Refusal::Lengths),
+            };
+        }
+        if n <= j.0 {
+            return Answered {
+                header: self,
+                answer: Answer::Refused(Refusal::NoJunction),
+            };
+        }
+        hierarchy::down_totals(n, p, card::order_of(card, n, m), pairs, down, j);
+        hierarchy::fill(estimates, Time::UNASKED);
+        Answered {
+            header: Header {
+                n: n,
+                m: m,
+                pairs: p,
+                target: Target::At(j),
+            },
+            answer: Answer::Accepted,
+        }
+    }
+
+    // The estimate of a junction: the least base total to the target, or none.
+    pub fn estimate(
+        self,
+        card: &[u8],
+        ranks: &[u32],
+        pairs: &[u32],
+        live: &[u32],
+        down: &[u32],
+        estimates: &mut [u32],
+        elapsed: &[u32],
+        j: Junction,
+    ) -> Answered
+        ensures { λ r. ⌜ EstimateContract (now (card .entry)) (headerIn self)
+            (areasOf (now (ranks .entry)) (now (pairs .entry)) (now (live .entry)) (now (down .entry)) (now (estimates .entry)) (now (elapsed .entry)))
+            (now (estimates .exit)) (j .0) (answeredIn r) ⌝ }
+    {
+        let n = self.n;
+        let m = self.m;
+        let p = self.pairs;
+        if !fits(
+            n,
+            m,
+            p,
+            card.len(),
+            ranks.len(),
+            pairs.len(),
+            live.len(),
+            down.len(),
+            estimates.len(),
+            elapsed.len(),
+        ) {
+            return Answered {
+                header: self,
+                answer: Answer::Refused(Refusal::Lengths),
+            };
+        }
+        if n <= j.0 {
+            return Answered {
+                header: self,
+                answer: Answer::Refused(Refusal::NoJunction),
+            };
+        }
+        let target = self.target;
+        match target {
+            Target::Absent => Answered {
+                header: self,
+                answer: Answer::Refused(Refusal::NoTarget),
+            },
+            Target::At(_) => {
+                let t = hierarchy::estimate(
+                    n,
+                    p,
+                    card::order_of(card, n, m),
+                    ranks,
+                    pairs,
+                    down,
+                    estimates,
+                    j,
+                );
+                Answered {
+                    header: self,
+                    answer: Answer::Estimated(t),
+                }
+            }
+        }
+    }
+
+    // The way from a start to the target at the live times: total, count and roads, or 15 with the count.
+    pub fn go(
+        self,
+        card: &[u8],
+        ranks: &[u32],
+        pairs: &[u32],
+        live: &[u32],
+        down: &[u32],
+        estimates: &mut [u32],
+        elapsed: &mut [u32],
+        route: &mut [u32],
+        log: &mut [u32],
+        start: Junction,
+    ) -> Answered
+        ensures { λ r. ⌜ GoContract (now (card .entry)) (headerIn self)
+            (areasOf (now (ranks .entry)) (now (pairs .entry)) (now (live .entry)) (now (down .entry)) (now (estimates .entry)) (now (elapsed .entry)))
+            (lentOf (now (route .entry)) (now (log .entry))) (now (estimates .exit)) (now (elapsed .exit)) (lentOf (now (route .exit)) (now (log .exit))) (start .0) (answeredIn r) ⌝ }
+    {
+        let n = self.n;
+        let m = self.m;
+        let p = self.pairs;
+        if !fits(
+            n,
+            m,
+            p,
+            card.len(),
+            ranks.len(),
+            pairs.len(),
+            live.len(),
+            down.len(),
+            estimates.len(),
+            elapsed.len(),
+        ) {
+            return Answered {
+                header: self,
+                answer: Answer::Refused(Refusal::Lengths),
+            };
+        }
+        if n <= start.0 {
+            return Answered {
+                header: self,
+                answer: Answer::Refused(Refusal::NoJunction),
+            };
+        }
+        let target = self.target;
+        match target {
+            Target::Absent => Answered {
+                header: self,
+                answer: Answer::Refused(Refusal::NoTarget),
+            },
+            Target::At(z) => {
+                // no list of calls leaves such a target
+                if n <= z.0 {
+                    return Answered {
+                        header: self,
+                        answer: Answer::Refused(Refusal::Lengths),
+                    };
+                }
+                if !lent_fit(n, route.len(), log.len()) {
+                    return Answered {
+                        header: self,
+                        answer: Answer::Refused(Refusal::LentLengths),
+                    };
+                }
+                let roads = card::roads_of(card, m);
+                let order = card::order_of(card, n, m);
+                let found = search::search(
+                    n,
+                    m,
+                    p,
+                    roads,
+                    order,
+                    ranks,
+                    pairs,
+                    live,
+                    down,
+                    estimates,
+                    elapsed,
+                    route,
+                    log,
+                    start,
+                    z,
+                );
+                gone(self, found.total, found.count, found.roads)
+            }
+        }
+    }
+}
