@@ -1,3 +1,4 @@
 pub mod Lengths
 pub mod Bodies
 pub mod Ways
+pub mod Prepares

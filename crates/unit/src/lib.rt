@@ -6,10 +6,15 @@ ghost use Prim.Native.Nat.{_*_, _+_, _≤_};
 ghost use lib.Dec.{leb};
 ghost use lib.ListN.{length};
 ghost use Rattle.model.specs.Word.{ofWord};
-ghost use Rattle.model.specs.State.{lengthsFit, question9};
+ghost use Rattle.model.specs.Bytes.{listed, wordAt};
+ghost use Rattle.model.specs.Card.{mapOn};
+ghost use Rattle.model.specs.State.{lengthsFit, noneLent, question9, zeroed};
 ghost use Rattle.model.specs.Calls.{goAnswer, settable};
-ghost use Rattle.model.specs.Contracts.{AimContract, EstimateContract, GoContract, SetContract, areasOf};
+ghost use Rattle.model.specs.Contracts.{AimContract, EstimateContract, GoContract, PrepareContract, SetContract, after, areasOf};
+ghost use Rattle.unit.specs.Preparing.{Accepts, roomed};
 ghost use Rattle.unit.specs.Shape.{answerIn, answeredIn, headerIn, lentOf};
+use card::Reading;
+use contraction::Contracted;
 use network::Junction;
 use network::Refusal;
 use network::Time;
@@ -148,6 +153,142 @@ fn gone(h: Header, total: Time, count: u32, roads: u32) -> Answered
     Answered {
         header: h,
         answer: Answer::Gone(total.0 as u64, count, roads),
+    }
+}
+
+// ---- preparing
+
+// Each road's live time becomes its base time.
+fn fill_live(roads: &[u8], live: &mut [u32])
+    requires { ⌜ length (now roads) ≡ 12 * length (now live) ⌝ }
+    ensures { λ _. ⌜ now (live .exit) ≡ listed (length (now (live .entry))) (λ i. wordAt (now (roads .entry)) (12 * i + 8)) ⌝ }
+{
+    let mut i = 0;
+    while i < live.len() {
+        live[i] = network::base_of(roads, i).word();
+        i += 1;
+    }
+}
+
+// Fills every area with 0.
+fn clear(
+    ranks: &mut [u32],
+    pairs: &mut [u32],
+    live: &mut [u32],
+    down: &mut [u32],
+    estimates: &mut [u32],
+    elapsed: &mut [u32],
+)
+    ensures { λ _. ⌜ areasOf (now (ranks .exit)) (now (pairs .exit)) (now (live .exit)) (now (down .exit)) (now (estimates .exit)) (now (elapsed .exit))
+        ≡ zeroed (areasOf (now (ranks .entry)) (now (pairs .entry)) (now (live .entry)) (now (down .entry)) (now (estimates .entry)) (now (elapsed .entry))) ⌝ }
+{
+    let zero = Time::of_word(0);
+    hierarchy::fill(ranks, zero);
+    hierarchy::fill(pairs, zero);
+    hierarchy::fill(live, zero);
+    hierarchy::fill(down, zero);
+    hierarchy::fill(estimates, zero);
+    hierarchy::fill(elapsed, zero);
+}
+
+// What a card that was accepted with n junctions and m roads leaves in the areas; question 8.
+fn prepare_areas(
+    n: u32,
+    m: u32,
+    card: &[u8],
+    ranks: &mut [u32],
+    pairs: &mut [u32],
+    live: &mut [u32],
+    down: &mut [u32],
+    estimates: &mut [u32],
+    elapsed: &mut [u32],
+) -> Answered
+    requires { ⌜ Accepts (now card) n m (areasOf (now ranks) (now pairs) (now live) (now down) (now estimates) (now elapsed)) ⌝ }
+    ensures { λ r. ⌜ after (answeredIn r) (areasOf (now (ranks .exit)) (now (pairs .exit)) (now (live .exit)) (now (down .exit)) (now (estimates .exit)) (now (elapsed .exit))) noneLent
+        ≡ roomed (mapOn (now (card .entry))) (areasOf (now (ranks .entry)) (now (pairs .entry)) (now (live .entry)) (now (down .entry)) (now (estimates .entry)) (now (elapsed .entry))) ⌝ }
+{
+    let roads = card::roads_of(card, m);
+    let order = card::order_of(card, n, m);
+    contraction::fill_ranks(order, ranks);
+    match contraction::contract(roads, order, ranks, pairs) {
+        Contracted::Overflow => {
+            clear(ranks, pairs, live, down, estimates, elapsed);
+            Answered {
+                header: Header {
+                    n: 0,
+                    m: 0,
+                    pairs: 0,
+                    target: Target::Absent,
+                },
+                answer: Answer::Refused(Refusal::Room),
+            }
+        }
+        Contracted::Kept(count) => {
+            fill_live(roads, live);
+            hierarchy::fill(down, Time::NONE);
+            hierarchy::fill(estimates, Time::UNASKED);
+            hierarchy::fill(elapsed, Time::NONE);
+            Answered {
+                header: Header {
+                    n: n,
+                    m: m,
+                    pairs: count,
+                    target: Target::Absent,
+                },
+                answer: Answer::Accepted,
+            }
+        }
+    }
+}
+
+// Prepares a card: questions 1 to 8; ranks, pairs, live times, and no target.
+pub fn prepare(
+    card: &[u8],
+    ranks: &mut [u32],
+    pairs: &mut [u32],
+    live: &mut [u32],
+    down: &mut [u32],
+    estimates: &mut [u32],
+    elapsed: &mut [u32],
+) -> Answered
+    ensures { λ r. ⌜ PrepareContract (now (card .entry))
+        (areasOf (now (ranks .entry)) (now (pairs .entry)) (now (live .entry)) (now (down .entry)) (now (estimates .entry)) (now (elapsed .entry)))
+        (areasOf (now (ranks .exit)) (now (pairs .exit)) (now (live .exit)) (now (down .exit)) (now (estimates .exit)) (now (elapsed .exit))) (answeredIn r) ⌝ }
+{
+    match card::read(card) {
+        Reading::Unreadable(q) => Answered {
+            header: Header {
+                n: 0,
+                m: 0,
+                pairs: 0,
+                target: Target::Absent,
+            },
+            answer: Answer::Refused(q),
+        },
+        Reading::Read(n, m) => {
+            if !lengths_fit(
+                n as usize,
+                m as usize,
+                0,
+                ranks.len(),
+                pairs.len(),
+                live.len(),
+                down.len(),
+                estimates.len(),
+                elapsed.len(),
+            ) {
+                return Answered {
+                    header: Header {
+                        n: 0,
+                        m: 0,
+                        pairs: 0,
+                        target: Target::Absent,
+                    },
+                    answer: Answer::Refused(Refusal::AreaLengths),
+                };
+            }
+            prepare_areas(n, m, card, ranks, pairs, live, down, estimates, elapsed)
+        }
     }
 }
 
