@@ -293,7 +293,7 @@ use mathlib.Core.List.{{List, [], _++_, _∷_, map}}
 use Prim.Native.Nat.{{ℕ}}
 use lib.ListN.{{replicate, take}}
 use Rattle.model.specs.Types.{{{', '.join(sorted(["Absent", "At", "Read", "Reading", "Unreadable", *REFUSALS]))}}}
-use Rattle.model.specs.Words.{{wordAt}}
+use Rattle.model.specs.Bytes.{{wordAt}}
 use Rattle.model.specs.Card.{{Written, cardRefusal, question, readCard, sizesOk}}
 use Rattle.model.specs.State.{{Step, question9}}
 use Rattle.model.specs.Calls.{{Call, aimCall, estimateCall, goCall, setCall}}

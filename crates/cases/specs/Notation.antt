@@ -6,10 +6,10 @@ use Prim.Native.Nat.{_%_, _*_, _+_, _-_, _/_, suc, zero, ℕ}
 use lib.ListN.{drop, getD, length, replicate, take}
 use Rattle.graph.specs.Least.{measured}
 use Rattle.graph.specs.Pairs.{down, up}
-use Rattle.graph.specs.Meet.{upTotal}
+use Rattle.graph.specs.Reach.{upTotal}
 use Rattle.graph.specs.Search.{back, backStep, before, below-or, bestBelow, better, consider, extend, firstVia, hasGoal, is, next, offerVia, offered, push, run, totalIn, wayIn}
 use Rattle.model.specs.Types.{Absent, Accepted, Answer, At, Estimated, Gone, Header, Lengths, NoPath, Refusal, Refused, Target}
-use Rattle.model.specs.Words.{wordAt}
+use Rattle.model.specs.Bytes.{wordAt}
 use Rattle.model.specs.Card.{Rows, Written, writeCard, writeRefusal}
 use Rattle.model.specs.State.{Areas, Lent, State, Step, prepare}
 use Rattle.model.specs.Calls.{Call, aimCall, aimStep, estimateCall, estimateStep, goCall, goStep, setCall, setStep, step, steps}

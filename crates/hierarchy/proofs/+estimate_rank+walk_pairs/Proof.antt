@@ -1,0 +1,176 @@
+use Rattle.hierarchy.proofs.Climbs.{astray, computed, known, walk-end, walk-skip, walk-start, walk-stop, walk-take}
+use Rattle.hierarchy.proofs.Tests.{leads-facts, leads-read}
+use Rattle.hierarchy.specs.Walks.{Walked}
+use mathlib.Core.Path.{_∙_, _≡_, sym}
+use borrow.Author.Tests.{eqb-false, eqb-true, not-false, not-true}
+use lib.ListN.{length}
+use Prim.Native.Nat.{_+_, _-_, _<_, _≤_, ℕ}
+use native.Mathlib.Omega.{arith}
+use borrow.Author.Needs.{needs}
+use borrow.Fn.Kinds.{In}
+use borrow.Fn.PlainCycle.{Measures, is, falls, and}
+use Rattle.hierarchy.proofs.estimate_rank.Reads as estimate-rank
+use Rattle.hierarchy.proofs.estimate_rank.Kinds as estimate-rank-kinds
+use Rattle.hierarchy.proofs.+estimate_rank+walk_pairs.Lts-estimate_rank as estimate-rank-lts
+use Rattle.hierarchy.proofs.walk_pairs.Reads as walk-pairs
+use Rattle.hierarchy.proofs.walk_pairs.Kinds as walk-pairs-kinds
+use Rattle.hierarchy.proofs.+estimate_rank+walk_pairs.Lts-walk_pairs as walk-pairs-lts
+use Rattle.hierarchy.proofs.answer_of.Reads as answer-of-reads
+use Rattle.hierarchy.proofs.first_of.Reads as first-of-reads
+use Rattle.hierarchy.proofs.high_of.Reads as high-of-reads
+use Rattle.hierarchy.proofs.leads_up.Reads as leads-up-reads
+use Rattle.hierarchy.proofs.low_of.Reads as low-of-reads
+use Rattle.hierarchy.proofs.up_of.Reads as up-of-reads
+use Rattle.network.proofs.Time.is_unasked.Reads as is-unasked-reads
+use Rattle.network.proofs.Time.of_word.Reads as of-word-reads
+use Rattle.network.proofs.Time.or_sum.Reads as or-sum-reads
+use Rattle.network.proofs.Time.word.Reads as word-reads
+use Rattle.network.proofs.junction_of.Reads as junction-of-reads
+use Rattle.hierarchy.proofs.+estimate_rank+walk_pairs.{statement}
+use Rattle.hierarchy.proofs.+estimate_rank+walk_pairs.Tie.{close}
+
+abbrev μ-estimate-rank : Measures 4 estimate-rank-kinds.ps ℕ
+μ-estimate-rank κs a = (a .0 - a .1 .1 .1 .1 .1 .1 .0 .0) + (a .0 - a .1 .1 .1 .1 .1 .1 .0 .0) + 1
+
+abbrev μ-walk-pairs : Measures 4 walk-pairs-kinds.ps ℕ
+μ-walk-pairs κs a = (a .0 - a .1 .1 .1 .1 .1 .1 .0 .0) + (a .0 - a .1 .1 .1 .1 .1 .1 .0 .0)
+
+abbrev estimate-rank-at : ℕ → In 4 estimate-rank-kinds.ps
+estimate-rank-at t =
+    and 4 estimate-rank-kinds.ps (is 4 estimate-rank-kinds.ps μ-estimate-rank t) estimate-rank.Pre
+
+abbrev estimate-rank-below : ℕ → In 4 estimate-rank-kinds.ps
+estimate-rank-below t =
+    and
+    4
+    estimate-rank-kinds.ps
+    (falls 4 estimate-rank-kinds.ps _<_ μ-estimate-rank t)
+    estimate-rank.Pre
+
+abbrev walk-pairs-at : ℕ → In 4 walk-pairs-kinds.ps
+walk-pairs-at t =
+    and 4 walk-pairs-kinds.ps (is 4 walk-pairs-kinds.ps μ-walk-pairs t) walk-pairs.Pre
+
+abbrev walk-pairs-below : ℕ → In 4 walk-pairs-kinds.ps
+walk-pairs-below t =
+    and 4 walk-pairs-kinds.ps (falls 4 walk-pairs-kinds.ps _<_ μ-walk-pairs t) walk-pairs.Pre
+
+abbrev walk-pairs-Inv-loop : walk-pairs-lts.InvT-loop
+walk-pairs-Inv-loop n count order pairs down estimates₀ r best₀ k₀ estimates best k = (k ≤ count) ×
+    (length estimates ≡ n) × Walked n order pairs count down estimates₀ estimates (r .0) (best₀ .0) k (best .0)
+
+abbrev walk-pairs-μ-loop : walk-pairs-lts.MeasureT-loop
+walk-pairs-μ-loop n count order pairs down estimates₀ r best₀ k₀ estimates best k = count - k
+
+pub +estimate-rank+walk-pairs-spec : {M : Type 1} → statement M
++estimate-rank+walk-pairs-spec = close μ-estimate-rank μ-walk-pairs (λ t. estimate-rank-lts.spec (
+  junction-of-reads.Asked,
+  junction-of-reads.Learnt,
+  of-word-reads.Asked,
+  of-word-reads.Learnt,
+  is-unasked-reads.Asked,
+  is-unasked-reads.Learnt,
+  walk-pairs-below t,
+  walk-pairs.Post,
+  answer-of-reads.Asked,
+  answer-of-reads.Learnt,
+  word-reads.Asked,
+  word-reads.Learnt,
+)
+    (estimate-rank-at t)
+    estimate-rank.Post
+    (λ c κs. search needs)
+    (λ c. astray _ _ _ _ _ _ _ (search needs) (c .before .before .junction-of .result .0) (c .before .before .junction-of .ensures) (c .if1 .taken))
+    (λ c. search needs)
+    (λ c. search needs)
+    (λ c. search needs)
+    (λ c κs. search needs)
+    (λ c κs. search needs)
+    (λ c. known _ _ _ _ _ _ _ (search needs) (c .before .before .before .before .before .before .before .junction-of .result .0)
+    (c .before .before .before .before .before .before .before .junction-of .ensures) _ (c .before .before .of-word .ensures) (search needs)
+    (eqb-false _ _ (sym (c .before .is-unasked .ensures) ∙ not-true _ (c .if2 .taken))))
+    (λ c. search needs)
+    (λ c. search needs)
+    (λ c κs. search needs)
+    (λ c κs. search needs)
+    (λ c κs. search needs)
+    (λ c κs. search needs)
+    (λ c. search needs)
+    (λ c. search needs)
+    (λ c. search needs)
+    (λ c. computed _ _ _ _ _ _ _ (search needs)
+    (c .before .before .before .before .before .before .before .before .before .before .before .before .before .before .before .junction-of .result .0)
+    (c .before .before .before .before .before .before .before .before .before .before .before .before .before .before .before .junction-of .ensures) _ _ _ _ _
+    (sym (c .before .before .before .before .before .before .before .before .before .before .of-word .ensures) ∙ eqb-true _ _
+    (sym (c .before .before .before .before .before .before .before .before .before .is-unasked .ensures) ∙ not-false _
+    (c .before .before .before .before .before .before .before .before .if2 .left))) (search needs)
+    (c .before .before .before .before .before .before .of-word2 .ensures) (c .before .before .before .before .walk-pairs .ensures) (c .before .answer-of .ensures)
+    (c .word .ensures)))
+    λ t. walk-pairs-lts.spec (
+      first-of-reads.Asked,
+      first-of-reads.Learnt,
+      low-of-reads.Asked,
+      low-of-reads.Learnt,
+      high-of-reads.Asked,
+      high-of-reads.Learnt,
+      up-of-reads.Asked,
+      up-of-reads.Learnt,
+      leads-up-reads.Asked,
+      leads-up-reads.Learnt,
+      estimate-rank-below t,
+      estimate-rank.Post,
+      or-sum-reads.Asked,
+      or-sum-reads.Learnt,
+    )
+    (walk-pairs-at t)
+    walk-pairs.Post
+    walk-pairs-Inv-loop
+    walk-pairs-μ-loop
+    (λ c κs. search needs)
+    (λ c. (c .first-of .ensures .bound, search needs, walk-start _ _ _ _ _ _ _ _ (search needs) _ (c .first-of .ensures)))
+    (λ c. search needs)
+    (λ c κs. search needs)
+    (λ c. search needs)
+    (λ c. walk-stop _ _ _ _ _ _ _ _ (search needs) _ _ _ (c .before .before .before .before .before .loop .inv .2) _ (c .before .before .before .before .loop-test .taken)
+    (c .before .before .before .low-of .ensures) (c .if1 .taken))
+    (λ c κs. search needs)
+    (λ c κs. search needs)
+    (λ c κs. search needs)
+    (λ c κs. let f = leads-facts _ _ _ _ _ (sym (c .before .before .leads-up .ensures) ∙ c .before .if2 .taken) in (
+      omega (arith, f .rises, f .below),
+      (
+        f .below,
+        omega arith,
+        omega arith,
+        omega arith,
+        omega
+            (arith, c .before .before .before .before .before .before .before .before .before .before .loop .inv .1),
+        omega arith,
+        omega arith,
+      ),
+    ))
+    (λ c κs. search needs)
+    (λ c. search needs)
+    (λ c. (
+      search needs,
+      search needs,
+      walk-take _ _ _ _ _ _ _ _
+          (c .before .before .before .before .before .before .before .before .before .before .before .before .before .before .before .before .before .before .before .before .pre .1 .0)
+          _ _ _ (c .before .before .before .before .before .before .before .before .before .before .before .before .before .before .loop .inv .2)
+          (c .before .before .before .before .before .before .before .before .before .before .before .before .before .loop-test .taken)
+          (leads-read _ _ _ _ _ _ _ _ _ (c .before .before .before .before .before .before .leads-up .ensures) (c .before .before .before .before .before .before .before .before .before .before .before .before .low-of .ensures) (c .before .before .before .before .before .before .before .before .high-of .ensures) (c .before .before .before .before .before .before .before .up-of .ensures) ∙ c .before .before .before .before .before .if2 .taken)
+          _ _ _ _ _ (c .before .before .before .before .before .before .before .before .high-of .ensures)
+          (c .before .before .before .before .before .before .before .up-of .ensures) (c .before .before .before .estimate-rank .ensures) (c .or-sum .ensures),
+    ))
+    (λ c. search needs)
+    (λ c. (
+      search needs,
+      search needs,
+      walk-skip _ _ _ _ _ _ _ _ (search needs) _ _ _
+          (c .before .before .before .before .before .before .before .before .before .loop .inv .2)
+          (c .before .before .before .before .before .before .before .before .loop-test .taken) (leads-read _ _ _ _ _ _ _ _ _ (c .before .leads-up .ensures)
+          (c .before .before .before .before .before .before .before .low-of .ensures) (c .before .before .before .high-of .ensures) (c .before .before .up-of .ensures)
+          ∙ c .if2 .left),
+    ))
+    (λ c. search needs)
+    (λ c. walk-end _ _ _ _ _ _ _ _ (search needs) _ _ _ (c .before .loop .inv .2) (c .before .loop .inv .0) (c .loop-test .left))

@@ -1,0 +1,6 @@
+pub mod Tests
+pub mod Places
+pub mod Facts
+pub mod Climbs
+pub mod Prepares
+pub mod Descends

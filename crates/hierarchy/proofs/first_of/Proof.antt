@@ -1,0 +1,37 @@
+use Rattle.hierarchy.proofs.Tests.{bisect}
+use Rattle.hierarchy.specs.Walks.{Ascending, lowIn}
+use borrow.Author.Needs.{needs}
+use Prim.Native.Nat.{ℕ, _-_, _≤_, _<_}
+use Rattle.hierarchy.proofs.first_of.Statement.{statement}
+use Rattle.hierarchy.proofs.first_of.Tie as tie
+
+abbrev Inv-loop : tie.InvT-loop
+Inv-loop pairs count r lo₀ hi₀ lo hi = (lo ≤ hi) × (hi ≤ count) × (Ascending pairs count → (i : ℕ) → i < lo → lowIn pairs i < r .0)
+
+abbrev μ-loop : tie.MeasureT-loop
+μ-loop pairs count r lo₀ hi₀ lo hi = hi - lo
+
+loop-again : tie.Need-loop-again Inv-loop μ-loop
+loop-again c = (
+  search needs,
+  search needs,
+  bisect (c .before .before .before .before .before .before .before .args .pairs .now) _ _ _ _ (search needs) (c .before .before .before .low-of .ensures)
+      (c .if1 .taken),
+)
+
+pub first-of-spec : {M : Type 1} → statement M
+first-of-spec =
+    tie.close
+    (tie.spec
+    Inv-loop
+    μ-loop
+    (λ c. search needs)
+    (λ c. search needs)
+    (λ c. search needs)
+    (λ c κs. search needs)
+    (λ c. search needs)
+    (λ c. search needs)
+    loop-again
+    (λ c. search needs)
+    (λ c. search needs)
+    (λ c. record { bound = search needs; before = c .before .loop .inv .2 }))

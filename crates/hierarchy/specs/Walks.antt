@@ -1,0 +1,106 @@
+-- The records by their words, and what the walk over the records of a rank answers and leaves. Definitions only.
+use mathlib.Core.Path.{_≡_}
+use mathlib.Core.Bool.{Bool, _&&_, cond, false, not, true}
+use mathlib.Core.Option.{none, some}
+use mathlib.Core.List.{List}
+use Prim.Native.Nat.{_*_, _+_, _<_, _≤_, ℕ}
+use lib.Dec.{eqb, ltb}
+use lib.ListN.{getD, length}
+use Rattle.graph.specs.Total.{Total, _⊓_, _⊕_}
+use Rattle.graph.specs.Least.{minBelow}
+use Rattle.graph.specs.Network.{Arc}
+use Rattle.graph.specs.Bound.{CostsAtMost}
+use Rattle.graph.specs.Estimate.{downTotal, estimate}
+use Rattle.graph.specs.Reach.{reaches}
+use Rattle.graph.specs.Map.{Map, Valid, estimateOf, pairsOf, rank, weights}
+use Rattle.model.specs.Bytes.{wordAt}
+use Rattle.model.specs.Word.{noneWord, unasked, word}
+use Rattle.model.specs.Calls.{filled}
+use Rattle.model.specs.Good.{AimFacts}
+use Rattle.model.specs.Use.{RecordAt, pairIn}
+use Rattle.network.specs.Width.{fit}
+
+-- ---- the four words of record i
+
+abbrev pub lowIn : List ℕ → ℕ → ℕ
+lowIn pairs i = getD pairs (4 * i) 0
+
+abbrev pub highIn : List ℕ → ℕ → ℕ
+highIn pairs i = getD pairs (4 * i + 1) 0
+
+abbrev pub upIn : List ℕ → ℕ → ℕ
+upIn pairs i = getD pairs (4 * i + 2) 0
+
+abbrev pub downIn : List ℕ → ℕ → ℕ
+downIn pairs i = getD pairs (4 * i + 3) 0
+
+-- a record leads up from rank r to a higher one of the n ranks
+unfoldable pub leads : (n r low high up : ℕ) → Bool
+leads n r low high up = eqb low r && (ltb r high && (ltb high n && not (eqb up noneWord)))
+
+-- what a walk that found x answers: never unasked
+unfoldable pub answer : ℕ → ℕ
+answer x = cond (eqb x unasked) noneWord x
+
+-- the records ascend by low
+abbrev pub Ascending : List ℕ → ℕ → Type 0
+Ascending pairs count = (i k : ℕ) → i ≤ k → k < count → lowIn pairs i ≤ lowIn pairs k
+
+-- s is the place of the first record whose low is not below r, if the records ascend
+pub record Starts (pairs : List ℕ) (count r s : ℕ) : Type 0 where
+  pub bound : s ≤ count
+  pub before : Ascending pairs count → (i : ℕ) → i < s → lowIn pairs i < r
+
+-- ---- a map of n junctions, as the order and the records hold it
+
+pub record Holds (M : Map) (n : ℕ) (order pairs : List ℕ) (count : ℕ) : Type 0 where
+  pub valid : Valid M
+  pub most : CostsAtMost (Arc (M .base)) 1000000
+  pub vertices-are : M .vertices ≡ n
+  pub vertices-high : M .vertices ≤ 4096
+  pub junction : (r : ℕ) → r < M .vertices → wordAt order (4 * r) ≡ M .order r
+  pub count-is : count ≡ length (pairsOf M)
+  pub records : (i : ℕ) → i < count → RecordAt pairs i (pairIn (pairsOf M) i)
+
+-- ---- estimates by rank
+
+-- the estimate of the junction of rank r
+abbrev pub estimateAt : Map → ℕ → ℕ → Total
+estimateAt M t r = estimate (weights M) (M .vertices) (rank M t) r
+
+-- junction v has rank r, or is reached from there through up times
+abbrev pub above : Map → ℕ → ℕ → Bool
+above M r v = reaches (weights M) (M .vertices) r (rank M v)
+
+-- what record i gives to the estimate of rank r: its up time plus the estimate of the higher rank
+abbrev pub over : Map → ℕ → ℕ → ℕ → Total
+over M t r i =
+    let p = pairIn (pairsOf M) i in
+    cond (eqb (p .low) r) (p .upTime ⊕ estimateAt M t (p .high)) none
+
+-- filled entries stay
+abbrev pub Kept : (e z : List ℕ) → Type 0
+Kept e z = (i : ℕ) → (getD e i 0 ≡ unasked → ⊥) → getD z i 0 ≡ getD e i 0
+
+-- the estimate v of rank r
+pub record Climbed (n : ℕ) (order pairs : List ℕ) (count : ℕ) (down e z : List ℕ) (r v : ℕ) : Type 0 where
+  pub kept : Kept e z
+  -- on any contents: the answer is stored, and it is not the mark unasked; so no entry is walked twice
+  pub stored : wordAt order (4 * r) < n → getD z (wordAt order (4 * r)) 0 ≡ v
+  pub answered : v ≡ unasked → ⊥
+  pub exact : (M : Map) → Holds M n order pairs count → (t : ℕ) → AimFacts M t down e
+      → (v ≡ word (estimateAt M t r)) × (z ≡ filled M t (above M r) e)
+
+-- where the walk over the records below k stands: the least over them, and all that they lead to filled
+pub record Risen (M : Map) (t r k : ℕ) (down e z : List ℕ) (best : ℕ) : Type 0 where
+  pub best-is : best ≡ word (fit (downTotal (weights M) (rank M t) r ⊓ minBelow k (over M t r)))
+  pub aims : AimFacts M t down z
+  pub reached : (i c : ℕ) → i < k → pairIn (pairsOf M) i .low ≡ r → pairIn (pairsOf M) i .upTime ≡ some c
+      → (v : ℕ) → v < M .vertices → above M (pairIn (pairsOf M) i .high) v ≡ true → getD z v 0 ≡ word (estimateOf M t v)
+  pub apart : (v : ℕ) → v < M .vertices → above M r v ≡ false → getD z v 0 ≡ getD e v 0
+
+-- the walk over the records below k, from the down total
+pub record Walked (n : ℕ) (order pairs : List ℕ) (count : ℕ) (down e z : List ℕ) (r own k best : ℕ) : Type 0 where
+  pub kept : Kept e z
+  pub exact : (M : Map) → Holds M n order pairs count → (t : ℕ) → AimFacts M t down e → own ≡ word (downTotal (weights M) (rank M t) r)
+      → Risen M t r k down e z best

@@ -1,0 +1,243 @@
+// The vocabulary of the code: junctions, ranks and times, and words in bytes.
+ghost use mathlib.Core.Path.{_≡_};
+ghost use mathlib.Core.List.{[], _++_, _∷_};
+ghost use mathlib.Core.Option.{some};
+ghost use Prim.Native.Nat.{_*_, _+_, _<_, _≤_, min};
+ghost use lib.Dec.{eqb};
+ghost use lib.ListN.{drop, getD, length, take};
+ghost use Rattle.graph.specs.Total.{_⊕_};
+ghost use Rattle.model.specs.Word.{noneWord, ofWord, unasked, word};
+ghost use Rattle.model.specs.Bytes.{bytesOf, wordAt};
+ghost use Rattle.model.specs.Card.{question};
+ghost use Rattle.network.specs.Width.{fit};
+ghost use Rattle.network.specs.Refusals.{placeOf, refusalIn};
+
+// The number of a junction (a vertex).
+pub struct Junction(pub u32);
+
+// A level of the contraction order. (Document 01: a rank.)
+pub struct Rank(pub u32);
+
+// The words of the marks: the width of a time is known here and nowhere else.
+const NONE_WORD: u32 = 4294967295;
+
+const UNASKED_WORD: u32 = 4294967294;
+
+// A time in seconds, or one of the marks.
+pub struct Time(pub u32);
+
+impl Time {
+    // No time exists.
+    pub const NONE: Time = Time(NONE_WORD);
+
+    // An estimate that was not asked since the last aim.
+    pub const UNASKED: Time = Time(UNASKED_WORD);
+
+    // The live time of a closed road.
+    pub const CLOSED: Time = Time(NONE_WORD);
+
+    // The time that a word of an area or of a card stands for.
+    pub fn of_word(w: u32) -> Self
+        ensures { λ r. ⌜ r .0 ≡ w ⌝ }
+    {
+        Time(w)
+    }
+
+    // The word that stands for a time.
+    pub fn word(self) -> u32
+        ensures { λ r. ⌜ r ≡ self .0 ⌝ }
+    {
+        self.0
+    }
+
+    // The time of a total; none where it does not fit below the marks.
+    pub fn of_total(t: u64) -> Self
+        ensures { λ r. ⌜ r .0 ≡ word (fit (some t)) ⌝ }
+    {
+        if t < UNASKED_WORD as u64 {
+            Time(t as u32)
+        } else {
+            Time::NONE
+        }
+    }
+
+    pub fn is_none(self) -> bool
+        ensures { λ r. ⌜ r ≡ eqb (self .0) noneWord ⌝ }
+    {
+        self.0 == NONE_WORD
+    }
+
+    pub fn is_unasked(self) -> bool
+        ensures { λ r. ⌜ r ≡ eqb (self .0) unasked ⌝ }
+    {
+        self.0 == UNASKED_WORD
+    }
+
+    // One step of a minimum of sums: the least of this time and a + b, where a sum with none is none. The sum is taken in 64 bits.
+    pub fn or_sum(self, a: Time, b: Time) -> Self
+        ensures { λ r. ⌜ r .0 ≡ min (self .0) (word (fit (ofWord (a .0) ⊕ ofWord (b .0)))) ⌝ }
+    {
+        let best = self.0;
+        let x = a.0;
+        let y = b.0;
+        if x == NONE_WORD {
+            return Time(best);
+        }
+        if y == NONE_WORD {
+            return Time(best);
+        }
+        let sum = Time::of_total((x as u64) + (y as u64));
+        let t = sum.0;
+        if t < best { Time(t) } else { Time(best) }
+    }
+}
+
+// Why something is refused: one variant for each question of document 01, in its order.
+pub enum Refusal {
+    Short,
+    Kinds,
+    Starts,
+    Sizes,
+    Road(u32),
+    Place(u32),
+    AreaLengths,
+    Room,
+    Lengths,
+    NoRoad,
+    NotAllowed,
+    NoJunction,
+    NoTarget,
+    LentLengths,
+    NoPath(u32),
+}
+
+// Document 01's number of a refusal.
+pub fn question_of(q: Refusal) -> u32
+    ensures { λ r. ⌜ r ≡ question (refusalIn q) ⌝ }
+{
+    match q {
+        Refusal::Short => 1,
+        Refusal::Kinds => 2,
+        Refusal::Starts => 3,
+        Refusal::Sizes => 4,
+        Refusal::Road(_) => 5,
+        Refusal::Place(_) => 6,
+        Refusal::AreaLengths => 7,
+        Refusal::Room => 8,
+        Refusal::Lengths => 9,
+        Refusal::NoRoad => 10,
+        Refusal::NotAllowed => 11,
+        Refusal::NoJunction => 12,
+        Refusal::NoTarget => 13,
+        Refusal::LentLengths => 14,
+        Refusal::NoPath(_) => 15,
+    }
+}
+
+// The road or the place that a refusal by question 5 or 6 names; 0 for any other.
+pub fn place_of(q: Refusal) -> u32
+    ensures { λ r. ⌜ r ≡ placeOf (refusalIn q) ⌝ }
+{
+    match q {
+        Refusal::Short => 0,
+        Refusal::Kinds => 0,
+        Refusal::Starts => 0,
+        Refusal::Sizes => 0,
+        Refusal::Road(i) => i,
+        Refusal::Place(i) => i,
+        Refusal::AreaLengths => 0,
+        Refusal::Room => 0,
+        Refusal::Lengths => 0,
+        Refusal::NoRoad => 0,
+        Refusal::NotAllowed => 0,
+        Refusal::NoJunction => 0,
+        Refusal::NoTarget => 0,
+        Refusal::LentLengths => 0,
+        Refusal::NoPath(_) => 0,
+    }
+}
+
+fn wide(x: u8) -> u32
+    ensures { λ r. ⌜ (r ≡ x) × (r < 256) ⌝ }
+{
+    x as u32
+}
+
+// The word that begins at byte i, lowest byte first.
+pub fn word_at(s: &[u8], i: usize) -> u32
+    requires { ⌜ i + 4 ≤ length (now s) ⌝ }
+    ensures { λ r. ⌜ r ≡ wordAt (now (s .entry)) i ⌝ }
+{
+    let a = wide(s[i]);
+    let b = wide(s[i + 1]);
+    let c = wide(s[i + 2]);
+    let d = wide(s[i + 3]);
+    a + 256 * b + 65536 * c + 16777216 * d
+}
+
+// ---- the map's two bodies: roads of 12 bytes, places of the order of 4
+
+// The tail of road i.
+pub fn tail_of(roads: &[u8], i: usize) -> Junction
+    requires { ⌜ 12 * i + 12 ≤ length (now roads) ⌝ }
+    ensures { λ r. ⌜ r .0 ≡ wordAt (now (roads .entry)) (12 * i) ⌝ }
+{
+    Junction(word_at(roads, 12 * i))
+}
+
+// The head of road i.
+pub fn head_of(roads: &[u8], i: usize) -> Junction
+    requires { ⌜ 12 * i + 12 ≤ length (now roads) ⌝ }
+    ensures { λ r. ⌜ r .0 ≡ wordAt (now (roads .entry)) (12 * i + 4) ⌝ }
+{
+    Junction(word_at(roads, 12 * i + 4))
+}
+
+// The base time of road i.
+pub fn base_of(roads: &[u8], i: usize) -> Time
+    requires { ⌜ 12 * i + 12 ≤ length (now roads) ⌝ }
+    ensures { λ r. ⌜ r .0 ≡ wordAt (now (roads .entry)) (12 * i + 8) ⌝ }
+{
+    Time::of_word(word_at(roads, 12 * i + 8))
+}
+
+// The junction of a rank, by the order.
+pub fn junction_of(order: &[u8], r: Rank) -> Junction
+    requires { ⌜ 4 * r .0 + 4 ≤ length (now order) ⌝ }
+    ensures { λ j. ⌜ j .0 ≡ wordAt (now (order .entry)) (4 * r .0) ⌝ }
+{
+    let k = r.0 as usize;
+    Junction(word_at(order, 4 * k))
+}
+
+// The rank of a junction, by the area of ranks.
+pub fn rank_of(ranks: &[u32], j: Junction) -> Rank
+    requires { ⌜ j .0 < length (now ranks) ⌝ }
+    ensures { λ r. ⌜ r .0 ≡ getD (now (ranks .entry)) (j .0) 0 ⌝ }
+{
+    let k = j.0 as usize;
+    Rank(ranks[k])
+}
+
+// Writes the word w from byte i on, lowest byte first.
+fn put_word(s: &mut [u8], i: usize, w: u32)
+    requires { ⌜ i + 4 ≤ length (now s) ⌝ }
+    ensures { λ _. ⌜ now (s .exit) ≡ take i (now (s .entry)) ++ bytesOf (w ∷ []) ++ drop (i + 4) (now (s .entry)) ⌝ }
+{
+    s[i] = (w % 256) as u8;
+    s[i + 1] = (w / 256 % 256) as u8;
+    s[i + 2] = (w / 65536 % 256) as u8;
+    s[i + 3] = (w / 16777216 % 256) as u8;
+}
+
+// Writes the bytes of a row of words.
+pub fn put_words(s: &mut [u8], words: &[u32])
+    requires { ⌜ length (now s) ≡ 4 * length (now words) ⌝ }
+    ensures { λ _. ⌜ now (s .exit) ≡ bytesOf (now (words .entry)) ⌝ }
+{
+    let mut i = 0;
+    while i < words.len() {
+        put_word(s, 4 * i, words[i]);
+        i += 1;
+    }
+}
