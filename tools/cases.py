@@ -9,6 +9,7 @@ The seeds are fixed and the dice are our own, so the files are the same on every
 """
 import pathlib
 import sys
+import textwrap
 from collections import Counter, namedtuple
 
 sys.dont_write_bytecode = True
@@ -26,8 +27,12 @@ REFUSALS = ["Short", "Kinds", "Starts", "Sizes", "Road", "Place", "AreaLengths",
 CALLS = {"set": "setCall", "aim": "aimCall", "est": "estimateCall"}
 
 
+def number(word):
+    return {NONE: "∞", UNASKED: "□"}.get(word, str(word))
+
+
 def applied(name, *words):
-    return " ".join([name, *({NONE: "∞", UNASKED: "□"}.get(word, str(word)) for word in words)])
+    return " ".join([name, *map(number, words)])
 
 
 def argument(text):
@@ -39,11 +44,11 @@ def listed(items):
 
 
 def row(words):
-    return listed(applied("", word).strip() for word in words)
+    return listed(map(number, words))
 
 
 def road_rows(roads):
-    return listed(" – ".join(row(road).split(" ∷ ")[:3]) for road in roads)
+    return listed(" – ".join(map(number, road)) for road in roads)
 
 
 def refusal_text(refusal):
@@ -56,13 +61,10 @@ def call_text(call):
     return applied(CALLS[call[0]], *call[1:])
 
 
-def wrapped(text):
-    """A long list in lines."""
-    lines = [""]
-    for item in text.split(" ∷ "):
-        lines[-1:] = [f"{lines[-1]} ∷ {item}"] if len(lines[-1] + item) < 130 else [lines[-1], f" ∷ {item}"]
-    lines[0] = lines[0][3:]
-    return " " + text if len(lines) == 1 else "\n      " + "\n     ".join(lines)
+def field(text):
+    """A list as a record's field, in several lines if it is long."""
+    lines = textwrap.wrap(text.replace(" ", "\u00a0").replace("\u00a0∷\u00a0", " ∷\u00a0"), 130)
+    return (" " if len(lines) == 1 else "\n      ") + "\n      ".join(lines).replace("\u00a0", " ")
 
 
 # ---- Random.antt
@@ -97,14 +99,15 @@ def script_text(index, script):
     records = [areas.pairs[4 * i:4 * i + 4] for i in range(header.pairs)]
     rest = [0] * (4 * script.room - 4 * header.pairs), script.chart.base, *[[mark] * header.n for mark in (NONE, UNASKED, NONE)]
     assert answer == ("ok",) and header.target is None and (areas.pairs[4 * header.pairs:], *areas[2:]) == rest
-    turns = "\n      ∷ ".join([turn_text(turn) for turn in script.turns] + ["[]"])
+    turns = "\n      ∷ ".join([*map(turn_text, script.turns), "[]"])
     return f"""
+-- {script.made[0]}
 script-{index} : Holds record {{
-  roads ={wrapped(road_rows(script.chart.roads))};
+  roads ={field(road_rows(script.chart.roads))};
   order = {row(script.chart.order)};
   room = {script.room};
   ranks = {row(areas.ranks)};
-  pairs ={wrapped(listed(applied("pair", *record) for record in records))};
+  pairs ={field(listed(applied("pair", *record) for record in records))};
   turns =
       {turns};
 }}
@@ -196,13 +199,17 @@ PREPARINGS = {
     "an area before the room": [(SMALL, FITTING._replace(pairs=0, elapsed=1))],
     "the room": [(SMALL, FITTING._replace(pairs=0)), (MAP_P, Areas(4, 16, 5, 4, 4, 4))],
 }
-CALLS_MADE = [("set", 0, 5), ("set", 1, 0), ("aim", 1), ("aim", 2), ("est", 0), ("go", 0, [60, 61], [80, 81, 82]), ("go", 2, [], [])]
+SETS = [("set", 0, 5), ("set", 1, 0)]
+OTHERS = [("aim", 1), ("aim", 2), ("est", 0), ("go", 0, [60, 61], [80, 81, 82]), ("go", 2, [], [])]
 FORGED = [(1, 1, 1), (3, 1, 1), (2, 0, 1), (2, 2, 1), (2, 1, 2), (0, 0, 0), (2 ** 30 + 2, 1, 1), (2, 2 ** 30 + 1, 1), (2, 1, 2 ** 30 + 1)]
-UNFIT = {
-    "the card": [((2, 1, 1), 0, 47, FITTING), ((2, 1, 1), None, 49, FITTING), ((2, 1, 1), 1, 0, FITTING)],
-    **{area: [((2, 1, 1), 1, 48, lengths) for lengths in changed] for area, changed in OTHER.items()},
-    "fewer pairs than the header has": [((2, 1, 1), None, 48, FITTING._replace(pairs=0))],
-    "forged headers": [(numbers, 0, 48, FITTING) for numbers in FORGED],
+UNMAPPED = Areas(0, 8, 0, 0, 0, 0)
+CALLINGS = {
+    "the card": [("all", (2, 1, 1), 0, 47, FITTING), ("all", (2, 1, 1), None, 49, FITTING), ("all", (2, 1, 1), 1, 0, FITTING)],
+    **{area: [("all", (2, 1, 1), 1, 48, lengths) for lengths in changed] for area, changed in OTHER.items()},
+    "fewer pairs than the header has": [("all", (2, 1, 1), None, 48, FITTING._replace(pairs=0))],
+    "forged headers": [("all", numbers, 0, 48, FITTING) for numbers in FORGED],
+    "the header of a refused preparing, with areas that it calls for": [
+        ("sets", (0, 0, 0), None, 28, UNMAPPED), ("others", (0, 0, 0), None, 28, UNMAPPED)],
 }
 SIZES = {
     "bounds": [(0, 4), (196_608, 16_384), (196_620, 4), (0, 16_388), (12, 0)],
@@ -249,14 +256,16 @@ def preparing_line(given):
     return applied(f"unprepared {argument(refusal_text(answer[1:]))} {due} {argument(old.text)}", *lengths), answer[1]
 
 
-def unfit_line(given):
-    numbers, target, length, lengths = given
-    header, areas = Header(*numbers, target), Areas(*[[7] * length for length in lengths])
-    for call in CALLS_MADE:
-        due = ("no", 9), header, areas, call[2:] if call[0] == "go" else ([], [])
-        assert model.step(bytes([7] * length), header, areas, call) == due
+def calling_line(given):
+    name, numbers, target, length, lengths = given
+    header, areas, questions = Header(*numbers, target), Areas(*[[7] * length for length in lengths]), set()
+    for call in {"sets": SETS, "others": OTHERS, "all": SETS + OTHERS}[name]:
+        answer, *left = model.step(bytes([7] * length), header, areas, call)
+        assert answer[0] == "no" and left == [header, areas, call[2:] if call[0] == "go" else ([], [])]
+        questions.add(answer[1])
+    (question,) = questions
     aimed = "Absent" if target is None else f"(At {target})"
-    return applied(f"{applied('unfit calls', *numbers)} {aimed}", length, *lengths), 9
+    return applied(f"refused {REFUSALS[question - 1]} {applied(name, *numbers)} {aimed}", length, *lengths), question
 
 
 def sizes_line(given):
@@ -297,8 +306,8 @@ use Rattle.model.specs.Bytes.{{wordAt}}
 use Rattle.model.specs.Card.{{Written, cardRefusal, question, readCard, sizesOk}}
 use Rattle.model.specs.State.{{Step, question9}}
 use Rattle.model.specs.Calls.{{Call, aimCall, estimateCall, goCall, setCall}}
-use Rattle.cases.specs.Notation.{{Agree, Case, Preparing, Unfit, Writing, _–_–_, _⇒_, answers, blank, bytes, card, lent, prepares, put, same}}
-use Rattle.cases.specs.Notation.{{unfit, unprepared, unwritten, writes, written, ∞}}
+use Rattle.cases.specs.Notation.{{Agree, Calling, Case, Preparing, Writing, answers, lent, prepares, refused, same, unprepared, unwritten, writes, written}}
+use Rattle.cases.specs.Notation.{{_–_–_, _⇒_, blank, bytes, card, put, ∞}}
 
 -- document 01's number of each refusal
 numbers :
@@ -314,8 +323,14 @@ bytes-of = refl
 abbrev small : List ℕ
 small = {card([(0, 1, 5)], [1, 0]).text}
 
-abbrev calls : List Call
-calls = {listed(map(call_text, CALLS_MADE))}
+abbrev sets : List Call
+sets = {listed(map(call_text, SETS))}
+
+abbrev others : List Call
+others = {listed(map(call_text, OTHERS))}
+
+abbrev all : List Call
+all = sets ++ others
 """
 
 
@@ -324,24 +339,26 @@ def cards_text(counts):
         ("readings", "(List ℕ) Reading", "reading", "readCard", "wordAt cardRefusal", READINGS, reading_line, ["accepted", *range(1, 7)]),
         ("writings", "Writing Written", "writing", "writes", "writes", WRITINGS, writing_line, ["accepted", *range(4, 8)]),
         ("preparings", "Preparing Step", "preparing", "prepares", "prepares", PREPARINGS, preparing_line, range(1, 9)),
-        ("unfits", "Unfit (List Step)", "calling", "(answers calls)", "answers", UNFIT, unfit_line, [9]),
+        ("callings", "Calling (List Step)", "calling", "answers", "answers", CALLINGS, calling_line, [9, 10, 12]),
         ("sizes", "Bool Bool", "sized", "same", "sizesOk", SIZES, sizes_line, ["accepted", 4]),
         ("lengths", "Bool Bool", "fitting", "same", "question9", LENGTHS, lengths_line, ["accepted", 9])))
 
 
 # ---- the files
 
-def main(words):
+def main(options):
+    if options not in ([], ["--check"], ["--report"]):
+        sys.exit(__doc__)
     chosen, counts = scripts.chosen_scripts(), Counter()
     texts = {"Random.antt": RANDOM + "".join(script_text(i, script) for i, script in enumerate(chosen)), "Cards.antt": cards_text(counts)}
-    if words == ["--report"]:
+    if options == ["--report"]:
         for kind, count in [*scripts.counted(chosen).items(), *counts.items()]:
             print(f"{count:4}  {kind}")
     for name, text in texts.items():
-        if words == ["--check"] and (SPECS / name).read_text() != text:
+        if options == ["--check"] and (SPECS / name).read_text(encoding="utf-8") != text:
             sys.exit(f"cases: {name} is not what tools/cases.py writes")
-        if not words:
-            (SPECS / name).write_text(text)
+        if not options:
+            (SPECS / name).write_text(text, encoding="utf-8")
 
 
 if __name__ == "__main__":

@@ -255,8 +255,8 @@ def step(card, header, areas, call):
     lent = call[2:] if kind == "go" else ([], [])
     if not all_lengths_right([*map(len, areas)], len(card), *header[:3]):
         return ("no", 9), header, areas, lent
-    chart, target = Map(card), header.target
-    refusal = call_refusal(header.n, chart.base, target, call)
+    chart, target = Map(card) if header.n else None, header.target  # no map after a refused preparing
+    refusal = call_refusal(header.n, chart.base if chart else [], target, call)
     if refusal:
         return ("no", *refusal), header, areas, lent
     if kind == "set":

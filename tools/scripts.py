@@ -4,12 +4,14 @@ from collections import Counter, namedtuple
 import reference as model
 from reference import CLOSED, NONE, SLOWEST, UNASKED, Areas
 
-POOL, TURNS = 600, 16  # random scripts to choose from, and how many turns each has at first
+POOL, TURNS = 400, 40  # random scripts to choose from, and how many turns each has at first
 
 
 # ---- scripts: a map, the room for pairs, and turns
 
 class Dice:
+    """A linear congruential generator."""
+
     def __init__(self, seed):
         self.state = 2_654_435_769 * seed + 12_345
         self.below(1)
@@ -26,10 +28,10 @@ Turn = namedtuple("Turn", "call before answer header areas lent")
 
 
 class Script:
-    """A prepared map and the turns on it. Each turn is compared with the plain machine, and its kinds are counted."""
+    """A prepared map and the turns on it. Each turn is compared with the plain machine, and its kinds are counted, of the same case once."""
 
-    def __init__(self, roads, order, spare, *calls):
-        self.made, self.calls, self.turns = (roads, order, spare), [], []
+    def __init__(self, note, roads, order, spare, *calls):
+        self.made, self.calls, self.turns, self.cases = (note, roads, order, spare), [], [], []
         self.card = model.make_card([word for road in roads for word in road], order)
         self.chart = model.Map(self.card)
         self.records = model.kept_pairs(self.chart)
@@ -54,9 +56,14 @@ class Script:
         turn = Turn(call, before, *model.step(self.card, *before, call))
         answer, route, log = self.machine.step(call)
         assert (turn.answer, turn.lent[0][:len(route)], turn.lent[1][:len(log)]) == (answer, route, log)
-        self.count(KINDS[kind](self, turn, answer[1] if answer[0] == "no" else 0))
+        no = answer[1] if answer[0] == "no" else 0
+        case = (place, self.header.target, self.areas.live) if kind == "go" and no in (0, 15) else (call, before)
+        if case not in self.cases:
+            self.count(KINDS[kind](self, turn, no))
+            self.cases.append(case)
         if kind == "set" and answer == ("ok",):
-            (self.ended.add if self.areas.live[place] > rest[0] else self.ended.discard)(place)
+            ends = self.areas.live[place] > rest[0] == self.chart.base[place]
+            self.ended = self.ended | {place} if ends else self.ended - {place}
         self.turns.append(turn)
         self.header, self.areas = turn.header, turn.areas
 
@@ -73,7 +80,7 @@ def random_script(seed):
         tail = dice.below(n)
         head = (tail + 1 + dice.below(n - 1)) % n
         roads += [(tail, head, dice.pick(*times)) for _ in range(1 + (dice.below(6) == 0))]
-    script = Script(roads, order, dice.pick(0, 0, 1, 2))
+    script = Script(f"seed {seed}", roads, order, dice.pick(0, 0, 1, 2))
     script.play(*random_call(dice, script))
     script.play("aim", dice.below(n))
     for _ in range(TURNS - 2):
@@ -99,28 +106,29 @@ def random_call(dice, script):
 def chosen_scripts():
     """Scripts made for a purpose; then random ones, each for the kinds that are too seldom, without the turns that no kind needs."""
     made = [
-        Script([], [0], 0, ("go", 0, 1, 1), ("aim", 1), ("aim", 0), ("est", 0), ("go", 0, 1, 1), ("set", 0, 1), ("go", 0, 0, 1)),
-        Script([], [1, 0], 1, ("est", 0), ("est", 2), ("est", NONE), ("go", 2, 2, 2), ("go", UNASKED, 1, 1), ("go", 1, 2, 1), ("go", 1, 1, 3),
-               ("aim", 2), ("set", 0, UNASKED), ("aim", 1), ("est", 0), ("est", 1), ("go", 0, 2, 3), ("aim", 0), ("go", 0, 2, 2)),
-        # the road from 2 to 1 gives the time of 1, but 2 is logged after 1
-        Script([(2, 1, 1), (0, 1, 2), (0, 2, 1), (1, 3, 1)], [3, 1, 0, 2], 0, ("est", 0), ("go", 4, 4, 4), ("go", 0, 0, 0), ("est", 4),
-               ("aim", 3), ("go", 0, 4, 5), ("set", 0, 2), ("go", 0, 5, 4), ("set", 0, 1), ("go", 2, 4, 4), ("aim", 4), ("set", 4, 0)),
+        Script("one junction", [], [0], 0,
+               ("go", 0, 1, 1), ("aim", 1), ("aim", 0), ("est", 0), ("go", 0, 1, 1), ("set", 0, 1), ("go", 0, 0, 1)),
+        Script("no roads, and calls before the first aim", [], [1, 0], 1,
+               ("est", 0), ("est", 2), ("est", NONE), ("go", 2, 2, 2), ("go", UNASKED, 1, 1), ("go", 1, 2, 1), ("go", 1, 1, 3), ("aim", 2),
+               ("set", 0, UNASKED), ("aim", 1), ("est", 0), ("est", 1), ("go", 0, 2, 3), ("aim", 0), ("go", 0, 2, 2)),
+        Script("road 0, from 2 to 1, gives the time of 1, but 2 is logged after 1", [(2, 1, 1), (0, 1, 2), (0, 2, 1), (1, 3, 1)], [3, 1, 0, 2], 0,
+               ("est", 0), ("go", 4, 4, 4), ("go", 0, 0, 0), ("est", 4), ("aim", 3), ("go", 0, 4, 5), ("set", 0, 2), ("go", 0, 5, 4),
+               ("set", 0, 1), ("go", 2, 4, 4), ("aim", 4), ("set", 4, 0)),
     ]
     pool, chosen = [random_script(seed) for seed in range(POOL)], []
-    while True:
-        seldom = too_seldom(counted(made + chosen))
+    while seldom := too_seldom(made + chosen):
         best = max(pool, key=lambda script: sum(min(script.kinds[kind], missing) for kind, missing in seldom.items()))
-        if not any(best.kinds[kind] for kind in seldom):
-            break
+        assert any(best.kinds[kind] for kind in seldom), seldom
         chosen.append(best)
     for i in reversed(range(len(chosen))):
+        rest = made + chosen[:i] + chosen[i + 1:]
         for turn in reversed(range(TURNS)):
-            calls = chosen[i].calls
-            shorter = Script(*chosen[i].made, *calls[:turn], *calls[turn + 1:])
-            if not too_seldom(counted(made + chosen[:i] + [shorter] + chosen[i + 1:])):
+            shorter = Script(*chosen[i].made, *chosen[i].calls[:turn], *chosen[i].calls[turn + 1:])
+            if not too_seldom(rest + [shorter]):
                 chosen[i] = shorter
-    assert not too_seldom(counted(made + chosen)), seldom
-    return made + [script for script in chosen if script.turns]
+        if not too_seldom(rest):
+            del chosen[i]
+    return made + chosen
 
 
 # ---- kinds of maps and calls, each with whether it occurs here
@@ -133,16 +141,16 @@ def minimum(kind):
     return MINIMA.get(kind) or MINIMA.get(kind.split()[0], 4)
 
 
-def too_seldom(counts):
-    """How many are missing of each kind."""
-    return {kind: minimum(kind) - count for kind, count in counts.items() if count < minimum(kind)}
-
-
 def counted(scripts):
     counts = Counter()
     for script in scripts:
         counts.update(script.kinds)
     return counts
+
+
+def too_seldom(scripts):
+    """How many are missing of each kind."""
+    return {kind: minimum(kind) - count for kind, count in counted(scripts).items() if count < minimum(kind)}
 
 
 def map_kinds(chart, records, spare):
@@ -238,6 +246,8 @@ def log_kinds(script, turn, arcs, times, choices, found):
     waiting = [{junction: time for _, junction, time in choice} for choice in choices]
     falls = {junction for early, late in zip(waiting, waiting[1:]) for junction in early if late.get(junction, NONE) < early[junction]}
     heads = {head for tail, head, *_ in arcs if tail in times and tail != target}
+    closed = {road[1] for road, live in zip(script.chart.roads, before.live) if live == CLOSED and road[0] in times and road[0] != target}
+    beyond = {head for tail, head, *_ in arcs if tail == target and found}
     fills = {junction for junction in junctions if before.estimates[junction] != after.estimates[junction]}
     return {
         "go: 15 with an empty log": not found and not log,
@@ -245,11 +255,9 @@ def log_kinds(script, turn, arcs, times, choices, found):
         "go from the target": start == target,
         "go that finds a route": found and start != target,
         "go of 1,000,000 and more": found and times[target] >= SLOWEST,
-        "go that meets a closed road": any(live == CLOSED and road[0] in times and road[0] != target
-                                           for road, live in zip(script.chart.roads, before.live)),
-        "go that leaves the head of a closed road unasked": any(
-            live == CLOSED and tail in times and tail != target and after.estimates[head] == UNASKED
-            for (tail, head, _), live in zip(script.chart.roads, before.live)),
+        "go that meets a closed road": closed,
+        "go that leaves the head of a closed road unasked": any(after.estimates[head] == UNASKED for head in closed),
+        "go that leaves a head behind the target unasked": any(after.estimates[head] == UNASKED for head in beyond),
         "go that meets a junction without estimate": any(after.estimates[head] == NONE for head in heads),
         "go where open roads do not reach all": found and len(model.least_totals([(b, a, c) for a, b, c, _ in arcs], start)) < len(junctions),
         "go with a tie of keys": any(len(choice) > 1 and choice[0][0] == choice[1][0] for choice in choices),

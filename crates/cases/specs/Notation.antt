@@ -8,7 +8,7 @@ use Rattle.graph.specs.Least.{measured}
 use Rattle.graph.specs.Pairs.{down, up}
 use Rattle.graph.specs.Reach.{upTotal}
 use Rattle.graph.specs.Search.{back, backStep, before, below-or, bestBelow, better, consider, extend, firstVia, hasGoal, is, next, offerVia, offered, push, run, totalIn, wayIn}
-use Rattle.model.specs.Types.{Absent, Accepted, Answer, At, Estimated, Gone, Header, Lengths, NoPath, Refusal, Refused, Target}
+use Rattle.model.specs.Types.{Absent, Accepted, Answer, At, Estimated, Gone, Header, NoPath, Refusal, Refused, Target}
 use Rattle.model.specs.Bytes.{wordAt}
 use Rattle.model.specs.Card.{Rows, Written, writeCard, writeRefusal}
 use Rattle.model.specs.State.{Areas, Lent, State, Step, prepare}
@@ -132,20 +132,21 @@ lentTo (aimCall j) = nothing
 lentTo (estimateCall j) = nothing
 lentTo (goCall j l) = l
 
--- a card of so many bytes, with a header of these numbers and areas of these lengths
-pub record Unfit : Type 0 where
+-- calls that are each made on the same card and state
+pub record Calling : Type 0 where
   pub card : List ℕ
   pub state : State
+  pub calls : List Call
 
-unfoldable pub answers : List Call → Unfit → List Step
+unfoldable pub answers : Calling → List Step
 unfolding setStep aimStep estimateStep goStep
-answers calls u = map (λ (c : Call). step (u .card) (u .state) c) calls
+answers g = map (λ (c : Call). step (g .card) (g .state) c) (g .calls)
 
--- each of the calls is refused by question 9 and leaves everything as it was
-abbrev pub unfit : List Call → (n m pairs : ℕ) → Target → (bytes ranks pairs live down estimates elapsed : ℕ) → Case Unfit (List Step)
-unfit calls n m k z b r p l d e t =
+-- Each is refused and leaves everything as it was: a card of so many bytes, a header of these numbers, areas of these lengths.
+abbrev pub refused : Refusal → List Call → (n m pairs : ℕ) → Target → (bytes ranks pairs live down estimates elapsed : ℕ) → Case Calling (List Step)
+refused q calls n m k z b r p l d e t =
     let s : State = record { header = headerOf n m k z; areas = areasOf 7 r p l d e t } in
-    record { card = replicate b 7; state = s } ⇒ map (λ (c : Call). record { answer = Refused Lengths; state = s; lent = lentTo c }) calls
+    record { card = replicate b 7; state = s; calls = calls } ⇒ map (λ (c : Call). record { answer = Refused q; state = s; lent = lentTo c }) calls
 
 -- ---- scripts
 
