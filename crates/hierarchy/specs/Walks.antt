@@ -46,10 +46,11 @@ answer x = cond (eqb x unasked) noneWord x
 abbrev pub Ascending : List ℕ → ℕ → Type 0
 Ascending pairs count = (i k : ℕ) → i ≤ k → k < count → lowIn pairs i ≤ lowIn pairs k
 
--- s is the place of the first record whose low is not below r, if the records ascend
+-- s is the place of the first record whose low is not below r, if the records ascend; the number of records, if there is none
 pub record Starts (pairs : List ℕ) (count r s : ℕ) : Type 0 where
   pub bound : s ≤ count
   pub before : Ascending pairs count → (i : ℕ) → i < s → lowIn pairs i < r
+  pub onward : Ascending pairs count → (i : ℕ) → s ≤ i → i < count → r ≤ lowIn pairs i
 
 -- ---- a map of n junctions, as the order and the records hold it
 
