@@ -1,4 +1,4 @@
--- How the cases are written. The definitions under test occur only in `played`, `writes`, `prepares` and `answers`. Definitions only.
+-- How the cases are written. Of the definitions under test it cites the types, and functions only in `writes`, `prepares`, `answers` and `played`. Definitions only.
 use mathlib.Core.Path.{_≡_}
 use mathlib.Core.Bool.{Bool}
 use mathlib.Core.List.{List, [], _++_, _∷_, map}
@@ -23,7 +23,7 @@ abbrev pub ∞ : ℕ
 abbrev pub □ : ℕ
 □ = 4294967294
 
--- a road: tail – head – base time
+-- a road as document 01 writes it: tail – head – base time
 infix 70 _–_–_
 abbrev pub _–_–_ : ℕ → ℕ → ℕ → List ℕ
 a – b – t = a ∷ b ∷ t ∷ []
@@ -42,7 +42,7 @@ bytes [] = []
 bytes (w ∷ l) = w % 256 ∷ w / 256 % 256 ∷ w / 65536 % 256 ∷ w / 16777216 ∷ bytes l
 
 -- the table of contents for bodies of so many bytes
-abbrev pub contents : (roads order : ℕ) → List ℕ
+abbrev contents : (roads order : ℕ) → List ℕ
 contents a b = bytes (2 ∷ 1 ∷ 28 ∷ a ∷ 2 ∷ (28 + a) ∷ b ∷ [])
 
 abbrev pub card : (roads : List (List ℕ)) (order : List ℕ) → List ℕ
@@ -66,11 +66,13 @@ infix 68 _⇒_
 abbrev pub _⇒_ : {A B : Type 0} → A → B → Case A B
 a ⇒ b = record { given = a; due = b }
 
-abbrev pub same : Bool → Bool
-same b = b
-
+-- what f answers to each that is given is what is due
 abbrev pub Agree : {A B : Type 0} → (A → B) → List (Case A B) → Type 0
 Agree {A} {B} f l = map (λ (c : Case A B). f (c .given)) l ≡ map (λ (c : Case A B). c .due) l
+
+-- for a test that stands written out as what is given
+abbrev pub same : Bool → Bool
+same b = b
 
 -- rows to write into an area
 pub record Writing : Type 0 where
