@@ -10,8 +10,9 @@ ghost use Rattle.model.specs.Bytes.{listed, wordAt};
 ghost use Rattle.model.specs.Card.{mapOn};
 ghost use Rattle.model.specs.State.{lengthsFit, noneLent, question9, zeroed};
 ghost use Rattle.model.specs.Calls.{goAnswer, settable};
-ghost use Rattle.model.specs.Contracts.{AimContract, EstimateContract, GoContract, PrepareContract, SetContract, after, areasOf};
+ghost use Rattle.model.specs.Contracts.{AimContract, EstimateContract, GoContract, PrepareContract, SetContract, after, areasOf, before};
 ghost use Rattle.unit.specs.Preparing.{Accepts, roomed};
+ghost use Rattle.unit.specs.Calls.{Called};
 ghost use Rattle.unit.specs.Shape.{answerIn, answeredIn, headerIn, lentOf};
 use card::Reading;
 use contraction::Contracted;
@@ -31,6 +32,14 @@ pub struct Header {
     pub m: u32,
     pub pairs: u32,
     pub target: Target,
+}
+
+// One of the four calls with its arguments.
+pub enum Call {
+    Set(u32, Time),
+    Aim(Junction),
+    Estimate(Junction),
+    Go(Junction),
 }
 
 // What preparing and the four calls answer. `Gone` has total, count and number of roads.
@@ -557,6 +566,63 @@ impl Header {
                 );
                 gone(self, found.total, found.count, found.roads)
             }
+        }
+    }
+    // Any of the four calls. Route and log are go's; the others leave them as they are.
+    pub fn call(
+        self,
+        card: &[u8],
+        ranks: &[u32],
+        pairs: &[u32],
+        live: &mut [u32],
+        down: &mut [u32],
+        estimates: &mut [u32],
+        elapsed: &mut [u32],
+        route: &mut [u32],
+        log: &mut [u32],
+        call: Call,
+    ) -> Answered
+        ensures { λ r. ⌜ Called (now (card .entry))
+            (before (headerIn self) (areasOf (now (ranks .entry)) (now (pairs .entry)) (now (live .entry)) (now (down .entry)) (now (estimates .entry)) (now (elapsed .entry))))
+            (lentOf (now (route .entry)) (now (log .entry))) call (answeredIn r)
+            (areasOf (now (ranks .entry)) (now (pairs .entry)) (now (live .exit)) (now (down .exit)) (now (estimates .exit)) (now (elapsed .exit)))
+            (lentOf (now (route .exit)) (now (log .exit))) ⌝ }
+    {
+        match call {
+            Call::Set(road, time) => self.set(
+                card,
+                ranks,
+                pairs,
+                live,
+                down,
+                estimates,
+                elapsed,
+                road,
+                time,
+            ),
+            Call::Aim(j) => self.aim(card, ranks, pairs, live, down, estimates, elapsed, j),
+            Call::Estimate(j) => self.estimate(
+                card,
+                ranks,
+                pairs,
+                live,
+                down,
+                estimates,
+                elapsed,
+                j,
+            ),
+            Call::Go(start) => self.go(
+                card,
+                ranks,
+                pairs,
+                live,
+                down,
+                estimates,
+                elapsed,
+                route,
+                log,
+                start,
+            ),
         }
     }
 }
