@@ -39,3 +39,21 @@ placeOf model.NoJunction = 0
 placeOf model.NoTarget = 0
 placeOf model.LentLengths = 0
 placeOf (model.NoPath c) = 0
+
+-- the count that refusal 15 carries; 0 with any other
+abbrev pub countOf : model.Refusal → ℕ
+countOf model.Short = 0
+countOf model.Kinds = 0
+countOf model.Starts = 0
+countOf model.Sizes = 0
+countOf (model.Road i) = 0
+countOf (model.Place i) = 0
+countOf model.AreaLengths = 0
+countOf model.Room = 0
+countOf model.Lengths = 0
+countOf model.NoRoad = 0
+countOf model.NotAllowed = 0
+countOf model.NoJunction = 0
+countOf model.NoTarget = 0
+countOf model.LentLengths = 0
+countOf (model.NoPath c) = c

@@ -10,7 +10,7 @@ ghost use Rattle.model.specs.Word.{noneWord, ofWord, unasked, word};
 ghost use Rattle.model.specs.Bytes.{bytesOf, wordAt};
 ghost use Rattle.model.specs.Card.{question};
 ghost use Rattle.network.specs.Width.{fit};
-ghost use Rattle.network.specs.Refusals.{placeOf, refusalIn};
+ghost use Rattle.network.specs.Refusals.{countOf, placeOf, refusalIn};
 
 // The number of a junction (a vertex).
 pub struct Junction(pub u32);
@@ -154,6 +154,29 @@ pub fn place_of(q: Refusal) -> u32
         Refusal::NoTarget => 0,
         Refusal::LentLengths => 0,
         Refusal::NoPath(_) => 0,
+    }
+}
+
+// The count that refusal 15 carries; 0 for any other.
+pub fn count_of(q: Refusal) -> u32
+    ensures { λ r. ⌜ r ≡ countOf (refusalIn q) ⌝ }
+{
+    match q {
+        Refusal::Short => 0,
+        Refusal::Kinds => 0,
+        Refusal::Starts => 0,
+        Refusal::Sizes => 0,
+        Refusal::Road(_) => 0,
+        Refusal::Place(_) => 0,
+        Refusal::AreaLengths => 0,
+        Refusal::Room => 0,
+        Refusal::Lengths => 0,
+        Refusal::NoRoad => 0,
+        Refusal::NotAllowed => 0,
+        Refusal::NoJunction => 0,
+        Refusal::NoTarget => 0,
+        Refusal::LentLengths => 0,
+        Refusal::NoPath(c) => c,
     }
 }
 
