@@ -13,10 +13,9 @@ ghost use Rattle.graph.specs.Map.{rank};
 ghost use Rattle.model.specs.Word.{ofWord};
 ghost use Rattle.model.specs.Words.{listed, wordAt};
 ghost use Rattle.network.specs.Bodies.{Sound, mapIn};
-ghost use Rattle.contraction.specs.Links.{Linked, Ranked, netIn, rowOf};
-ghost use Rattle.contraction.specs.Rows.{Relaxed, RoadRelaxed, Row, RowTimes, Stage};
+ghost use Rattle.contraction.specs.Links.{Grouped, Linked, Ranked, netIn, rowOf};
+ghost use Rattle.contraction.specs.Rows.{Over, Relaxed, RoadRelaxed, Row, RowTimes, Stage};
 ghost use Rattle.contraction.specs.Contraction.{Appended, Contraction, Ready, RowDone};
-use network::Junction;
 use network::Rank;
 use network::Time;
 
@@ -89,7 +88,7 @@ fn relax_road(roads: &[u8], ranks: &[u32], i: usize, ups: &mut [u32], downs: &mu
     }
 }
 
-// The times of single roads between r and the ranks above it.
+// The times of single roads between r and the ranks above it, from the last road of the row down.
 fn relax_roads(
     roads: &[u8],
     ranks: &[u32],
@@ -99,7 +98,7 @@ fn relax_roads(
     ups: &mut [u32],
     downs: &mut [u32],
 )
-    requires { ⌜ Ranked (now roads) (now ranks) × Linked (netIn (now roads) (now ranks)) (length (now ranks)) (length (now roads) / 12) (now first) (now next) × (r .0 < length (now ranks)) × (length (now ranks) ≤ length (now first)) × (length (now roads) / 12 ≤ length (now next)) × (length (now ranks) ≤ length (now ups)) × (length (now ranks) ≤ length (now downs)) × Row (r .0) (length (now ranks)) (now ups) (λ h. none) × Row (r .0) (length (now ranks)) (now downs) (λ h. none) ⌝ }
+    requires { ⌜ Grouped (now roads) (now ranks) (now first) (now next) × (r .0 < length (now ranks)) × Row (r .0) (length (now ranks)) (now ups) (λ h. none) × Row (r .0) (length (now ranks)) (now downs) (λ h. none) ⌝ }
     ensures { λ _. ⌜ Row (r .0) (length (now (ranks .entry))) (now (ups .exit)) (λ h. direct (netIn (now (roads .entry)) (now (ranks .entry))) (r .0) h) × Row (r .0) (length (now (ranks .entry))) (now (downs .exit)) (λ h. direct (netIn (now (roads .entry)) (now (ranks .entry))) h (r .0)) ⌝ }
 {
     let mut c = first[r.0 as usize];
@@ -112,6 +111,13 @@ fn relax_roads(
 
 // ---- the pairs of the lower ranks
 
+// The words of a record: the rank of its low, of its high, its up time and its down time.
+const HIGH: usize = 1;
+
+const UP: usize = 2;
+
+const DOWN: usize = 3;
+
 // The records from `from` to before `to` relax a row of times: each the entry of its high, by `time` and its own time at word `at`.
 fn relax_row(pairs: &[u32], from: u32, to: u32, at: usize, time: Time, row: &mut [u32])
     requires { ⌜ (from ≤ to) × (4 * to ≤ length (now pairs)) × (at < 4) × ((i : ℕ) → from ≤ i → i < to → getD (now pairs) (4 * i + 1) 0 < length (now row)) ⌝ }
@@ -120,12 +126,22 @@ fn relax_row(pairs: &[u32], from: u32, to: u32, at: usize, time: Time, row: &mut
     let mut i = from;
     while i < to {
         let k = 4 * (i as usize);
-        let h = pairs[k + 1] as usize;
+        let h = pairs[k + HIGH] as usize;
         row[h] = Time::of_word(row[h])
             .or_sum(time, Time::of_word(pairs[k + at]))
             .word();
         i += 1;
     }
+}
+
+// The paths over the low of record i, between its high and those of the records after it, relax both rows.
+fn relax_over(pairs: &[u32], i: u32, end: u32, ups: &mut [u32], downs: &mut [u32])
+    requires { ⌜ (i < end) × (4 * end ≤ length (now pairs)) × ((j : ℕ) → i + 1 ≤ j → j < end → getD (now pairs) (4 * j + 1) 0 < length (now ups)) × ((j : ℕ) → i + 1 ≤ j → j < end → getD (now pairs) (4 * j + 1) 0 < length (now downs)) ⌝ }
+    ensures { λ _. ⌜ Over (now (pairs .entry)) i end (now (ups .entry)) (now (downs .entry)) (now (ups .exit)) (now (downs .exit)) ⌝ }
+{
+    let k = 4 * (i as usize);
+    relax_row(pairs, i + 1, end, UP, Time::of_word(pairs[k + DOWN]), ups);
+    relax_row(pairs, i + 1, end, DOWN, Time::of_word(pairs[k + UP]), downs);
 }
 
 // The high of record i; n where it is past the last of its row.
@@ -134,13 +150,13 @@ fn ahead_at(pairs: &[u32], i: u32, end: u32, n: u32) -> u32
     ensures { λ r. ⌜ r ≡ cond (ltb i end) (getD (now (pairs .entry)) (4 * i + 1) 0) n ⌝ }
 {
     if i < end {
-        pairs[4 * (i as usize) + 1]
+        pairs[4 * (i as usize) + HIGH]
     } else {
         n
     }
 }
 
-// The pairs of v with r and with the ranks above it relax the row of r; the row of v is passed up to r.
+// The lower rank v has a pair with r: the row of r is relaxed over v, and v's row is passed up to r.
 fn pass_rank(
     pairs: &[u32],
     n: u32,
@@ -152,20 +168,18 @@ fn pass_rank(
     ups: &mut [u32],
     downs: &mut [u32],
 )
-    requires { ⌜ ((w : Weights) × Stage w n (r .0) (v .0) (now pairs) (now cursor) (now ahead) (now ends) (now ups) (now downs)) × (v .0 < r .0) × (r .0 < n) × (getD (now ahead) (v .0) 0 ≡ r .0) × (n ≤ length (now cursor)) × (n ≤ length (now ahead)) × (n ≤ length (now ends)) × (n ≤ length (now ups)) × (n ≤ length (now downs)) × (length (now pairs) ≤ 262144) ⌝ }
+    requires { ⌜ ((w : Weights) × Stage w n (r .0) (v .0) (now pairs) (now cursor) (now ahead) (now ends) (now ups) (now downs)) × (v .0 < r .0) × (getD (now ahead) (v .0) 0 ≡ r .0) ⌝ }
     ensures { λ _. ⌜ ((w : Weights) → Stage w n (r .0) (v .0) (now (pairs .entry)) (now (cursor .entry)) (now (ahead .entry)) (now (ends .entry)) (now (ups .entry)) (now (downs .entry)) → Stage w n (r .0) (v .0 + 1) (now (pairs .entry)) (now (cursor .exit)) (now (ahead .exit)) (now (ends .entry)) (now (ups .exit)) (now (downs .exit))) ⌝ }
 {
     let k = v.0 as usize;
     let i = cursor[k];
     let end = ends[k];
-    let at = 4 * (i as usize);
-    relax_row(pairs, i + 1, end, 2, Time::of_word(pairs[at + 3]), ups);
-    relax_row(pairs, i + 1, end, 3, Time::of_word(pairs[at + 2]), downs);
+    relax_over(pairs, i, end, ups, downs);
     cursor[k] = i + 1;
     ahead[k] = ahead_at(pairs, i + 1, end, n);
 }
 
-// The pairs of all ranks below r relax the row of r.
+// The row of r is relaxed over all lower ranks.
 fn pass_lower(
     pairs: &[u32],
     n: u32,
@@ -176,7 +190,7 @@ fn pass_lower(
     ups: &mut [u32],
     downs: &mut [u32],
 )
-    requires { ⌜ ((w : Weights) × Stage w n (r .0) 0 (now pairs) (now cursor) (now ahead) (now ends) (now ups) (now downs)) × (r .0 < n) × (n ≤ length (now cursor)) × (n ≤ length (now ahead)) × (n ≤ length (now ends)) × (n ≤ length (now ups)) × (n ≤ length (now downs)) × (length (now pairs) ≤ 262144) ⌝ }
+    requires { ⌜ ((w : Weights) × Stage w n (r .0) 0 (now pairs) (now cursor) (now ahead) (now ends) (now ups) (now downs)) ⌝ }
     ensures { λ _. ⌜ ((w : Weights) → Stage w n (r .0) 0 (now (pairs .entry)) (now (cursor .entry)) (now (ahead .entry)) (now (ends .entry)) (now (ups .entry)) (now (downs .entry)) → Stage w n (r .0) (r .0) (now (pairs .entry)) (now (cursor .exit)) (now (ahead .exit)) (now (ends .entry)) (now (ups .exit)) (now (downs .exit))) ⌝ }
 {
     let mut v: u32 = 0;
@@ -208,9 +222,9 @@ fn put_record(pairs: &mut [u32], k: u32, low: Rank, high: Rank, up: Time, down: 
 {
     let i = 4 * (k as usize);
     pairs[i] = low.0;
-    pairs[i + 1] = high.0;
-    pairs[i + 2] = up.0;
-    pairs[i + 3] = down.0;
+    pairs[i + HIGH] = high.0;
+    pairs[i + UP] = up.0;
+    pairs[i + DOWN] = down.0;
 }
 
 // Appends the records of the kept pairs of r, in ascending order of their highs.
@@ -243,7 +257,7 @@ fn append_row(
     Contracted::Kept(k)
 }
 
-// The row of r: its times from the roads and from the lower ranks, its records, and the front of its own row.
+// The row of r: its times from the roads and over the lower ranks, its records, and the front of its own row.
 fn contract_row(
     roads: &[u8],
     ranks: &[u32],
@@ -256,7 +270,7 @@ fn contract_row(
     ends: &mut [u32],
     pairs: &mut [u32],
 ) -> Contracted
-    requires { ⌜ Ranked (now roads) (now ranks) × Linked (netIn (now roads) (now ranks)) (length (now ranks)) (length (now roads) / 12) (now first) (now next) × Ready (direct (netIn (now roads) (now ranks))) (length (now ranks)) (r .0) count (now pairs) (now cursor) (now ahead) (now ends) × (r .0 < length (now ranks)) × (length (now ranks) ≤ 4096) × (length (now ranks) ≤ length (now first)) × (length (now roads) / 12 ≤ length (now next)) × (length (now ranks) ≤ length (now cursor)) × (length (now ranks) ≤ length (now ahead)) × (length (now ranks) ≤ length (now ends)) × (length (now pairs) ≤ 262144) ⌝ }
+    requires { ⌜ Grouped (now roads) (now ranks) (now first) (now next) × Ready (direct (netIn (now roads) (now ranks))) (length (now ranks)) (r .0) count (now pairs) (now cursor) (now ahead) (now ends) × (r .0 < length (now ranks)) × (length (now ranks) ≤ 4096) ⌝ }
     ensures { λ z. ⌜ RowDone (direct (netIn (now (roads .entry)) (now (ranks .entry)))) (length (now (ranks .entry))) (r .0) (now (pairs .exit)) (now (cursor .exit)) (now (ahead .exit)) (now (ends .exit)) z ⌝ }
 {
     let n = ranks.len() as u32;
