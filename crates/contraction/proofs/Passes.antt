@@ -1,28 +1,27 @@
 -- The pairs of the lower ranks pass over the row of r. Assumes nothing.
-use mathlib.Core.Path.{_∙_, _≡_, ap, ap₂, refl, sym}
+use mathlib.Core.Path.{_∙_, _≡_, ap, ap₂, sym}
 use mathlib.Core.Logic.{inl, inr}
 use mathlib.Core.Bool.{cond, false, true}
-use mathlib.Core.Option.{none, some}
+use mathlib.Core.Option.{none}
 use mathlib.Core.List.{List, [], _∷_}
 use Prim.Native.Nat.{_*_, _+_, _-_, _<_, _≤_, min, suc, ℕ}
 use borrow.Author.Tests.{eq-eqb, le-ltb, lt-ltb, ne-eqb}
 use lib.Dec.{eqb, ltb}
-use lib.ListN.{List·getD-eq-default, drop, getD, length, length-append, length-drop, length-set, set, take}
+use lib.ListN.{List·getD-eq-default, getD, length, length-append, length-drop, length-set, set, take}
 use lib.Seq.{getD-drop, getD-set-other, getD-set-same, take-all}
 use native.Mathlib.Decide.{decLt, ℕ-discrete}
 use native.Mathlib.Numerals.{add-one}
 use native.Mathlib.Omega.{arith}
-use Rattle.graph.specs.Total.{Tested, Total, _⊓_, _⊕_, cond-no, cond-yes, decide, true-false, ⊓-assoc, ⊓-none}
+use Rattle.graph.specs.Total.{Tested, Total, _⊓_, _⊕_, cond-no, cond-yes, decide, ⊓-assoc, ⊓-none}
 use Rattle.graph.specs.Path.{Weights}
 use Rattle.graph.specs.Level.{level}
 use Rattle.graph.specs.Pairs.{down, up}
 use Rattle.graph.specs.Records.{Pair, begins-length, edge, exists, minOver, minOver-take, pairOf, row, row-ahead, row-at, row-begins, row-blank, row-kept, row-place, rows, rows-at, rows-length}
 use Rattle.graph.specs.Folds.{later, over-blank, over-downs, over-ups, through}
-use Rattle.model.specs.Word.{noneWord, ofWord, ofWord-word, word}
-use Rattle.model.specs.State.{unasked}
+use Rattle.model.specs.Word.{ofWord, ofWord-word, word}
 use Rattle.model.specs.Use.{RecordAt}
 use Rattle.network.specs.Width.{fit, fit-min}
-use Rattle.contraction.specs.Rows.{Front, Narrow, Over, Relaxed, Row, Stage, Times}
+use Rattle.contraction.specs.Rows.{Front, Over, Relaxed, Row, Stage, Times}
 use Rattle.contraction.proofs.Entries.{row-same, row-set}
 use Rattle.contraction.proofs.Stored.{holds-at}
 

@@ -8,11 +8,11 @@ use borrow.Author.Tests.{eq-eqb, eqb-false, eqb-true, ne-eqb}
 use lib.Dec.{eqb}
 use lib.ListN.{getD, length, set}
 use lib.Seq.{getD-set-other, getD-set-same}
-use native.Mathlib.Decide.{decLt, ℕ-discrete}
+use native.Mathlib.Decide.{ℕ-discrete}
 use native.Mathlib.Nat.{not-suc-le-zero}
 use native.Mathlib.Numerals.{add-one}
 use native.Mathlib.Omega.{arith}
-use Rattle.graph.specs.Total.{Tested, Total, _⊓_, cond-same, cond-yes, decide, ⊓-assoc, ⊓-comm, ⊓-none}
+use Rattle.graph.specs.Total.{Total, _⊓_, cond-same, ⊓-assoc, ⊓-comm, ⊓-none}
 use Rattle.graph.specs.Least.{minBelow, minBelow-skip}
 use Rattle.graph.specs.Network.{Network, costBetween, direct}
 use Rattle.model.specs.Word.{word}

@@ -20,7 +20,7 @@ use Rattle.graph.specs.Pairs.{down, down-at, up, up-at}
 use Rattle.graph.specs.Records.{Pair, begins-length, edge, row, row-low, rows, rows-at, rows-begins}
 use Rattle.graph.specs.Bound.{CostsAtMost, down-bound, totals-fit, up-bound}
 use Rattle.graph.specs.Ranks.{rank-below, ranks-rename, renamed, renamed-inside}
-use Rattle.graph.specs.Map.{Map, pairsOf, rank, weights}
+use Rattle.graph.specs.Map.{pairsOf, rank, weights}
 use Rattle.model.specs.Word.{noneWord}
 use Rattle.model.specs.Words.{listed, wordAt}
 use Rattle.model.specs.State.{words}

@@ -33,7 +33,7 @@ pub record Holds (l : List Pair) (count : ℕ) (pairs : List ℕ) : Type 0 where
   pub room : 4 * count ≤ length pairs
   pub words-are : take (4 * count) pairs ≡ words l
 
--- ---- a road relaxes the times of its row
+-- ---- a road relaxes the times of its row: upwards to its head, or downwards from its tail
 
 pub record RoadRelaxed (N : Network) (n i : ℕ) (ups downs ups′ downs′ : List ℕ) : Type 0 where
   pub ups-by : (x : ℕ → Total) → Row (rowOf N i) n ups x → Row (rowOf N i) n ups′ (λ h. x h ⊓ costBetween N (rowOf N i) h i)
@@ -64,6 +64,7 @@ pub record Front (w : Weights) (n v s : ℕ) (cursor ahead ends : List ℕ) : Ty
   pub ahead-is : getD ahead v 0 ≡ getD (row w v n) (length (row w v s)) (edge n) .high
   pub end-is : getD ends v 0 ≡ length (rows w n v) + length (row w v n)
 
+-- each of n ranks has its front
 pub record Wide (n : ℕ) (cursor ahead ends : List ℕ) : Type 0 where
   pub cursors : n ≤ length cursor
   pub aheads : n ≤ length ahead

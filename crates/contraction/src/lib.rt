@@ -1,9 +1,14 @@
-// Preparing's part of the hierarchy: ranks from the order, and the pairs by contraction in that order.
+// Preparing's part of the hierarchy: ranks from the order, and the pairs by contraction in that order, with no witness test.
+//
+// The pairs of the ranks are made row by row, the low ascending. A row of r begins with the roads between r and the ranks above it, which are linked
+// by the lower of their ranks. Then each lower rank v that has a pair with r gives the paths over v, from r to the highs of v's later pairs and back.
+// A front for each v, which moves along v's records as r ascends, says whether v has a pair with r. The work is in the pairs, the triangles of pairs,
+// and the square of the number of ranks.
 ghost use mathlib.Core.Path.{_≡_};
 ghost use mathlib.Core.Bool.{cond};
 ghost use mathlib.Core.Option.{none};
 ghost use mathlib.Core.List.{[], List, _++_, _∷_};
-ghost use Prim.Native.Nat.{_%_, _*_, _+_, _-_, _<_, _≤_, _/_, min, ℕ};
+ghost use Prim.Native.Nat.{_*_, _+_, _-_, _<_, _≤_, _/_, min, ℕ};
 ghost use lib.Dec.{ltb};
 ghost use lib.ListN.{drop, getD, length, replicate, take};
 ghost use Rattle.graph.specs.Path.{Weights};
@@ -11,7 +16,7 @@ ghost use Rattle.graph.specs.Network.{direct};
 ghost use Rattle.graph.specs.Records.{exists, rows};
 ghost use Rattle.graph.specs.Map.{rank};
 ghost use Rattle.model.specs.Word.{ofWord};
-ghost use Rattle.model.specs.Words.{listed, wordAt};
+ghost use Rattle.model.specs.Words.{listed};
 ghost use Rattle.network.specs.Bodies.{Sound, mapIn};
 ghost use Rattle.contraction.specs.Links.{Grouped, Linked, Ranked, netIn, rowOf};
 ghost use Rattle.contraction.specs.Rows.{Over, Relaxed, RoadRelaxed, Row, RowTimes, Stage};
@@ -52,7 +57,10 @@ fn row_of(roads: &[u8], ranks: &[u32], i: usize) -> Rank
 
 // Links the roads of each row, the last one first.
 fn link_roads(roads: &[u8], ranks: &[u32], first: &mut [u32], next: &mut [u32])
-    requires { ⌜ Ranked (now roads) (now ranks) × (length (now ranks) ≤ length (now first)) × (length (now roads) / 12 ≤ length (now next)) × ((r : ℕ) → r < length (now ranks) → getD (now first) r 0 ≡ 0) ⌝ }
+    requires { ⌜ Ranked (now roads) (now ranks)
+        × (length (now ranks) ≤ length (now first))
+        × (length (now roads) / 12 ≤ length (now next))
+        × ((r : ℕ) → r < length (now ranks) → getD (now first) r 0 ≡ 0) ⌝ }
     ensures { λ _. ⌜ Linked (netIn (now (roads .entry)) (now (ranks .entry))) (length (now (ranks .entry))) (length (now (roads .entry)) / 12) (now (first .exit)) (now (next .exit)) ⌝ }
 {
     let m = roads.len() / 12;
@@ -73,7 +81,10 @@ fn least(a: u32, b: u32) -> u32
 
 // Road i relaxes the times of its row: upwards to its head, or downwards from its tail.
 fn relax_road(roads: &[u8], ranks: &[u32], i: usize, ups: &mut [u32], downs: &mut [u32])
-    requires { ⌜ Ranked (now roads) (now ranks) × (i < length (now roads) / 12) × (length (now ranks) ≤ length (now ups)) × (length (now ranks) ≤ length (now downs)) ⌝ }
+    requires { ⌜ Ranked (now roads) (now ranks)
+        × (i < length (now roads) / 12)
+        × (length (now ranks) ≤ length (now ups))
+        × (length (now ranks) ≤ length (now downs)) ⌝ }
     ensures { λ _. ⌜ RoadRelaxed (netIn (now (roads .entry)) (now (ranks .entry))) (length (now (ranks .entry))) i (now (ups .entry)) (now (downs .entry)) (now (ups .exit)) (now (downs .exit)) ⌝ }
 {
     let a = network::rank_of(ranks, network::tail_of(roads, i)).0;
@@ -98,8 +109,12 @@ fn relax_roads(
     ups: &mut [u32],
     downs: &mut [u32],
 )
-    requires { ⌜ Grouped (now roads) (now ranks) (now first) (now next) × (r .0 < length (now ranks)) × Row (r .0) (length (now ranks)) (now ups) (λ h. none) × Row (r .0) (length (now ranks)) (now downs) (λ h. none) ⌝ }
-    ensures { λ _. ⌜ Row (r .0) (length (now (ranks .entry))) (now (ups .exit)) (λ h. direct (netIn (now (roads .entry)) (now (ranks .entry))) (r .0) h) × Row (r .0) (length (now (ranks .entry))) (now (downs .exit)) (λ h. direct (netIn (now (roads .entry)) (now (ranks .entry))) h (r .0)) ⌝ }
+    requires { ⌜ Grouped (now roads) (now ranks) (now first) (now next)
+        × (r .0 < length (now ranks))
+        × Row (r .0) (length (now ranks)) (now ups) (λ h. none)
+        × Row (r .0) (length (now ranks)) (now downs) (λ h. none) ⌝ }
+    ensures { λ _. ⌜ Row (r .0) (length (now (ranks .entry))) (now (ups .exit)) (λ h. direct (netIn (now (roads .entry)) (now (ranks .entry))) (r .0) h)
+        × Row (r .0) (length (now (ranks .entry))) (now (downs .exit)) (λ h. direct (netIn (now (roads .entry)) (now (ranks .entry))) h (r .0)) ⌝ }
 {
     let mut c = first[r.0 as usize];
     while c > 0 {
@@ -120,7 +135,10 @@ const DOWN: usize = 3;
 
 // The records from `from` to before `to` relax a row of times: each the entry of its high, by `time` and its own time at word `at`.
 fn relax_row(pairs: &[u32], from: u32, to: u32, at: usize, time: Time, row: &mut [u32])
-    requires { ⌜ (from ≤ to) × (4 * to ≤ length (now pairs)) × (at < 4) × ((i : ℕ) → from ≤ i → i < to → getD (now pairs) (4 * i + 1) 0 < length (now row)) ⌝ }
+    requires { ⌜ (from ≤ to)
+        × (4 * to ≤ length (now pairs))
+        × (at < 4)
+        × ((i : ℕ) → from ≤ i → i < to → getD (now pairs) (4 * i + 1) 0 < length (now row)) ⌝ }
     ensures { λ _. ⌜ Relaxed (now (pairs .entry)) from to at (time .0) (now (row .entry)) (now (row .exit)) ⌝ }
 {
     let mut i = from;
@@ -136,7 +154,10 @@ fn relax_row(pairs: &[u32], from: u32, to: u32, at: usize, time: Time, row: &mut
 
 // The paths over the low of record i, between its high and those of the records after it, relax both rows.
 fn relax_over(pairs: &[u32], i: u32, end: u32, ups: &mut [u32], downs: &mut [u32])
-    requires { ⌜ (i < end) × (4 * end ≤ length (now pairs)) × ((j : ℕ) → i + 1 ≤ j → j < end → getD (now pairs) (4 * j + 1) 0 < length (now ups)) × ((j : ℕ) → i + 1 ≤ j → j < end → getD (now pairs) (4 * j + 1) 0 < length (now downs)) ⌝ }
+    requires { ⌜ (i < end)
+        × (4 * end ≤ length (now pairs))
+        × ((j : ℕ) → i + 1 ≤ j → j < end → getD (now pairs) (4 * j + 1) 0 < length (now ups))
+        × ((j : ℕ) → i + 1 ≤ j → j < end → getD (now pairs) (4 * j + 1) 0 < length (now downs)) ⌝ }
     ensures { λ _. ⌜ Over (now (pairs .entry)) i end (now (ups .entry)) (now (downs .entry)) (now (ups .exit)) (now (downs .exit)) ⌝ }
 {
     let k = 4 * (i as usize);
@@ -168,8 +189,11 @@ fn pass_rank(
     ups: &mut [u32],
     downs: &mut [u32],
 )
-    requires { ⌜ ((w : Weights) × Stage w n (r .0) (v .0) (now pairs) (now cursor) (now ahead) (now ends) (now ups) (now downs)) × (v .0 < r .0) × (getD (now ahead) (v .0) 0 ≡ r .0) ⌝ }
-    ensures { λ _. ⌜ ((w : Weights) → Stage w n (r .0) (v .0) (now (pairs .entry)) (now (cursor .entry)) (now (ahead .entry)) (now (ends .entry)) (now (ups .entry)) (now (downs .entry)) → Stage w n (r .0) (v .0 + 1) (now (pairs .entry)) (now (cursor .exit)) (now (ahead .exit)) (now (ends .entry)) (now (ups .exit)) (now (downs .exit))) ⌝ }
+    requires { ⌜ ((w : Weights) × Stage w n (r .0) (v .0) (now pairs) (now cursor) (now ahead) (now ends) (now ups) (now downs))
+        × (v .0 < r .0)
+        × (getD (now ahead) (v .0) 0 ≡ r .0) ⌝ }
+    ensures { λ _. ⌜ ((w : Weights) → Stage w n (r .0) (v .0) (now (pairs .entry)) (now (cursor .entry)) (now (ahead .entry)) (now (ends .entry)) (now (ups .entry)) (now (downs .entry))
+        → Stage w n (r .0) (v .0 + 1) (now (pairs .entry)) (now (cursor .exit)) (now (ahead .exit)) (now (ends .entry)) (now (ups .exit)) (now (downs .exit))) ⌝ }
 {
     let k = v.0 as usize;
     let i = cursor[k];
@@ -191,7 +215,8 @@ fn pass_lower(
     downs: &mut [u32],
 )
     requires { ⌜ ((w : Weights) × Stage w n (r .0) 0 (now pairs) (now cursor) (now ahead) (now ends) (now ups) (now downs)) ⌝ }
-    ensures { λ _. ⌜ ((w : Weights) → Stage w n (r .0) 0 (now (pairs .entry)) (now (cursor .entry)) (now (ahead .entry)) (now (ends .entry)) (now (ups .entry)) (now (downs .entry)) → Stage w n (r .0) (r .0) (now (pairs .entry)) (now (cursor .exit)) (now (ahead .exit)) (now (ends .entry)) (now (ups .exit)) (now (downs .exit))) ⌝ }
+    ensures { λ _. ⌜ ((w : Weights) → Stage w n (r .0) 0 (now (pairs .entry)) (now (cursor .entry)) (now (ahead .entry)) (now (ends .entry)) (now (ups .entry)) (now (downs .entry))
+        → Stage w n (r .0) (r .0) (now (pairs .entry)) (now (cursor .exit)) (now (ahead .exit)) (now (ends .entry)) (now (ups .exit)) (now (downs .exit))) ⌝ }
 {
     let mut v: u32 = 0;
     while v < r.0 {
@@ -237,7 +262,8 @@ fn append_row(
     pairs: &mut [u32],
 ) -> Contracted
     requires { ⌜ (r .0 < n) × (n ≤ length (now ups)) × (n ≤ length (now downs)) × (4 * count ≤ length (now pairs)) × (length (now pairs) ≤ 262144) ⌝ }
-    ensures { λ z. ⌜ ((w : Weights) → RowTimes w n (r .0) count (now (ups .entry)) (now (downs .entry)) (now (pairs .entry)) → Appended (rows w n (r .0 + 1)) (now (pairs .exit)) z) ⌝ }
+    ensures { λ answer. ⌜ ((w : Weights) → RowTimes w n (r .0) count (now (ups .entry)) (now (downs .entry)) (now (pairs .entry))
+        → Appended (rows w n (r .0 + 1)) (now (pairs .exit)) answer) ⌝ }
 {
     let mut k = count;
     let mut h = r.0 + 1;
@@ -270,8 +296,11 @@ fn contract_row(
     ends: &mut [u32],
     pairs: &mut [u32],
 ) -> Contracted
-    requires { ⌜ Grouped (now roads) (now ranks) (now first) (now next) × Ready (direct (netIn (now roads) (now ranks))) (length (now ranks)) (r .0) count (now pairs) (now cursor) (now ahead) (now ends) × (r .0 < length (now ranks)) × (length (now ranks) ≤ 4096) ⌝ }
-    ensures { λ z. ⌜ RowDone (direct (netIn (now (roads .entry)) (now (ranks .entry)))) (length (now (ranks .entry))) (r .0) (now (pairs .exit)) (now (cursor .exit)) (now (ahead .exit)) (now (ends .exit)) z ⌝ }
+    requires { ⌜ Grouped (now roads) (now ranks) (now first) (now next)
+        × Ready (direct (netIn (now roads) (now ranks))) (length (now ranks)) (r .0) count (now pairs) (now cursor) (now ahead) (now ends)
+        × (r .0 < length (now ranks))
+        × (length (now ranks) ≤ 4096) ⌝ }
+    ensures { λ answer. ⌜ RowDone (direct (netIn (now (roads .entry)) (now (ranks .entry)))) (length (now (ranks .entry))) (r .0) (now (pairs .exit)) (now (cursor .exit)) (now (ahead .exit)) (now (ends .exit)) answer ⌝ }
 {
     let n = ranks.len() as u32;
     let mut ups = [Time::NONE.0; 4096];
@@ -304,8 +333,10 @@ fn clear_from(pairs: &mut [u32], k: usize)
 
 // The kept pairs, row by row: contraction in the given order, with no witness test.
 pub fn contract(roads: &[u8], order: &[u8], ranks: &[u32], pairs: &mut [u32]) -> Contracted
-    requires { ⌜ Sound (now roads) (now order) × (now ranks ≡ listed (mapIn (now roads) (now order) .vertices) (rank (mapIn (now roads) (now order)))) × (length (now pairs) ≤ 262144) ⌝ }
-    ensures { λ z. ⌜ Contraction (mapIn (now (roads .entry)) (now (order .entry))) (length (now (pairs .entry))) (now (pairs .exit)) z ⌝ }
+    requires { ⌜ Sound (now roads) (now order)
+        × (now ranks ≡ listed (mapIn (now roads) (now order) .vertices) (rank (mapIn (now roads) (now order))))
+        × (length (now pairs) ≤ 262144) ⌝ }
+    ensures { λ answer. ⌜ Contraction (mapIn (now (roads .entry)) (now (order .entry))) (length (now (pairs .entry))) (now (pairs .exit)) answer ⌝ }
 {
     let n = (order.len() / 4) as u32;
     let mut first = [0u32; 4096];

@@ -1,6 +1,6 @@
 use borrow.Author.Needs.{needs}
 use native.Mathlib.Omega.{arith}
-use Prim.Native.Nat.{_-_, _/_, _≤_, suc, ℕ}
+use Prim.Native.Nat.{_-_, _/_, _≤_, ℕ}
 use mathlib.Core.Path.{_≡_}
 use mathlib.Core.Option.{none}
 use lib.ListN.{length}
