@@ -1,27 +1,27 @@
 -- The pairs of the lower ranks pass over the row of r. Assumes nothing.
-use mathlib.Core.Path.{_∙_, _≡_, ap, ap₂, refl, sym}
+use mathlib.Core.Path.{_∙_, _≡_, ap, ap₂, sym}
 use mathlib.Core.Logic.{inl, inr}
 use mathlib.Core.Bool.{cond, false, true}
-use mathlib.Core.Option.{none, some}
+use mathlib.Core.Option.{none}
 use mathlib.Core.List.{List, [], _∷_}
 use Prim.Native.Nat.{_*_, _+_, _-_, _<_, _≤_, min, suc, ℕ}
 use borrow.Author.Tests.{eq-eqb, le-ltb, lt-ltb, ne-eqb}
 use lib.Dec.{eqb, ltb}
-use lib.ListN.{List·getD-eq-default, drop, getD, length, length-append, length-drop, set, take}
+use lib.ListN.{List·getD-eq-default, getD, length, length-append, length-drop, length-set, set, take}
 use lib.Seq.{getD-drop, getD-set-other, getD-set-same, take-all}
 use native.Mathlib.Decide.{decLt, ℕ-discrete}
 use native.Mathlib.Numerals.{add-one}
 use native.Mathlib.Omega.{arith}
-use Rattle.graph.specs.Total.{Tested, Total, _⊓_, _⊕_, cond-no, cond-yes, decide, true-false, ⊓-assoc, ⊓-none}
+use Rattle.graph.specs.Total.{Tested, Total, _⊓_, _⊕_, cond-no, cond-yes, decide, ⊓-assoc, ⊓-none}
 use Rattle.graph.specs.Path.{Weights}
 use Rattle.graph.specs.Level.{level}
 use Rattle.graph.specs.Pairs.{down, up}
 use Rattle.graph.specs.Records.{Pair, begins-length, edge, exists, minOver, minOver-take, pairOf, row, row-ahead, row-at, row-begins, row-blank, row-kept, row-place, rows, rows-at, rows-length}
 use Rattle.graph.specs.Folds.{later, over-blank, over-downs, over-ups, through}
-use Rattle.model.specs.Word.{noneWord, ofWord, ofWord-word, unasked, word}
+use Rattle.model.specs.Word.{ofWord, ofWord-word, word}
 use Rattle.model.specs.Use.{RecordAt}
 use Rattle.network.specs.Width.{fit, fit-min}
-use Rattle.contraction.specs.Rows.{Front, Narrow, Relaxed, Row, Stage, Times}
+use Rattle.contraction.specs.Rows.{Front, Over, Relaxed, Row, Stage, Times}
 use Rattle.contraction.proofs.Entries.{row-same, row-set}
 use Rattle.contraction.proofs.Stored.{holds-at}
 
@@ -29,25 +29,25 @@ use Rattle.contraction.proofs.Stored.{holds-at}
 
 -- the records before i have relaxed the row
 pub record Relaxing (pairs : List ℕ) (from to at first i : ℕ) (row row′ : List ℕ) : Type 0 where
-  pub by : (r n : ℕ) (l : List Pair) (time : Pair → Total) (x : ℕ → Total) → Times pairs from at time l → from + length l ≡ to → n ≤ length row
-      → Row r n row x → Row r n row′ (λ h. x h ⊓ minOver (through (ofWord first) time h) (take (i - from) l))
+  pub by : (r n : ℕ) (l : List Pair) (time : Pair → Total) (x : ℕ → Total) → Times pairs from at time l → from + length l ≡ to → Row r n row x
+      → Row r n row′ (λ h. x h ⊓ minOver (through (ofWord first) time h) (take (i - from) l))
 
 module _ (pairs : List ℕ) (from to at first : ℕ) (row₀ : List ℕ) where
   pub relaxing-start : Relaxing pairs from to at first from row₀ row₀
   relaxing-start = record {
-    by = λ r n l time x t e k w.
+    by = λ r n l time x t e w.
         let z : from - from ≡ 0 = omega arith in
         row-same (λ h. x h ⊓ minOver (through (ofWord first) time h) (take (from - from) l)) w (λ h rh hn. rw z (⊓-none (x h)));
   }
 
-  pub relaxing-turn : (i b v : ℕ) (row : List ℕ) → from ≤ i → i < to → length row ≡ length row₀ → b ≡ getD pairs (4 * i + 1) 0
+  pub relaxing-turn : (i b v : ℕ) (row : List ℕ) → from ≤ i → i < to → b ≡ getD pairs (4 * i + 1) 0
       → v ≡ min (getD row b 0) (word (fit (ofWord first ⊕ ofWord (getD pairs (4 * i + at) 0)))) → Relaxing pairs from to at first i row₀ row
       → Relaxing pairs from to at first (i + 1) row₀ (set row b v)
-  relaxing-turn i b v row fi it lr eb ev g = record { by = one }
+  relaxing-turn i b v row fi it eb ev g = record { by = one }
     where
-      one : (r n : ℕ) (l : List Pair) (time : Pair → Total) (x : ℕ → Total) → Times pairs from at time l → from + length l ≡ to → n ≤ length row₀
-          → Row r n row₀ x → Row r n (set row b v) (λ h. x h ⊓ minOver (through (ofWord first) time h) (take (i + 1 - from) l))
-      one r n l time x t e k w = row-set (λ h. x h ⊓ minOver (f h) (take (i + 1 - from) l)) b v (omega arith) old here there
+      one : (r n : ℕ) (l : List Pair) (time : Pair → Total) (x : ℕ → Total) → Times pairs from at time l → from + length l ≡ to → Row r n row₀ x
+          → Row r n (set row b v) (λ h. x h ⊓ minOver (through (ofWord first) time h) (take (i + 1 - from) l))
+      one r n l time x t e w = row-set (λ h. x h ⊓ minOver (f h) (take (i + 1 - from) l)) b v old here there
         where
           j : ℕ
           j = i - from
@@ -59,7 +59,7 @@ module _ (pairs : List ℕ) (from to at first : ℕ) (row₀ : List ℕ) where
           f h = through (ofWord first) time h
 
           old : Row r n row (λ h. x h ⊓ minOver (f h) (take (i - from) l))
-          old = g .by r n l time x t e k w
+          old = g .by r n l time x t e w
 
           high : b ≡ p .high
           high = let q : from + (i - from) ≡ i = omega arith in eb ∙ ap (λ (y : ℕ). getD pairs (4 * y + 1) 0) (sym q) ∙ t .high (i - from) (edge 0) (omega arith)
@@ -87,15 +87,19 @@ module _ (pairs : List ℕ) (from to at first : ℕ) (row₀ : List ℕ) where
 
   pub relaxing-end : (i : ℕ) (row : List ℕ) → i ≤ to → to ≤ i → Relaxing pairs from to at first i row₀ row → Relaxed pairs from to at first row₀ row
   relaxing-end i row h k g = record {
-    by = λ r n l time x t e m w.
-        row-same (λ h. x h ⊓ minOver (through (ofWord first) time h) l) (g .by r n l time x t e m w)
+    by = λ r n l time x t e w.
+        row-same (λ h. x h ⊓ minOver (through (ofWord first) time h) l) (g .by r n l time x t e w)
         (λ h rh hn. ap (λ (y : List Pair). x h ⊓ minOver (through (ofWord first) time h) y) (sym (take-all (i - from) l (omega arith))));
   }
+
+pub over : {pairs : List ℕ} {i end a b : ℕ} {ups downs ups′ downs′ : List ℕ} → a ≡ getD pairs (4 * i + 3) 0 → Relaxed pairs (i + 1) end 2 a ups ups′
+    → b ≡ getD pairs (4 * i + 2) 0 → Relaxed pairs (i + 1) end 3 b downs downs′ → Over pairs i end ups downs ups′ downs′
+over ea ru eb rd = record { ups-by = rw ea at ru; downs-by = rw eb at rd }
 
 -- ---- the row of a lower rank v, where its pair with r is kept
 
 pub record Meeting (w : Weights) (n r v i end : ℕ) (pairs : List ℕ) : Type 0 where
-  pub next-in : i + 1 ≤ end
+  pub next-in : i < end
   pub end-in : 4 * end ≤ length pairs
   pub first-up : ofWord (getD pairs (4 * i + 2) 0) ≡ up w v r
   pub first-down : ofWord (getD pairs (4 * i + 3) 0) ≡ down w v r
@@ -107,7 +111,10 @@ pub record Meeting (w : Weights) (n r v i end : ℕ) (pairs : List ℕ) : Type 0
   pub place-is : i + 1 ≡ length (rows w n v) + length (row w v (suc r))
   pub ahead-is : cond (ltb (i + 1) end) (getD pairs (4 * (i + 1) + 1) 0) n ≡ getD (row w v n) (length (row w v (suc r))) (edge n) .high
 
-module _ {w : Weights} {n r k : ℕ} {pairs cursor ahead ends ups downs : List ℕ} (s : Stage w n r k pairs cursor ahead ends ups downs) (v : ℕ) (kv : k ≤ v) (vr : v < r) (rn : r < n) where
+module _ {w : Weights} {n r k : ℕ} {pairs cursor ahead ends ups downs : List ℕ} (s : Stage w n r k pairs cursor ahead ends ups downs) (v : ℕ) (kv : k ≤ v) (vr : v < r) where
+  rn : r < n
+  rn = s .inside
+
   -- v's pair with r is kept, exactly if r is ahead
   kept : getD ahead v 0 ≡ r → exists (up w v r) (down w v r) ≡ true
   kept e = go (decide (exists (up w v r) (down w v r)))
@@ -136,6 +143,24 @@ module _ {w : Weights} {n r k : ℕ} {pairs cursor ahead ends ups downs : List �
 
   down-of : (h : ℕ) → h < n → ofWord (word (down w v h)) ≡ down w v h
   down-of h hn = ofWord-word (down w v h) (λ t e. let q = s .narrow .downs v h t (omega arith) hn e in omega (arith, q))
+
+  up-word : (p : Pair) (h x : ℕ) → p ≡ pairOf w v h → h < n → x ≡ word (p .upTime) → ofWord x ≡ p .upTime
+  up-word p h x e hn q = q′ ∙ up-of h hn ∙ sym u
+    where
+      u : p .upTime ≡ up w v h
+      u = ap (λ (p : Pair). p .upTime) e
+
+      q′ : ofWord x ≡ ofWord (word (up w v h))
+      q′ = ap ofWord (q ∙ ap word u)
+
+  down-word : (p : Pair) (h x : ℕ) → p ≡ pairOf w v h → h < n → x ≡ word (p .downTime) → ofWord x ≡ p .downTime
+  down-word p h x e hn q = q′ ∙ down-of h hn ∙ sym u
+    where
+      u : p .downTime ≡ down w v h
+      u = ap (λ (p : Pair). p .downTime) e
+
+      q′ : ofWord x ≡ ofWord (word (down w v h))
+      q′ = ap ofWord (q ∙ ap word u)
 
   module _ (e : getD ahead v 0 ≡ r) (i end : ℕ) (ei : i ≡ getD cursor v 0) (ee : end ≡ getD ends v 0) where
     size : length (row w v (suc r)) ≡ length (row w v r) + 1
@@ -184,6 +209,17 @@ module _ {w : Weights} {n r k : ℕ} {pairs cursor ahead ends ups downs : List �
             let q : getD (row w v n) (length (row w v (suc r))) (edge n) ≡ edge n = List·getD-eq-default (row w v n) (edge n) {n = length (row w v (suc r))} (omega (arith, next-is, end-is′)) in
             rw (le-ltb (i + 1) end (omega arith)) (sym (ap (λ (p : Pair). p .high) q))
 
+    later-below : (j : ℕ) → j < length (later w n v r) → getD pairs (4 * (i + 1 + j) + 1) 0 < n
+    later-below j l =
+        let a = later-pair j (edge n) l in
+        let b : getD (later w n v r) j (edge n) .high ≡ a .0 = ap (λ (p : Pair). p .high) (a .1) in
+        omega (arith, later-at j (edge n) l .high, b, a .2)
+
+    high-below : (j : ℕ) → i + 1 ≤ j → j < end → getD pairs (4 * j + 1) 0 < n
+    high-below j ij je =
+        let q : i + 1 + (j - (i + 1)) ≡ j = omega arith in
+        rw q at (later-below (j - (i + 1)) (omega (arith, next-is, end-is′, later-length)))
+
     pub meeting : Meeting w n r v i end pairs
     meeting = record {
       next-in = omega (arith, next-is, end-is′, within);
@@ -193,31 +229,28 @@ module _ {w : Weights} {n r k : ℕ} {pairs cursor ahead ends ups downs : List �
       end-is = omega (arith, next-is, end-is′, later-length, within);
       ups = record {
         high = λ j d l. later-at j d l .high;
-        at-word = λ j d l. let a = later-pair j d l in ap ofWord (later-at j d l .ups ∙ ap (λ (p : Pair). word (p .upTime)) (a .1)) ∙ up-of (a .0) (a .2) ∙ sym (ap (λ (p : Pair). p .upTime) (a .1));
+        at-word = λ j d l. let a = later-pair j d l in up-word (getD (later w n v r) j d) (a .0) (getD pairs (4 * (i + 1 + j) + 2) 0) (a .1) (a .2) (later-at j d l .ups);
       };
       downs = record {
         high = λ j d l. later-at j d l .high;
-        at-word = λ j d l. let a = later-pair j d l in ap ofWord (later-at j d l .downs ∙ ap (λ (p : Pair). word (p .downTime)) (a .1)) ∙ down-of (a .0) (a .2) ∙ sym (ap (λ (p : Pair). p .downTime) (a .1));
+        at-word = λ j d l. let a = later-pair j d l in down-word (getD (later w n v r) j d) (a .0) (getD pairs (4 * (i + 1 + j) + 3) 0) (a .1) (a .2) (later-at j d l .downs);
       };
-      highs = λ j ij je.
-          let l : j - (i + 1) < length (later w n v r) = omega (arith, next-is, end-is′, later-length) in
-          let a = later-pair (j - (i + 1)) (edge n) l in
-          let q : i + 1 + (j - (i + 1)) ≡ j = omega arith in
-          let b = rw q at (later-at (j - (i + 1)) (edge n) l .high) in
-          let c : getD (later w n v r) (j - (i + 1)) (edge n) .high ≡ a .0 = ap (λ (p : Pair). p .high) (a .1) in
-          omega (arith, b, c, a .2);
+      highs = high-below;
       place-is = next-is;
       ahead-is = front-ahead;
     }
 
 -- ---- the stages
 
-module _ {w : Weights} {n r v : ℕ} {pairs cursor ahead ends ups downs : List ℕ} (s : Stage w n r v pairs cursor ahead ends ups downs) (vr : v < r) (rn : r < n) where
+module _ {w : Weights} {n r v : ℕ} {pairs cursor ahead ends ups downs : List ℕ} (s : Stage w n r v pairs cursor ahead ends ups downs) (vr : v < r) where
   -- the pair of v with r is not kept
   pub stage-skip : (getD ahead v 0 ≡ r → ⊥) → Stage w n r (v + 1) pairs cursor ahead ends ups downs
   stage-skip ne =
-      let b = blank s v (omega arith) vr rn ne in
+      let b = blank s v (omega arith) vr ne in
       rw (add-one v) (record {
+        inside = s .inside;
+        wide = s .wide;
+        area = s .area;
         narrow = s .narrow;
         count = s .count;
         holds = s .holds;
@@ -229,7 +262,7 @@ module _ {w : Weights} {n r v : ℕ} {pairs cursor ahead ends ups downs : List �
     where
       front : (u : ℕ) → u < suc v → Dec (u ≡ v) → Front w n u (suc r) cursor ahead ends
       front u h (yes e) =
-          let b = row-blank w v r (blank s v (omega arith) vr rn ne) in
+          let b = row-blank w v r (blank s v (omega arith) vr ne) in
           let f = s .waiting v (omega arith) vr in
           rw e (record {
             cursor-is = f .cursor-is ∙ ap (λ (y : List Pair). length (rows w n v) + length y) (sym b);
@@ -239,21 +272,27 @@ module _ {w : Weights} {n r v : ℕ} {pairs cursor ahead ends ups downs : List �
       front u h (no e) = s .passed u (omega arith)
 
   -- it is kept, and v's row is passed
-  pub stage-pass : (i end x a b : ℕ) (ups′ downs′ : List ℕ) → Meeting w n r v i end pairs → n ≤ length cursor → n ≤ length ahead → n ≤ length ups → n ≤ length downs
-      → a ≡ getD pairs (4 * i + 3) 0 → Relaxed pairs (i + 1) end 2 a ups ups′ → b ≡ getD pairs (4 * i + 2) 0 → Relaxed pairs (i + 1) end 3 b downs downs′
+  pub stage-pass : (i end x : ℕ) (ups′ downs′ : List ℕ) → Meeting w n r v i end pairs → Over pairs i end ups downs ups′ downs′
       → x ≡ cond (ltb (i + 1) end) (getD pairs (4 * (i + 1) + 1) 0) n
       → Stage w n r (v + 1) pairs (set cursor v (i + 1)) (set ahead v x) ends ups′ downs′
-  stage-pass i end x a b ups′ downs′ m lc la lu ld ea ru eb rd ex =
+  stage-pass i end x ups′ downs′ m o ex =
       rw (add-one v) (record {
+        inside = s .inside;
+        wide = record {
+          cursors = omega (arith, s .wide .cursors, length-set cursor v (i + 1));
+          aheads = omega (arith, s .wide .aheads, length-set ahead v x);
+          ends-too = s .wide .ends-too;
+        };
+        area = s .area;
         narrow = s .narrow;
         count = s .count;
         holds = s .holds;
         passed = λ u h. front u h (ℕ-discrete u v);
         waiting = λ u h l. apart u (λ e. omega arith) (s .waiting u (omega arith) l);
-        ups-are = row-same (λ h. level w (suc v) r h) (ru .by r n (later w n v r) (λ p. p .upTime) (λ h. level w v r h) (m .ups) (m .end-is) lu (s .ups-are))
-            (λ h rh hn. over-ups w n v r h rh hn vr ∙ ap (λ (y : Total). level w v r h ⊓ minOver (through y (λ p. p .upTime) h) (later w n v r)) (sym (ap ofWord ea ∙ m .first-down)));
-        downs-are = row-same (λ h. level w (suc v) h r) (rd .by r n (later w n v r) (λ p. p .downTime) (λ h. level w v h r) (m .downs) (m .end-is) ld (s .downs-are))
-            (λ h rh hn. over-downs w n v r h rh hn vr ∙ ap (λ (y : Total). level w v h r ⊓ minOver (through y (λ p. p .downTime) h) (later w n v r)) (sym (ap ofWord eb ∙ m .first-up)));
+        ups-are = row-same (λ h. level w (suc v) r h) (o .ups-by .by r n (later w n v r) (λ p. p .upTime) (λ h. level w v r h) (m .ups) (m .end-is) (s .ups-are))
+            (λ h rh hn. over-ups w n v r h rh hn vr ∙ ap (λ (y : Total). level w v r h ⊓ minOver (through y (λ p. p .upTime) h) (later w n v r)) (sym (m .first-down)));
+        downs-are = row-same (λ h. level w (suc v) h r) (o .downs-by .by r n (later w n v r) (λ p. p .downTime) (λ h. level w v h r) (m .downs) (m .end-is) (s .downs-are))
+            (λ h rh hn. over-downs w n v r h rh hn vr ∙ ap (λ (y : Total). level w v h r ⊓ minOver (through y (λ p. p .downTime) h) (later w n v r)) (sym (m .first-up)));
       })
     where
       apart : {q : ℕ} (u : ℕ) → (u ≡ v → ⊥) → Front w n u q cursor ahead ends → Front w n u q (set cursor v (i + 1)) (set ahead v x) ends
@@ -265,8 +304,8 @@ module _ {w : Weights} {n r v : ℕ} {pairs cursor ahead ends ups downs : List �
 
       front : (u : ℕ) → u < suc v → Dec (u ≡ v) → Front w n u (suc r) (set cursor v (i + 1)) (set ahead v x) ends
       front u h (yes e) =
-          let c : v < length cursor = omega arith in
-          let a : v < length ahead = omega arith in
+          let c : v < length cursor = omega (arith, s .wide .cursors, s .inside) in
+          let a : v < length ahead = omega (arith, s .wide .aheads, s .inside) in
           rw e (record {
             cursor-is = getD-set-same cursor v (i + 1) 0 c ∙ m .place-is;
             ahead-is = getD-set-same ahead v x 0 a ∙ ex ∙ m .ahead-is;

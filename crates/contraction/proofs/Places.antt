@@ -1,12 +1,12 @@
 -- The area of ranks, filled in the order's sequence. Assumes nothing.
 use mathlib.Core.Path.{_∙_, _≡_, ap, sym}
 use mathlib.Core.List.{List}
-use Prim.Native.Nat.{_*_, _+_, _<_, _≤_, ℕ}
-use lib.ListN.{getD, length, length-set, set}
+use Prim.Native.Nat.{_*_, _+_, _<_, ℕ}
+use lib.ListN.{getD, length, set}
 use lib.Seq.{ext-getD, getD-set-other, getD-set-same}
 use native.Mathlib.Decide.{ℕ-discrete}
 use native.Mathlib.Omega.{arith}
-use Rattle.graph.specs.Map.{Map, rank}
+use Rattle.graph.specs.Map.{rank}
 use Rattle.graph.specs.Ranks.{Orders, rank-below, vertex-of-rank}
 use Rattle.model.specs.Bytes.{listed, wordAt}
 use Rattle.model.specs.Laws.{listed-at, listed-length}

@@ -8,11 +8,11 @@ use borrow.Author.Tests.{eq-eqb, eqb-false, eqb-true, ne-eqb}
 use lib.Dec.{eqb}
 use lib.ListN.{getD, length, set}
 use lib.Seq.{getD-set-other, getD-set-same}
-use native.Mathlib.Decide.{decLt, ℕ-discrete}
+use native.Mathlib.Decide.{ℕ-discrete}
 use native.Mathlib.Nat.{not-suc-le-zero}
 use native.Mathlib.Numerals.{add-one}
 use native.Mathlib.Omega.{arith}
-use Rattle.graph.specs.Total.{Tested, Total, _⊓_, cond-same, cond-yes, decide, ⊓-assoc, ⊓-comm, ⊓-none}
+use Rattle.graph.specs.Total.{Total, _⊓_, cond-same, ⊓-assoc, ⊓-comm, ⊓-none}
 use Rattle.graph.specs.Least.{minBelow, minBelow-skip}
 use Rattle.graph.specs.Network.{Network, costBetween, direct}
 use Rattle.model.specs.Word.{word}
@@ -132,24 +132,24 @@ module _ (N : Network) (n i a b t : ℕ) (ups downs : List ℕ) (tail : N .tail 
       let k : word (fit (some t)) ≡ t = ap word (fit-in t (omega arith)) in
       rw (w, cost) (ap (min (word (fit x))) (sym k) ∙ fit-min x (some t))
 
-  pub road-up : a < b → n ≤ length ups → (v : ℕ) → v ≡ min (getD ups b 0) t → RoadRelaxed N n i ups downs (set ups b v) downs
-  road-up lt l v ev =
+  pub road-up : a < b → (v : ℕ) → v ≡ min (getD ups b 0) t → RoadRelaxed N n i ups downs (set ups b v) downs
+  road-up lt v ev =
       let e : N .tail i ≡ rowOf N i = omega arith in
       record {
-        ups-by = λ x w. row-set (λ h. x h ⊓ costBetween N (rowOf N i) h i) b v l w
+        ups-by = λ x w. row-set (λ h. x h ⊓ costBetween N (rowOf N i) h i) b v w
             (λ rb bn. ev ∙ relaxed-entry (x b) (getD ups b 0) (w .at b rb bn) ∙ ap (λ (c : Total). word (fit (x b ⊓ c))) (sym (cost-at N i (rowOf N i) b e head)))
             (λ h rh ne. ap (_⊓_ (x h)) (cost-head N i (rowOf N i) h (λ q. ne (sym q ∙ head))) ∙ ⊓-none (x h));
         downs-by = λ y w. row-same (λ h. y h ⊓ costBetween N h (rowOf N i) i) w
             (λ h rh hn. ap (_⊓_ (y h)) (cost-tail N i h (rowOf N i) (λ q. omega arith)) ∙ ⊓-none (y h));
       }
 
-  pub road-down : b ≤ a → n ≤ length downs → (v : ℕ) → v ≡ min (getD downs a 0) t → RoadRelaxed N n i ups downs ups (set downs a v)
-  road-down le l v ev =
+  pub road-down : b ≤ a → (v : ℕ) → v ≡ min (getD downs a 0) t → RoadRelaxed N n i ups downs ups (set downs a v)
+  road-down le v ev =
       let e : N .head i ≡ rowOf N i = omega arith in
       record {
         ups-by = λ x w. row-same (λ h. x h ⊓ costBetween N (rowOf N i) h i) w
             (λ h rh hn. ap (_⊓_ (x h)) (cost-head N i (rowOf N i) h (λ q. omega arith)) ∙ ⊓-none (x h));
-        downs-by = λ y w. row-set (λ h. y h ⊓ costBetween N h (rowOf N i) i) a v l w
+        downs-by = λ y w. row-set (λ h. y h ⊓ costBetween N h (rowOf N i) i) a v w
             (λ ra an. ev ∙ relaxed-entry (y a) (getD downs a 0) (w .at a ra an) ∙ ap (λ (c : Total). word (fit (y a ⊓ c))) (sym (cost-at N i a (rowOf N i) tail e)))
             (λ h rh ne. ap (_⊓_ (y h)) (cost-tail N i h (rowOf N i) (λ q. ne (sym q ∙ tail))) ∙ ⊓-none (y h));
       }
@@ -164,7 +164,7 @@ pub record Walked (N : Network) (n r c : ℕ) (ups downs : List ℕ) : Type 0 wh
   pub downs-are : Row r n downs y
   pub ups-left : (h : ℕ) → r < h → x h ⊓ minBelow c (costBetween N r h) ≡ direct N r h
   pub downs-left : (h : ℕ) → r < h → y h ⊓ minBelow c (costBetween N h r) ≡ direct N h r
-  pub inside : c ≤ N .arcs
+  pub below : c ≤ N .arcs
   pub mine : (i : ℕ) → c ≡ suc i → rowOf N i ≡ r
 
 module _ (N : Network) (n r : ℕ) where
@@ -186,7 +186,7 @@ module _ (N : Network) (n r : ℕ) where
     downs-are = d;
     ups-left = λ h rh. sym (down-to (N .arcs) c h e rh .0);
     downs-left = λ h rh. sym (down-to (N .arcs) c h e rh .1);
-    inside = rw e (lastOf-le (rowOf N) r (N .arcs));
+    below = rw e (lastOf-le (rowOf N) r (N .arcs));
     mine = λ i q. lastOf-is (rowOf N) r (N .arcs) i (sym e ∙ q);
   }
 
@@ -207,7 +207,7 @@ module _ (N : Network) (n r : ℕ) where
         downs-are = d;
         ups-left = λ h rh. ap (_⊓_ (w .x h ⊓ costBetween N r h i)) (sym (down-to i c′ h k rh .0)) ∙ one-more (w .x h) (minBelow i (costBetween N r h)) (costBetween N r h i) (direct N r h) (rw e at (w .ups-left h rh));
         downs-left = λ h rh. ap (_⊓_ (w .y h ⊓ costBetween N h r i)) (sym (down-to i c′ h k rh .1)) ∙ one-more (w .y h) (minBelow i (costBetween N h r)) (costBetween N h r i) (direct N h r) (rw e at (w .downs-left h rh));
-        inside = omega (arith, lastOf-le (rowOf N) r i, w .inside);
+        below = omega (arith, lastOf-le (rowOf N) r i, w .below);
         mine = λ j q. lastOf-is (rowOf N) r i j (sym k ∙ q);
       }
 

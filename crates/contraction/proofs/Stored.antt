@@ -6,21 +6,19 @@ use mathlib.Core.List.{List, [], _++_, _∷_, append-assoc, append-nil}
 use Prim.Native.Nat.{_*_, _+_, _-_, _<_, _≤_, suc, zero, ℕ}
 use borrow.Author.Tests.{le-ltb, lt-ltb}
 use lib.Dec.{eqb, ltb}
-use lib.ListN.{drop, getD, length, length-append, length-take, replicate, replicate-append-replicate, set, take}
+use lib.ListN.{drop, getD, length, length-append, replicate, replicate-append-replicate, set, take}
 use lib.Seq.{getD-take, length-take-le, sets-eq, take-at, take-length, take-suc-set}
-use native.Mathlib.Nat.{not-suc-le-zero, sub-self}
+use native.Mathlib.Nat.{not-suc-le-zero}
 use native.Mathlib.Numerals.{add-one}
 use native.Mathlib.Omega.{arith}
-use Rattle.graph.specs.Total.{Total}
 use Rattle.graph.specs.Path.{Weights}
 use Rattle.graph.specs.Pairs.{down, up}
 use Rattle.graph.specs.Records.{Pair, begins-length, exists, pairOf, row, row-begins, row-blank, row-kept, row-low, rows}
 use Rattle.model.specs.Word.{noneWord, ofWord, word}
 use Rattle.model.specs.State.{words}
-use Rattle.model.specs.Good.{words-length}
 use Rattle.model.specs.Use.{RecordAt}
 use Rattle.network.specs.Width.{fit, fit-is, fit-ofWord}
-use Rattle.contraction.specs.Rows.{Holds, Narrow, Row, RowTimes}
+use Rattle.contraction.specs.Rows.{Holds, RowTimes}
 use Rattle.contraction.specs.Contraction.{Appended}
 use Rattle.contraction.specs.declared.Contracted.the-variants.{Kept, Overflow}
 

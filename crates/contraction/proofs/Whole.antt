@@ -6,7 +6,7 @@ use mathlib.Core.List.{List, [], _++_}
 use Prim.Native.Nat.{_*_, _+_, _-_, _/_, _<_, _≤_, suc, ℕ}
 use borrow.Author.Tests.{le-ltb, lt-ltb}
 use lib.Dec.{ltb}
-use lib.ListN.{List·getD-eq-default, getD, getD-replicate, length, length-append, length-replicate, replicate, set, take}
+use lib.ListN.{List·getD-eq-default, getD, getD-replicate, length, length-append, length-replicate, length-set, replicate, set, take}
 use lib.Seq.{getD-set-other, getD-set-same}
 use native.Mathlib.Decide.{decLt, ℕ-discrete}
 use native.Mathlib.Nat.{not-suc-le-zero}
@@ -20,7 +20,7 @@ use Rattle.graph.specs.Pairs.{down, down-at, up, up-at}
 use Rattle.graph.specs.Records.{Pair, begins-length, edge, row, row-low, rows, rows-at, rows-begins}
 use Rattle.graph.specs.Bound.{CostsAtMost, down-bound, totals-fit, up-bound}
 use Rattle.graph.specs.Ranks.{rank-below, ranks-rename, renamed, renamed-inside}
-use Rattle.graph.specs.Map.{Map, pairsOf, rank, weights}
+use Rattle.graph.specs.Map.{pairsOf, rank, weights}
 use Rattle.model.specs.Word.{noneWord}
 use Rattle.model.specs.Bytes.{listed, wordAt}
 use Rattle.model.specs.State.{words}
@@ -28,7 +28,7 @@ use Rattle.model.specs.Laws.{listed-at, listed-length}
 use Rattle.network.specs.Bodies.{MapFacts, Sound, base-in, head-in, map-facts, mapIn, tail-in}
 use Rattle.contraction.specs.declared.Contracted.{Contracted}
 use Rattle.contraction.specs.declared.Contracted.the-variants.{Kept, Overflow}
-use Rattle.contraction.specs.Links.{Ranked, netIn}
+use Rattle.contraction.specs.Links.{Grouped, Linked, Ranked, netIn}
 use Rattle.contraction.specs.Rows.{Front, Holds, Narrow, Row, RowTimes, Stage}
 use Rattle.contraction.specs.Contraction.{Appended, Contraction, Ready, RowDone}
 use Rattle.contraction.proofs.Entries.{row-same}
@@ -40,13 +40,16 @@ pub long : (k n v : ℕ) → n ≤ k → n ≤ length (replicate k v)
 long k n v h = rw (length-replicate k v) h
 
 pub none-row : (k r n : ℕ) → n ≤ k → Row r n (replicate k noneWord) (λ h. none)
-none-row k r n l = record { at = λ h rh hn. getD-replicate k h noneWord 0 (omega arith) }
+none-row k r n l = record { wide = long k n noneWord l; at = λ h rh hn. getD-replicate k h noneWord 0 (omega arith) }
 
 -- ---- a row
 
 module _ {w : Weights} {n r count : ℕ} {pairs cursor ahead ends : List ℕ} (y : Ready w n r count pairs cursor ahead ends) where
-  pub stage-start : {ups downs : List ℕ} → Row r n ups (λ h. w r h) → Row r n downs (λ h. w h r) → Stage w n r 0 pairs cursor ahead ends ups downs
-  stage-start u d = record {
+  pub stage-start : {ups downs : List ℕ} → r < n → Row r n ups (λ h. w r h) → Row r n downs (λ h. w h r) → Stage w n r 0 pairs cursor ahead ends ups downs
+  stage-start rn u d = record {
+    inside = rn;
+    wide = y .wide;
+    area = y .area;
     narrow = y .narrow;
     count = count;
     holds = y .holds;
@@ -69,8 +72,16 @@ module _ {w : Weights} {n r count : ℕ} {pairs cursor ahead ends : List ℕ} (y
     row-overflow e a = record { kept = λ k q. absurd (kept-overflow (sym q)); overflow = λ q. let l = a .overflow e in rw (add-one r) at l }
 
     -- the records are appended, and the front of r's own row stands at its first one
-    module _ {pairs′ : List ℕ} {k x : ℕ} (h : Holds (rows w n (r + 1)) k pairs′) (ex : x ≡ cond (ltb count k) (getD pairs′ (4 * count + 1) 0) n)
-        (lc : r < length cursor′) (la : r < length ahead′) (le : r < length ends) where
+    module _ {pairs′ : List ℕ} {k x : ℕ} (h : Holds (rows w n (r + 1)) k pairs′) (ex : x ≡ cond (ltb count k) (getD pairs′ (4 * count + 1) 0) n) (ep : length pairs′ ≡ length pairs) where
+      lc : r < length cursor′
+      lc = omega (arith, s .inside, s .wide .cursors)
+
+      la : r < length ahead′
+      la = omega (arith, s .inside, s .wide .aheads)
+
+      le : r < length ends
+      le = omega (arith, s .inside, s .wide .ends-too)
+
       holds′ : Holds (rows w n (suc r)) k pairs′
       holds′ = rw (add-one r) at h
 
@@ -100,7 +111,17 @@ module _ {w : Weights} {n r count : ℕ} {pairs cursor ahead ends : List ℕ} (y
       }
 
       ready : Ready w n (suc r) k pairs′ (set cursor′ r count) (set ahead′ r x) (set ends r k)
-      ready = record { narrow = y .narrow; holds = holds′; fronts = λ v l. at v l (ℕ-discrete v r) }
+      ready = record {
+        wide = record {
+          cursors = omega (arith, s .wide .cursors, length-set cursor′ r count);
+          aheads = omega (arith, s .wide .aheads, length-set ahead′ r x);
+          ends-too = omega (arith, s .wide .ends-too, length-set ends r k);
+        };
+        area = omega (arith, y .area);
+        narrow = y .narrow;
+        holds = holds′;
+        fronts = λ v l. at v l (ℕ-discrete v r);
+      }
         where
           at : (v : ℕ) → v < suc r → Dec (v ≡ r) → Front w n v (suc r) (set cursor′ r count) (set ahead′ r x) (set ends r k)
           at v l (yes e) = rw e own
@@ -119,6 +140,10 @@ module _ {w : Weights} {n r count : ℕ} {pairs cursor ahead ends : List ℕ} (y
       }
 
 -- ---- all rows
+
+pub grouped : {roads ranks first next : List ℕ} → Ranked roads ranks → Linked (netIn roads ranks) (length ranks) (length roads / 12) first next → length ranks ≤ length first
+    → length roads / 12 ≤ length next → Grouped roads ranks first next
+grouped s l f x = record { ranked = s; linked = l; firsts-in = f; nexts-in = x }
 
 -- the roads and ranks that the code holds are the map's
 pub record Given (roads order ranks : List ℕ) : Type 0 where
@@ -214,8 +239,10 @@ module _ {roads order ranks : List ℕ} (g : Given roads order ranks) where
       most : CostsAtMost (Arc (renamed (rank (mapIn roads order)) (mapIn roads order .base))) 1000000
       most x y k o = facts .most _ _ k (arcOf (o .index) (o .below) refl refl (o .at .costs))
 
-  pub ready-start : (pairs cursor ahead ends : List ℕ) → Ready (direct (netIn roads ranks)) (length ranks) 0 0 pairs cursor ahead ends
-  ready-start pairs cursor ahead ends = record {
+  pub ready-start : (pairs cursor ahead ends : List ℕ) → length pairs ≤ 262144 → 4096 ≤ length cursor → 4096 ≤ length ahead → 4096 ≤ length ends → Ready (direct (netIn roads ranks)) (length ranks) 0 0 pairs cursor ahead ends
+  ready-start pairs cursor ahead ends area lc la le = record {
+    wide = record { cursors = omega (arith, ranks-most); aheads = omega (arith, ranks-most); ends-too = omega (arith, ranks-most) };
+    area = area;
     narrow = times-narrow;
     holds = record { count-is = refl; room = omega arith; words-are = refl };
     fronts = λ v h. absurd (not-suc-le-zero h);

@@ -39,3 +39,10 @@ lastOf f r (suc i) = cond (eqb (f i) r) (suc i) (lastOf f r i)
 pub record Linked (N : Network) (n k : ℕ) (first next : List ℕ) : Type 0 where
   pub firsts : (r : ℕ) → r < n → getD first r 0 ≡ lastOf (rowOf N) r k
   pub nexts : (i : ℕ) → i < k → getD next i 0 ≡ lastOf (rowOf N) (rowOf N i) i
+
+-- the roads of every row are linked
+pub record Grouped (roads ranks first next : List ℕ) : Type 0 where
+  pub ranked : Ranked roads ranks
+  pub linked : Linked (netIn roads ranks) (length ranks) (length roads / 12) first next
+  pub firsts-in : length ranks ≤ length first
+  pub nexts-in : length roads / 12 ≤ length next

@@ -17,8 +17,9 @@ use Rattle.model.specs.State.{unasked, words}
 use Rattle.network.specs.Width.{fit}
 use Rattle.contraction.specs.Links.{rowOf}
 
--- the entries above r and below n are the words of x, where it fits
+-- of a row of n entries, those above r are the words of x, where it fits
 pub record Row (r n : ℕ) (row : List ℕ) (x : ℕ → Total) : Type 0 where
+  pub wide : n ≤ length row
   pub at : (h : ℕ) → r < h → h < n → getD row h 0 ≡ word (fit (x h))
 
 -- every time of a pair fits
@@ -32,7 +33,7 @@ pub record Holds (l : List Pair) (count : ℕ) (pairs : List ℕ) : Type 0 where
   pub room : 4 * count ≤ length pairs
   pub words-are : take (4 * count) pairs ≡ words l
 
--- ---- a road relaxes the times of its row
+-- ---- a road relaxes the times of its row: upwards to its head, or downwards from its tail
 
 pub record RoadRelaxed (N : Network) (n i : ℕ) (ups downs ups′ downs′ : List ℕ) : Type 0 where
   pub ups-by : (x : ℕ → Total) → Row (rowOf N i) n ups x → Row (rowOf N i) n ups′ (λ h. x h ⊓ costBetween N (rowOf N i) h i)
@@ -47,8 +48,13 @@ pub record Times (pairs : List ℕ) (from at : ℕ) (time : Pair → Total) (l :
 
 -- each of these pairs relaxes the entry of its high by `first` and its time
 pub record Relaxed (pairs : List ℕ) (from to at first : ℕ) (row row′ : List ℕ) : Type 0 where
-  pub by : (r n : ℕ) (l : List Pair) (time : Pair → Total) (x : ℕ → Total) → Times pairs from at time l → from + length l ≡ to → n ≤ length row
-      → Row r n row x → Row r n row′ (λ h. x h ⊓ minOver (through (ofWord first) time h) l)
+  pub by : (r n : ℕ) (l : List Pair) (time : Pair → Total) (x : ℕ → Total) → Times pairs from at time l → from + length l ≡ to → Row r n row x
+      → Row r n row′ (λ h. x h ⊓ minOver (through (ofWord first) time h) l)
+
+-- both rows by the records after i, up to before `end`: the up times over i's down time, and the down times over i's up time
+pub record Over (pairs : List ℕ) (i end : ℕ) (ups downs ups′ downs′ : List ℕ) : Type 0 where
+  pub ups-by : Relaxed pairs (i + 1) end 2 (getD pairs (4 * i + 3) 0) ups ups′
+  pub downs-by : Relaxed pairs (i + 1) end 3 (getD pairs (4 * i + 2) 0) downs downs′
 
 -- ---- the rows of the lower ranks
 
@@ -58,8 +64,17 @@ pub record Front (w : Weights) (n v s : ℕ) (cursor ahead ends : List ℕ) : Ty
   pub ahead-is : getD ahead v 0 ≡ getD (row w v n) (length (row w v s)) (edge n) .high
   pub end-is : getD ends v 0 ≡ length (rows w n v) + length (row w v n)
 
+-- each of n ranks has its front
+pub record Wide (n : ℕ) (cursor ahead ends : List ℕ) : Type 0 where
+  pub cursors : n ≤ length cursor
+  pub aheads : n ≤ length ahead
+  pub ends-too : n ≤ length ends
+
 -- The row of r, relaxed over the ranks below k. The rows of these are passed up to r, those of the others up to before r.
 pub record Stage (w : Weights) (n r k : ℕ) (pairs cursor ahead ends ups downs : List ℕ) : Type 0 where
+  pub inside : r < n
+  pub wide : Wide n cursor ahead ends
+  pub area : length pairs ≤ 262144
   pub narrow : Narrow w n
   pub count : ℕ
   pub holds : Holds (rows w n r) count pairs

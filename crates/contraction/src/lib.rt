@@ -1,9 +1,14 @@
-// Preparing's part of the hierarchy: ranks from the order, and the pairs by contraction in that order.
+// Preparing's part of the hierarchy: ranks from the order, and the pairs by contraction in that order, with no witness test.
+//
+// The pairs of the ranks are made row by row, the low ascending. A row of r begins with the roads between r and the ranks above it, which are linked
+// by the lower of their ranks. Then each lower rank v that has a pair with r gives the paths over v, from r to the highs of v's later pairs and back.
+// A front for each v, which moves along v's records as r ascends, says whether v has a pair with r. The work is in the pairs, the triangles of pairs,
+// and the square of the number of ranks.
 ghost use mathlib.Core.Path.{_≡_};
 ghost use mathlib.Core.Bool.{cond};
 ghost use mathlib.Core.Option.{none};
 ghost use mathlib.Core.List.{[], List, _++_, _∷_};
-ghost use Prim.Native.Nat.{_%_, _*_, _+_, _-_, _<_, _≤_, _/_, min, ℕ};
+ghost use Prim.Native.Nat.{_*_, _+_, _-_, _<_, _≤_, _/_, min, ℕ};
 ghost use lib.Dec.{ltb};
 ghost use lib.ListN.{drop, getD, length, replicate, take};
 ghost use Rattle.graph.specs.Path.{Weights};
@@ -11,12 +16,11 @@ ghost use Rattle.graph.specs.Network.{direct};
 ghost use Rattle.graph.specs.Records.{exists, rows};
 ghost use Rattle.graph.specs.Map.{rank};
 ghost use Rattle.model.specs.Word.{ofWord};
-ghost use Rattle.model.specs.Bytes.{listed, wordAt};
+ghost use Rattle.model.specs.Bytes.{listed};
 ghost use Rattle.network.specs.Bodies.{Sound, mapIn};
-ghost use Rattle.contraction.specs.Links.{Linked, Ranked, netIn, rowOf};
-ghost use Rattle.contraction.specs.Rows.{Relaxed, RoadRelaxed, Row, RowTimes, Stage};
+ghost use Rattle.contraction.specs.Links.{Grouped, Linked, Ranked, netIn, rowOf};
+ghost use Rattle.contraction.specs.Rows.{Over, Relaxed, RoadRelaxed, Row, RowTimes, Stage};
 ghost use Rattle.contraction.specs.Contraction.{Appended, Contraction, Ready, RowDone};
-use network::Junction;
 use network::Rank;
 use network::Time;
 
@@ -53,7 +57,10 @@ fn row_of(roads: &[u8], ranks: &[u32], i: usize) -> Rank
 
 // Links the roads of each row, the last one first.
 fn link_roads(roads: &[u8], ranks: &[u32], first: &mut [u32], next: &mut [u32])
-    requires { ⌜ Ranked (now roads) (now ranks) × (length (now ranks) ≤ length (now first)) × (length (now roads) / 12 ≤ length (now next)) × ((r : ℕ) → r < length (now ranks) → getD (now first) r 0 ≡ 0) ⌝ }
+    requires { ⌜ Ranked (now roads) (now ranks)
+        × (length (now ranks) ≤ length (now first))
+        × (length (now roads) / 12 ≤ length (now next))
+        × ((r : ℕ) → r < length (now ranks) → getD (now first) r 0 ≡ 0) ⌝ }
     ensures { λ _. ⌜ Linked (netIn (now (roads .entry)) (now (ranks .entry))) (length (now (ranks .entry))) (length (now (roads .entry)) / 12) (now (first .exit)) (now (next .exit)) ⌝ }
 {
     let m = roads.len() / 12;
@@ -74,7 +81,10 @@ fn least(a: u32, b: u32) -> u32
 
 // Road i relaxes the times of its row: upwards to its head, or downwards from its tail.
 fn relax_road(roads: &[u8], ranks: &[u32], i: usize, ups: &mut [u32], downs: &mut [u32])
-    requires { ⌜ Ranked (now roads) (now ranks) × (i < length (now roads) / 12) × (length (now ranks) ≤ length (now ups)) × (length (now ranks) ≤ length (now downs)) ⌝ }
+    requires { ⌜ Ranked (now roads) (now ranks)
+        × (i < length (now roads) / 12)
+        × (length (now ranks) ≤ length (now ups))
+        × (length (now ranks) ≤ length (now downs)) ⌝ }
     ensures { λ _. ⌜ RoadRelaxed (netIn (now (roads .entry)) (now (ranks .entry))) (length (now (ranks .entry))) i (now (ups .entry)) (now (downs .entry)) (now (ups .exit)) (now (downs .exit)) ⌝ }
 {
     let a = network::rank_of(ranks, network::tail_of(roads, i)).0;
@@ -89,7 +99,7 @@ fn relax_road(roads: &[u8], ranks: &[u32], i: usize, ups: &mut [u32], downs: &mu
     }
 }
 
-// The times of single roads between r and the ranks above it.
+// The times of single roads between r and the ranks above it, from the last road of the row down.
 fn relax_roads(
     roads: &[u8],
     ranks: &[u32],
@@ -99,8 +109,12 @@ fn relax_roads(
     ups: &mut [u32],
     downs: &mut [u32],
 )
-    requires { ⌜ Ranked (now roads) (now ranks) × Linked (netIn (now roads) (now ranks)) (length (now ranks)) (length (now roads) / 12) (now first) (now next) × (r .0 < length (now ranks)) × (length (now ranks) ≤ length (now first)) × (length (now roads) / 12 ≤ length (now next)) × (length (now ranks) ≤ length (now ups)) × (length (now ranks) ≤ length (now downs)) × Row (r .0) (length (now ranks)) (now ups) (λ h. none) × Row (r .0) (length (now ranks)) (now downs) (λ h. none) ⌝ }
-    ensures { λ _. ⌜ Row (r .0) (length (now (ranks .entry))) (now (ups .exit)) (λ h. direct (netIn (now (roads .entry)) (now (ranks .entry))) (r .0) h) × Row (r .0) (length (now (ranks .entry))) (now (downs .exit)) (λ h. direct (netIn (now (roads .entry)) (now (ranks .entry))) h (r .0)) ⌝ }
+    requires { ⌜ Grouped (now roads) (now ranks) (now first) (now next)
+        × (r .0 < length (now ranks))
+        × Row (r .0) (length (now ranks)) (now ups) (λ h. none)
+        × Row (r .0) (length (now ranks)) (now downs) (λ h. none) ⌝ }
+    ensures { λ _. ⌜ Row (r .0) (length (now (ranks .entry))) (now (ups .exit)) (λ h. direct (netIn (now (roads .entry)) (now (ranks .entry))) (r .0) h)
+        × Row (r .0) (length (now (ranks .entry))) (now (downs .exit)) (λ h. direct (netIn (now (roads .entry)) (now (ranks .entry))) h (r .0)) ⌝ }
 {
     let mut c = first[r.0 as usize];
     while c > 0 {
@@ -112,20 +126,43 @@ fn relax_roads(
 
 // ---- the pairs of the lower ranks
 
+// The words of a record: the rank of its low, of its high, its up time and its down time.
+const HIGH: usize = 1;
+
+const UP: usize = 2;
+
+const DOWN: usize = 3;
+
 // The records from `from` to before `to` relax a row of times: each the entry of its high, by `time` and its own time at word `at`.
 fn relax_row(pairs: &[u32], from: u32, to: u32, at: usize, time: Time, row: &mut [u32])
-    requires { ⌜ (from ≤ to) × (4 * to ≤ length (now pairs)) × (at < 4) × ((i : ℕ) → from ≤ i → i < to → getD (now pairs) (4 * i + 1) 0 < length (now row)) ⌝ }
+    requires { ⌜ (from ≤ to)
+        × (4 * to ≤ length (now pairs))
+        × (at < 4)
+        × ((i : ℕ) → from ≤ i → i < to → getD (now pairs) (4 * i + 1) 0 < length (now row)) ⌝ }
     ensures { λ _. ⌜ Relaxed (now (pairs .entry)) from to at (time .0) (now (row .entry)) (now (row .exit)) ⌝ }
 {
     let mut i = from;
     while i < to {
         let k = 4 * (i as usize);
-        let h = pairs[k + 1] as usize;
+        let h = pairs[k + HIGH] as usize;
         row[h] = Time::of_word(row[h])
             .or_sum(time, Time::of_word(pairs[k + at]))
             .word();
         i += 1;
     }
+}
+
+// The paths over the low of record i, between its high and those of the records after it, relax both rows.
+fn relax_over(pairs: &[u32], i: u32, end: u32, ups: &mut [u32], downs: &mut [u32])
+    requires { ⌜ (i < end)
+        × (4 * end ≤ length (now pairs))
+        × ((j : ℕ) → i + 1 ≤ j → j < end → getD (now pairs) (4 * j + 1) 0 < length (now ups))
+        × ((j : ℕ) → i + 1 ≤ j → j < end → getD (now pairs) (4 * j + 1) 0 < length (now downs)) ⌝ }
+    ensures { λ _. ⌜ Over (now (pairs .entry)) i end (now (ups .entry)) (now (downs .entry)) (now (ups .exit)) (now (downs .exit)) ⌝ }
+{
+    let k = 4 * (i as usize);
+    relax_row(pairs, i + 1, end, UP, Time::of_word(pairs[k + DOWN]), ups);
+    relax_row(pairs, i + 1, end, DOWN, Time::of_word(pairs[k + UP]), downs);
 }
 
 // The high of record i; n where it is past the last of its row.
@@ -134,13 +171,13 @@ fn ahead_at(pairs: &[u32], i: u32, end: u32, n: u32) -> u32
     ensures { λ r. ⌜ r ≡ cond (ltb i end) (getD (now (pairs .entry)) (4 * i + 1) 0) n ⌝ }
 {
     if i < end {
-        pairs[4 * (i as usize) + 1]
+        pairs[4 * (i as usize) + HIGH]
     } else {
         n
     }
 }
 
-// The pairs of v with r and with the ranks above it relax the row of r; the row of v is passed up to r.
+// The lower rank v has a pair with r: the row of r is relaxed over v, and v's row is passed up to r.
 fn pass_rank(
     pairs: &[u32],
     n: u32,
@@ -152,20 +189,21 @@ fn pass_rank(
     ups: &mut [u32],
     downs: &mut [u32],
 )
-    requires { ⌜ ((w : Weights) × Stage w n (r .0) (v .0) (now pairs) (now cursor) (now ahead) (now ends) (now ups) (now downs)) × (v .0 < r .0) × (r .0 < n) × (getD (now ahead) (v .0) 0 ≡ r .0) × (n ≤ length (now cursor)) × (n ≤ length (now ahead)) × (n ≤ length (now ends)) × (n ≤ length (now ups)) × (n ≤ length (now downs)) × (length (now pairs) ≤ 262144) ⌝ }
-    ensures { λ _. ⌜ ((w : Weights) → Stage w n (r .0) (v .0) (now (pairs .entry)) (now (cursor .entry)) (now (ahead .entry)) (now (ends .entry)) (now (ups .entry)) (now (downs .entry)) → Stage w n (r .0) (v .0 + 1) (now (pairs .entry)) (now (cursor .exit)) (now (ahead .exit)) (now (ends .entry)) (now (ups .exit)) (now (downs .exit))) ⌝ }
+    requires { ⌜ ((w : Weights) × Stage w n (r .0) (v .0) (now pairs) (now cursor) (now ahead) (now ends) (now ups) (now downs))
+        × (v .0 < r .0)
+        × (getD (now ahead) (v .0) 0 ≡ r .0) ⌝ }
+    ensures { λ _. ⌜ ((w : Weights) → Stage w n (r .0) (v .0) (now (pairs .entry)) (now (cursor .entry)) (now (ahead .entry)) (now (ends .entry)) (now (ups .entry)) (now (downs .entry))
+        → Stage w n (r .0) (v .0 + 1) (now (pairs .entry)) (now (cursor .exit)) (now (ahead .exit)) (now (ends .entry)) (now (ups .exit)) (now (downs .exit))) ⌝ }
 {
     let k = v.0 as usize;
     let i = cursor[k];
     let end = ends[k];
-    let at = 4 * (i as usize);
-    relax_row(pairs, i + 1, end, 2, Time::of_word(pairs[at + 3]), ups);
-    relax_row(pairs, i + 1, end, 3, Time::of_word(pairs[at + 2]), downs);
+    relax_over(pairs, i, end, ups, downs);
     cursor[k] = i + 1;
     ahead[k] = ahead_at(pairs, i + 1, end, n);
 }
 
-// The pairs of all ranks below r relax the row of r.
+// The row of r is relaxed over all lower ranks.
 fn pass_lower(
     pairs: &[u32],
     n: u32,
@@ -176,8 +214,9 @@ fn pass_lower(
     ups: &mut [u32],
     downs: &mut [u32],
 )
-    requires { ⌜ ((w : Weights) × Stage w n (r .0) 0 (now pairs) (now cursor) (now ahead) (now ends) (now ups) (now downs)) × (r .0 < n) × (n ≤ length (now cursor)) × (n ≤ length (now ahead)) × (n ≤ length (now ends)) × (n ≤ length (now ups)) × (n ≤ length (now downs)) × (length (now pairs) ≤ 262144) ⌝ }
-    ensures { λ _. ⌜ ((w : Weights) → Stage w n (r .0) 0 (now (pairs .entry)) (now (cursor .entry)) (now (ahead .entry)) (now (ends .entry)) (now (ups .entry)) (now (downs .entry)) → Stage w n (r .0) (r .0) (now (pairs .entry)) (now (cursor .exit)) (now (ahead .exit)) (now (ends .entry)) (now (ups .exit)) (now (downs .exit))) ⌝ }
+    requires { ⌜ ((w : Weights) × Stage w n (r .0) 0 (now pairs) (now cursor) (now ahead) (now ends) (now ups) (now downs)) ⌝ }
+    ensures { λ _. ⌜ ((w : Weights) → Stage w n (r .0) 0 (now (pairs .entry)) (now (cursor .entry)) (now (ahead .entry)) (now (ends .entry)) (now (ups .entry)) (now (downs .entry))
+        → Stage w n (r .0) (r .0) (now (pairs .entry)) (now (cursor .exit)) (now (ahead .exit)) (now (ends .entry)) (now (ups .exit)) (now (downs .exit))) ⌝ }
 {
     let mut v: u32 = 0;
     while v < r.0 {
@@ -208,9 +247,9 @@ fn put_record(pairs: &mut [u32], k: u32, low: Rank, high: Rank, up: Time, down: 
 {
     let i = 4 * (k as usize);
     pairs[i] = low.0;
-    pairs[i + 1] = high.0;
-    pairs[i + 2] = up.0;
-    pairs[i + 3] = down.0;
+    pairs[i + HIGH] = high.0;
+    pairs[i + UP] = up.0;
+    pairs[i + DOWN] = down.0;
 }
 
 // Appends the records of the kept pairs of r, in ascending order of their highs.
@@ -223,7 +262,8 @@ fn append_row(
     pairs: &mut [u32],
 ) -> Contracted
     requires { ⌜ (r .0 < n) × (n ≤ length (now ups)) × (n ≤ length (now downs)) × (4 * count ≤ length (now pairs)) × (length (now pairs) ≤ 262144) ⌝ }
-    ensures { λ z. ⌜ ((w : Weights) → RowTimes w n (r .0) count (now (ups .entry)) (now (downs .entry)) (now (pairs .entry)) → Appended (rows w n (r .0 + 1)) (now (pairs .exit)) z) ⌝ }
+    ensures { λ answer. ⌜ ((w : Weights) → RowTimes w n (r .0) count (now (ups .entry)) (now (downs .entry)) (now (pairs .entry))
+        → Appended (rows w n (r .0 + 1)) (now (pairs .exit)) answer) ⌝ }
 {
     let mut k = count;
     let mut h = r.0 + 1;
@@ -243,7 +283,7 @@ fn append_row(
     Contracted::Kept(k)
 }
 
-// The row of r: its times from the roads and from the lower ranks, its records, and the front of its own row.
+// The row of r: its times from the roads and over the lower ranks, its records, and the front of its own row.
 fn contract_row(
     roads: &[u8],
     ranks: &[u32],
@@ -256,8 +296,11 @@ fn contract_row(
     ends: &mut [u32],
     pairs: &mut [u32],
 ) -> Contracted
-    requires { ⌜ Ranked (now roads) (now ranks) × Linked (netIn (now roads) (now ranks)) (length (now ranks)) (length (now roads) / 12) (now first) (now next) × Ready (direct (netIn (now roads) (now ranks))) (length (now ranks)) (r .0) count (now pairs) (now cursor) (now ahead) (now ends) × (r .0 < length (now ranks)) × (length (now ranks) ≤ 4096) × (length (now ranks) ≤ length (now first)) × (length (now roads) / 12 ≤ length (now next)) × (length (now ranks) ≤ length (now cursor)) × (length (now ranks) ≤ length (now ahead)) × (length (now ranks) ≤ length (now ends)) × (length (now pairs) ≤ 262144) ⌝ }
-    ensures { λ z. ⌜ RowDone (direct (netIn (now (roads .entry)) (now (ranks .entry)))) (length (now (ranks .entry))) (r .0) (now (pairs .exit)) (now (cursor .exit)) (now (ahead .exit)) (now (ends .exit)) z ⌝ }
+    requires { ⌜ Grouped (now roads) (now ranks) (now first) (now next)
+        × Ready (direct (netIn (now roads) (now ranks))) (length (now ranks)) (r .0) count (now pairs) (now cursor) (now ahead) (now ends)
+        × (r .0 < length (now ranks))
+        × (length (now ranks) ≤ 4096) ⌝ }
+    ensures { λ answer. ⌜ RowDone (direct (netIn (now (roads .entry)) (now (ranks .entry)))) (length (now (ranks .entry))) (r .0) (now (pairs .exit)) (now (cursor .exit)) (now (ahead .exit)) (now (ends .exit)) answer ⌝ }
 {
     let n = ranks.len() as u32;
     let mut ups = [Time::NONE.0; 4096];
@@ -290,8 +333,10 @@ fn clear_from(pairs: &mut [u32], k: usize)
 
 // The kept pairs, row by row: contraction in the given order, with no witness test.
 pub fn contract(roads: &[u8], order: &[u8], ranks: &[u32], pairs: &mut [u32]) -> Contracted
-    requires { ⌜ Sound (now roads) (now order) × (now ranks ≡ listed (mapIn (now roads) (now order) .vertices) (rank (mapIn (now roads) (now order)))) × (length (now pairs) ≤ 262144) ⌝ }
-    ensures { λ z. ⌜ Contraction (mapIn (now (roads .entry)) (now (order .entry))) (length (now (pairs .entry))) (now (pairs .exit)) z ⌝ }
+    requires { ⌜ Sound (now roads) (now order)
+        × (now ranks ≡ listed (mapIn (now roads) (now order) .vertices) (rank (mapIn (now roads) (now order))))
+        × (length (now pairs) ≤ 262144) ⌝ }
+    ensures { λ answer. ⌜ Contraction (mapIn (now (roads .entry)) (now (order .entry))) (length (now (pairs .entry))) (now (pairs .exit)) answer ⌝ }
 {
     let n = (order.len() / 4) as u32;
     let mut first = [0u32; 4096];

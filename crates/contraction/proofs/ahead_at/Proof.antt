@@ -1,4 +1,3 @@
-use native.Mathlib.Omega.{arith}
 use Rattle.contraction.proofs.Stored.{ahead-in, ahead-out}
 use borrow.Author.Needs.{needs}
 use Rattle.contraction.proofs.ahead_at.Statement.{statement}

@@ -1,12 +1,12 @@
 use borrow.Author.Needs.{needs}
 use native.Mathlib.Omega.{arith}
 use Prim.Native.Nat.{_-_, _≤_}
-use mathlib.Core.Path.{_∙_, _≡_}
+use mathlib.Core.Path.{_≡_}
 use lib.ListN.{getD-replicate, length}
 use Rattle.graph.specs.Network.{direct}
 use Rattle.contraction.specs.Links.{netIn}
 use Rattle.contraction.specs.Contraction.{Ready}
-use Rattle.contraction.proofs.Whole.{contract-end, contract-overflow, given, long, next-ready, ranked, ranks-most, ranks-number, ready-start}
+use Rattle.contraction.proofs.Whole.{contract-end, contract-overflow, given, grouped, long, next-ready, ranked, ranks-most, ranks-number, ready-start}
 use Rattle.contraction.proofs.contract.Statement.{statement}
 use Rattle.contraction.proofs.contract.Tie as tie
 
@@ -23,10 +23,10 @@ link-roads-requires : tie.Need-link-roads-requires Inv-loop μ-loop
 link-roads-requires c κs = (ranked (given (c .before .before .before .before .before .before .pre .0) (c .before .before .before .before .before .before .pre .1)), long 4096 _ 0 (ranks-most (given (c .before .before .before .before .before .before .pre .0) (c .before .before .before .before .before .before .pre .1))), long 16384 _ 0 (ranked (given (c .before .before .before .before .before .before .pre .0) (c .before .before .before .before .before .before .pre .1)) .most), λ r h. getD-replicate 4096 r 0 0 (omega (arith, ranks-most (given (c .before .before .before .before .before .before .pre .0) (c .before .before .before .before .before .before .pre .1)))))
 
 loop-holds : tie.Need-loop-holds Inv-loop μ-loop
-loop-holds c = (search needs, search needs, search needs, search needs, search needs, ready-start (given (c .before .before .before .before .before .before .before .before .before .pre .0) (c .before .before .before .before .before .before .before .before .before .pre .1)) _ _ _ _)
+loop-holds c = (search needs, search needs, search needs, search needs, search needs, ready-start (given (c .before .before .before .before .before .before .before .before .before .pre .0) (c .before .before .before .before .before .before .before .before .before .pre .1)) _ _ _ _ (c .before .before .before .before .before .before .before .before .before .pre .2) (long 4096 4096 0 (search needs)) (long 4096 4096 0 (search needs)) (long 4096 4096 0 (search needs)))
 
 contract-row-requires : tie.Need-contract-row-requires Inv-loop μ-loop
-contract-row-requires c κs = (ranked (given (c .before .before .before .before .before .before .before .before .before .before .before .before .before .before .before .before .before .pre .0) (c .before .before .before .before .before .before .before .before .before .before .before .before .before .before .before .before .before .pre .1)), c .before .before .before .before .before .before .before .before .before .before .link-roads .ensures, c .before .before .before .before .before .before .before .loop .inv .5, omega (arith, c .before .before .before .before .before .before .loop-test .taken, ranks-number (given (c .before .before .before .before .before .before .before .before .before .before .before .before .before .before .before .before .before .pre .0) (c .before .before .before .before .before .before .before .before .before .before .before .before .before .before .before .before .before .pre .1))), ranks-most (given (c .before .before .before .before .before .before .before .before .before .before .before .before .before .before .before .before .before .pre .0) (c .before .before .before .before .before .before .before .before .before .before .before .before .before .before .before .before .before .pre .1)), omega (arith, long 4096 _ 0 (ranks-most (given (c .before .before .before .before .before .before .before .before .before .before .before .before .before .before .before .before .before .pre .0) (c .before .before .before .before .before .before .before .before .before .before .before .before .before .before .before .before .before .pre .1))), c .before .before .before .before .before .before .before .before .before .before .link-roads .kept .1 .1 .0), omega (arith, long 16384 _ 0 (ranked (given (c .before .before .before .before .before .before .before .before .before .before .before .before .before .before .before .before .before .pre .0) (c .before .before .before .before .before .before .before .before .before .before .before .before .before .before .before .before .before .pre .1)) .most), c .before .before .before .before .before .before .before .before .before .before .link-roads .kept .1 .1 .1 .0), omega (arith, long 4096 _ 0 (ranks-most (given (c .before .before .before .before .before .before .before .before .before .before .before .before .before .before .before .before .before .pre .0) (c .before .before .before .before .before .before .before .before .before .before .before .before .before .before .before .before .before .pre .1))), c .before .before .before .before .before .before .before .loop .inv .2), omega (arith, long 4096 _ 0 (ranks-most (given (c .before .before .before .before .before .before .before .before .before .before .before .before .before .before .before .before .before .pre .0) (c .before .before .before .before .before .before .before .before .before .before .before .before .before .before .before .before .before .pre .1))), c .before .before .before .before .before .before .before .loop .inv .3), omega (arith, long 4096 _ 0 (ranks-most (given (c .before .before .before .before .before .before .before .before .before .before .before .before .before .before .before .before .before .pre .0) (c .before .before .before .before .before .before .before .before .before .before .before .before .before .before .before .before .before .pre .1))), c .before .before .before .before .before .before .before .loop .inv .4), omega (arith, c .before .before .before .before .before .before .before .before .before .before .before .before .before .before .before .before .before .pre .2, c .before .before .before .before .before .before .before .loop .inv .1))
+contract-row-requires c κs = (grouped (ranked (given (c .before .before .before .before .before .before .before .before .before .before .before .before .before .before .before .before .before .pre .0) (c .before .before .before .before .before .before .before .before .before .before .before .before .before .before .before .before .before .pre .1))) (c .before .before .before .before .before .before .before .before .before .before .link-roads .ensures) (omega (arith, long 4096 _ 0 (ranks-most (given (c .before .before .before .before .before .before .before .before .before .before .before .before .before .before .before .before .before .pre .0) (c .before .before .before .before .before .before .before .before .before .before .before .before .before .before .before .before .before .pre .1))), c .before .before .before .before .before .before .before .before .before .before .link-roads .kept .1 .1 .0)) (omega (arith, long 16384 _ 0 (ranked (given (c .before .before .before .before .before .before .before .before .before .before .before .before .before .before .before .before .before .pre .0) (c .before .before .before .before .before .before .before .before .before .before .before .before .before .before .before .before .before .pre .1)) .most), c .before .before .before .before .before .before .before .before .before .before .link-roads .kept .1 .1 .1 .0)), c .before .before .before .before .before .before .before .loop .inv .5, omega (arith, c .before .before .before .before .before .before .loop-test .taken, ranks-number (given (c .before .before .before .before .before .before .before .before .before .before .before .before .before .before .before .before .before .pre .0) (c .before .before .before .before .before .before .before .before .before .before .before .before .before .before .before .before .before .pre .1))), ranks-most (given (c .before .before .before .before .before .before .before .before .before .before .before .before .before .before .before .before .before .pre .0) (c .before .before .before .before .before .before .before .before .before .before .before .before .before .before .before .before .before .pre .1)))
 
 returns : tie.Need-returns Inv-loop μ-loop
 returns c = contract-overflow (given (c .before .before .before .before .before .before .before .before .before .before .before .before .before .before .before .before .before .before .before .before .before .before .before .before .before .pre .0) (c .before .before .before .before .before .before .before .before .before .before .before .before .before .before .before .before .before .before .before .before .before .before .before .before .before .pre .1)) (c .before .before .before .before .before .before .before .before .before .before .before .before .before .before .before .loop .r) _ _ (omega (arith, c .before .before .before .before .before .before .before .before .before .before .before .before .before .before .loop-test .taken, ranks-number (given (c .before .before .before .before .before .before .before .before .before .before .before .before .before .before .before .before .before .before .before .before .before .before .before .before .before .pre .0) (c .before .before .before .before .before .before .before .before .before .before .before .before .before .before .before .before .before .before .before .before .before .before .before .before .before .pre .1)))) (search needs) (c .before .before .before .before .before .before .before .contract-row .ensures .overflow (c .enum-told .given .1))

@@ -18,14 +18,17 @@ abbrev μ-loop : tie.MeasureT-loop
 loop-holds : tie.Need-loop-holds Inv-loop μ-loop
 loop-holds c = (search needs, search needs, search needs, search needs, search needs, λ w s. s)
 
+slice-read-if2 : tie.Need-slice-read-if2 Inv-loop μ-loop
+slice-read-if2 c = omega (arith, c .before .before .before .before .before .before .before .before .before .before .pre .1 .wide .aheads, c .before .before .before .before .before .before .before .before .before .before .pre .1 .inside, c .before .before .before .loop .inv .2, c .before .if1 .taken)
+
 pass-rank-requires : tie.Need-pass-rank-requires Inv-loop μ-loop
-pass-rank-requires c κs = ((c .before .before .before .before .before .before .before .before .before .before .before .before .before .before .before .before .pre .0 .0, c .before .before .before .before .before .before .before .before .before .loop .inv .5 (c .before .before .before .before .before .before .before .before .before .before .before .before .before .before .before .before .pre .0 .0) (c .before .before .before .before .before .before .before .before .before .before .before .before .before .before .before .before .pre .0 .1)), c .before .before .before .before .before .before .before .if1 .taken, c .before .before .before .before .before .before .before .before .before .before .before .before .before .before .before .before .pre .1, c .before .before .before .before .if2 .taken, search needs, search needs, search needs, search needs, search needs, search needs)
+pass-rank-requires c κs = ((c .before .before .before .before .before .before .before .before .before .before .before .before .before .before .before .before .pre .0, c .before .before .before .before .before .before .before .before .before .loop .inv .5 (c .before .before .before .before .before .before .before .before .before .before .before .before .before .before .before .before .pre .0) (c .before .before .before .before .before .before .before .before .before .before .before .before .before .before .before .before .pre .1)), c .before .before .before .before .before .before .before .if1 .taken, c .before .before .before .before .if2 .taken)
 
 loop-again : tie.Need-loop-again Inv-loop μ-loop
 loop-again c = (search needs, search needs, search needs, search needs, search needs, λ w s. c .before .before .before .before .before .before .before .before .pass-rank .ensures w (c .before .before .before .before .before .before .before .before .before .before .before .before .before .before .before .before .before .before .loop .inv .5 w s))
 
 loop-again-2 : tie.Need-loop-again-2 Inv-loop μ-loop
-loop-again-2 c = (search needs, search needs, search needs, search needs, search needs, λ w s. stage-skip (c .before .before .before .before .before .loop .inv .5 w s) (c .before .before .before .if1 .taken) (c .before .before .before .before .before .before .before .before .before .before .before .before .pre .1) (c .if2 .left))
+loop-again-2 c = (search needs, search needs, search needs, search needs, search needs, λ w s. stage-skip (c .before .before .before .before .before .loop .inv .5 w s) (c .before .before .before .if1 .taken) (c .if2 .left))
 
 returns : tie.Need-returns Inv-loop μ-loop
 returns c = λ w s. stage-end (c .before .before .loop .inv .0) (c .if1 .left) (c .before .before .loop .inv .5 w s)
@@ -40,7 +43,7 @@ pass-lower-spec =
     (λ c. search needs)
     (λ c. search needs)
     (λ c. search needs)
-    (λ c. search needs)
+    slice-read-if2
     pass-rank-requires
     (λ c. search needs)
     loop-again

@@ -25,10 +25,10 @@ slice-write-downs : tie.Need-slice-write-downs
 slice-write-downs c = omega (arith, (ends (c .before .before .before .before .before .before .before .before .before .before .before .before .pre .0) _ _ _ _ _ (c .before .before .before .before .before .before .before .before .before .before .before .before .pre .1) (c .before .before .before .before .before .before .before .tail-of .ensures) (c .before .before .before .before .before .before .rank-of .ensures) (c .before .before .before .before .before .head-of .ensures) (c .before .before .before .before .rank-of2 .ensures)) .tail-below, c .before .before .before .before .before .before .before .before .before .before .before .before .pre .3)
 
 returns : tie.Need-returns
-returns c = let e = (ends (c .before .before .before .before .before .before .before .before .before .before .before .before .pre .0) _ _ _ _ _ (c .before .before .before .before .before .before .before .before .before .before .before .before .pre .1) (c .before .before .before .before .before .before .before .tail-of .ensures) (c .before .before .before .before .before .before .rank-of .ensures) (c .before .before .before .before .before .head-of .ensures) (c .before .before .before .before .rank-of2 .ensures)) in road-up _ _ _ _ _ (c .before .before .before .base-of .result .0) _ _ (e .tail-is) (e .head-is) (ap some (sym (c .before .before .before .base-of .ensures))) (omega (arith, c .before .before .before .base-of .ensures, c .before .before .before .before .before .before .before .before .before .before .before .before .pre .0 .bases (c .before .before .before .before .before .before .before .before .before .before .before .before .args .i) (c .before .before .before .before .before .before .before .before .before .before .before .before .pre .1))) (c .before .before .if1 .taken) (c .before .before .before .before .before .before .before .before .before .before .before .before .pre .2) _ (c .least .ensures)
+returns c = let e = (ends (c .before .before .before .before .before .before .before .before .before .before .before .before .pre .0) _ _ _ _ _ (c .before .before .before .before .before .before .before .before .before .before .before .before .pre .1) (c .before .before .before .before .before .before .before .tail-of .ensures) (c .before .before .before .before .before .before .rank-of .ensures) (c .before .before .before .before .before .head-of .ensures) (c .before .before .before .before .rank-of2 .ensures)) in road-up _ _ _ _ _ (c .before .before .before .base-of .result .0) _ _ (e .tail-is) (e .head-is) (ap some (sym (c .before .before .before .base-of .ensures))) (omega (arith, c .before .before .before .base-of .ensures, c .before .before .before .before .before .before .before .before .before .before .before .before .pre .0 .bases (c .before .before .before .before .before .before .before .before .before .before .before .before .args .i) (c .before .before .before .before .before .before .before .before .before .before .before .before .pre .1))) (c .before .before .if1 .taken) _ (c .least .ensures)
 
 returns-2 : tie.Need-returns-2
-returns-2 c = let e = (ends (c .before .before .before .before .before .before .before .before .before .before .before .before .pre .0) _ _ _ _ _ (c .before .before .before .before .before .before .before .before .before .before .before .before .pre .1) (c .before .before .before .before .before .before .before .tail-of .ensures) (c .before .before .before .before .before .before .rank-of .ensures) (c .before .before .before .before .before .head-of .ensures) (c .before .before .before .before .rank-of2 .ensures)) in road-down _ _ _ _ _ (c .before .before .before .base-of .result .0) _ _ (e .tail-is) (e .head-is) (ap some (sym (c .before .before .before .base-of .ensures))) (omega (arith, c .before .before .before .base-of .ensures, c .before .before .before .before .before .before .before .before .before .before .before .before .pre .0 .bases (c .before .before .before .before .before .before .before .before .before .before .before .before .args .i) (c .before .before .before .before .before .before .before .before .before .before .before .before .pre .1))) (c .before .before .if1 .left) (c .before .before .before .before .before .before .before .before .before .before .before .before .pre .3) _ (c .least2 .ensures)
+returns-2 c = let e = (ends (c .before .before .before .before .before .before .before .before .before .before .before .before .pre .0) _ _ _ _ _ (c .before .before .before .before .before .before .before .before .before .before .before .before .pre .1) (c .before .before .before .before .before .before .before .tail-of .ensures) (c .before .before .before .before .before .before .rank-of .ensures) (c .before .before .before .before .before .head-of .ensures) (c .before .before .before .before .rank-of2 .ensures)) in road-down _ _ _ _ _ (c .before .before .before .base-of .result .0) _ _ (e .tail-is) (e .head-is) (ap some (sym (c .before .before .before .base-of .ensures))) (omega (arith, c .before .before .before .base-of .ensures, c .before .before .before .before .before .before .before .before .before .before .before .before .pre .0 .bases (c .before .before .before .before .before .before .before .before .before .before .before .before .args .i) (c .before .before .before .before .before .before .before .before .before .before .before .before .pre .1))) (c .before .before .if1 .left) _ (c .least2 .ensures)
 
 pub relax-road-spec : {M : Type 1} → statement M
 relax-road-spec =

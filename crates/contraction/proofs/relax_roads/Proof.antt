@@ -1,6 +1,6 @@
 use borrow.Author.Needs.{needs}
 use native.Mathlib.Omega.{arith}
-use Prim.Native.Nat.{_-_, _/_, _≤_, suc, ℕ}
+use Prim.Native.Nat.{_-_, _/_, _≤_, ℕ}
 use mathlib.Core.Path.{_≡_}
 use mathlib.Core.Option.{none}
 use lib.ListN.{length}
@@ -16,23 +16,26 @@ Inv-loop roads ranks first next ups₀ downs₀ c₀ ups downs c = (c ≤ 16384)
 abbrev μ-loop : tie.MeasureT-loop
 μ-loop roads ranks first next ups₀ downs₀ c₀ ups downs c = c
 
+shared-slice-read-c : tie.Need-shared-slice-read-c Inv-loop μ-loop
+shared-slice-read-c c = omega (arith, c .before .before .before .before .before .before .before .before .pre .0 .firsts-in, c .before .before .before .before .before .before .before .before .pre .1)
+
 loop-holds : tie.Need-loop-holds Inv-loop μ-loop
-loop-holds c = (omega (arith, c .before .before .before .before .before .before .before .before .pre .0 .most, c .before .before .before .before .before .before .before .before .pre .1 .firsts (c .before .before .before .before .before .before .before .before .args .r .0) (c .before .before .before .before .before .before .before .before .pre .2), lastOf-le (rowOf (netIn (c .before .before .before .before .before .before .before .before .args .roads .now) (c .before .before .before .before .before .before .before .before .args .ranks .now))) (c .before .before .before .before .before .before .before .before .args .r .0) (netIn (c .before .before .before .before .before .before .before .before .args .roads .now) (c .before .before .before .before .before .before .before .before .args .ranks .now) .arcs)), search needs, search needs, λ r e u d. walked-start _ _ r _ _ _ e u d)
+loop-holds c = (omega (arith, c .before .before .before .before .before .before .before .before .pre .0 .ranked .most, c .before .before .before .before .before .before .before .before .pre .0 .linked .firsts (c .before .before .before .before .before .before .before .before .args .r .0) (c .before .before .before .before .before .before .before .before .pre .1), lastOf-le (rowOf (netIn (c .before .before .before .before .before .before .before .before .args .roads .now) (c .before .before .before .before .before .before .before .before .args .ranks .now))) (c .before .before .before .before .before .before .before .before .args .r .0) ((netIn (c .before .before .before .before .before .before .before .before .args .roads .now) (c .before .before .before .before .before .before .before .before .args .ranks .now)) .arcs)), search needs, search needs, λ r e u d. walked-start _ _ r _ _ _ e u d)
 
 relax-road-requires : tie.Need-relax-road-requires Inv-loop μ-loop
-relax-road-requires c κs = (c .before .before .before .before .before .before .before .before .before .before .before .before .pre .0, omega (arith, (c .before .before .before .loop .inv .3 (c .before .before .before .before .before .before .before .before .before .before .before .before .args .r .0) (c .before .before .before .before .before .before .before .before .before .before .before .before .pre .1 .firsts (c .before .before .before .before .before .before .before .before .before .before .before .before .args .r .0) (c .before .before .before .before .before .before .before .before .before .before .before .before .pre .2)) (c .before .before .before .before .before .before .before .before .before .before .before .before .pre .7) (c .before .before .before .before .before .before .before .before .before .before .before .before .pre .8)) .inside, c .before .before .loop-test .taken), omega (arith, c .before .before .before .before .before .before .before .before .before .before .before .before .pre .5, c .before .before .before .loop .inv .1), omega (arith, c .before .before .before .before .before .before .before .before .before .before .before .before .pre .6, c .before .before .before .loop .inv .2))
+relax-road-requires c κs = (c .before .before .before .before .before .before .before .before .before .before .before .before .pre .0 .ranked, omega (arith, (c .before .before .before .loop .inv .3 (c .before .before .before .before .before .before .before .before .before .before .before .before .args .r .0) (c .before .before .before .before .before .before .before .before .before .before .before .before .pre .0 .linked .firsts (c .before .before .before .before .before .before .before .before .before .before .before .before .args .r .0) (c .before .before .before .before .before .before .before .before .before .before .before .before .pre .1)) (c .before .before .before .before .before .before .before .before .before .before .before .before .pre .2) (c .before .before .before .before .before .before .before .before .before .before .before .before .pre .3)) .below, c .before .before .loop-test .taken), omega (arith, c .before .before .before .before .before .before .before .before .before .before .before .before .pre .2 .wide, c .before .before .before .loop .inv .1), omega (arith, c .before .before .before .before .before .before .before .before .before .before .before .before .pre .3 .wide, c .before .before .before .loop .inv .2))
 
 shared-slice-read-c-2 : tie.Need-shared-slice-read-c-2 Inv-loop μ-loop
-shared-slice-read-c-2 c = omega (arith, (c .before .before .before .before .before .before .before .before .before .loop .inv .3 (c .before .before .before .before .before .before .before .before .before .before .before .before .before .before .before .before .before .before .args .r .0) (c .before .before .before .before .before .before .before .before .before .before .before .before .before .before .before .before .before .before .pre .1 .firsts (c .before .before .before .before .before .before .before .before .before .before .before .before .before .before .before .before .before .before .args .r .0) (c .before .before .before .before .before .before .before .before .before .before .before .before .before .before .before .before .before .before .pre .2)) (c .before .before .before .before .before .before .before .before .before .before .before .before .before .before .before .before .before .before .pre .7) (c .before .before .before .before .before .before .before .before .before .before .before .before .before .before .before .before .before .before .pre .8)) .inside, c .before .before .before .before .before .before .before .before .loop-test .taken, c .before .before .before .before .before .before .before .before .before .before .before .before .before .before .before .before .before .before .pre .4)
+shared-slice-read-c-2 c = omega (arith, (c .before .before .before .before .before .before .before .before .before .loop .inv .3 (c .before .before .before .before .before .before .before .before .before .before .before .before .before .before .before .before .before .before .args .r .0) (c .before .before .before .before .before .before .before .before .before .before .before .before .before .before .before .before .before .before .pre .0 .linked .firsts (c .before .before .before .before .before .before .before .before .before .before .before .before .before .before .before .before .before .before .args .r .0) (c .before .before .before .before .before .before .before .before .before .before .before .before .before .before .before .before .before .before .pre .1)) (c .before .before .before .before .before .before .before .before .before .before .before .before .before .before .before .before .before .before .pre .2) (c .before .before .before .before .before .before .before .before .before .before .before .before .before .before .before .before .before .before .pre .3)) .below, c .before .before .before .before .before .before .before .before .loop-test .taken, c .before .before .before .before .before .before .before .before .before .before .before .before .before .before .before .before .before .before .pre .0 .nexts-in)
 
 loop-less : tie.Need-loop-less Inv-loop μ-loop
-loop-less c = omega (arith, c .before .before .before .before .before .before .before .before .before .before .before .before .before .before .before .before .before .before .pre .1 .nexts (c .before .before .before .before .before .before .before .before .before .loop .c - 1) (omega (arith, (c .before .before .before .before .before .before .before .before .before .loop .inv .3 (c .before .before .before .before .before .before .before .before .before .before .before .before .before .before .before .before .before .before .args .r .0) (c .before .before .before .before .before .before .before .before .before .before .before .before .before .before .before .before .before .before .pre .1 .firsts (c .before .before .before .before .before .before .before .before .before .before .before .before .before .before .before .before .before .before .args .r .0) (c .before .before .before .before .before .before .before .before .before .before .before .before .before .before .before .before .before .before .pre .2)) (c .before .before .before .before .before .before .before .before .before .before .before .before .before .before .before .before .before .before .pre .7) (c .before .before .before .before .before .before .before .before .before .before .before .before .before .before .before .before .before .before .pre .8)) .inside, c .before .before .before .before .before .before .before .before .loop-test .taken)), lastOf-le (rowOf (netIn (c .before .before .before .before .before .before .before .before .before .before .before .before .before .before .before .before .before .before .args .roads .now) (c .before .before .before .before .before .before .before .before .before .before .before .before .before .before .before .before .before .before .args .ranks .now))) (rowOf (netIn (c .before .before .before .before .before .before .before .before .before .before .before .before .before .before .before .before .before .before .args .roads .now) (c .before .before .before .before .before .before .before .before .before .before .before .before .before .before .before .before .before .before .args .ranks .now)) (c .before .before .before .before .before .before .before .before .before .loop .c - 1)) (c .before .before .before .before .before .before .before .before .before .loop .c - 1), c .before .before .before .before .before .before .before .before .loop-test .taken)
+loop-less c = omega (arith, c .before .before .before .before .before .before .before .before .before .before .before .before .before .before .before .before .before .before .pre .0 .linked .nexts (c .before .before .before .before .before .before .before .before .before .loop .c - 1) (omega (arith, (c .before .before .before .before .before .before .before .before .before .loop .inv .3 (c .before .before .before .before .before .before .before .before .before .before .before .before .before .before .before .before .before .before .args .r .0) (c .before .before .before .before .before .before .before .before .before .before .before .before .before .before .before .before .before .before .pre .0 .linked .firsts (c .before .before .before .before .before .before .before .before .before .before .before .before .before .before .before .before .before .before .args .r .0) (c .before .before .before .before .before .before .before .before .before .before .before .before .before .before .before .before .before .before .pre .1)) (c .before .before .before .before .before .before .before .before .before .before .before .before .before .before .before .before .before .before .pre .2) (c .before .before .before .before .before .before .before .before .before .before .before .before .before .before .before .before .before .before .pre .3)) .below, c .before .before .before .before .before .before .before .before .loop-test .taken)), lastOf-le (rowOf (netIn (c .before .before .before .before .before .before .before .before .before .before .before .before .before .before .before .before .before .before .args .roads .now) (c .before .before .before .before .before .before .before .before .before .before .before .before .before .before .before .before .before .before .args .ranks .now))) (rowOf (netIn (c .before .before .before .before .before .before .before .before .before .before .before .before .before .before .before .before .before .before .args .roads .now) (c .before .before .before .before .before .before .before .before .before .before .before .before .before .before .before .before .before .before .args .ranks .now)) (c .before .before .before .before .before .before .before .before .before .loop .c - 1)) (c .before .before .before .before .before .before .before .before .before .loop .c - 1), c .before .before .before .before .before .before .before .before .loop-test .taken)
 
 loop-again : tie.Need-loop-again Inv-loop μ-loop
-loop-again c = (omega (arith, c .before .before .before .before .before .before .before .before .before .before .before .before .before .before .before .before .before .before .pre .1 .nexts (c .before .before .before .before .before .before .before .before .before .loop .c - 1) (omega (arith, (c .before .before .before .before .before .before .before .before .before .loop .inv .3 (c .before .before .before .before .before .before .before .before .before .before .before .before .before .before .before .before .before .before .args .r .0) (c .before .before .before .before .before .before .before .before .before .before .before .before .before .before .before .before .before .before .pre .1 .firsts (c .before .before .before .before .before .before .before .before .before .before .before .before .before .before .before .before .before .before .args .r .0) (c .before .before .before .before .before .before .before .before .before .before .before .before .before .before .before .before .before .before .pre .2)) (c .before .before .before .before .before .before .before .before .before .before .before .before .before .before .before .before .before .before .pre .7) (c .before .before .before .before .before .before .before .before .before .before .before .before .before .before .before .before .before .before .pre .8)) .inside, c .before .before .before .before .before .before .before .before .loop-test .taken)), lastOf-le (rowOf (netIn (c .before .before .before .before .before .before .before .before .before .before .before .before .before .before .before .before .before .before .args .roads .now) (c .before .before .before .before .before .before .before .before .before .before .before .before .before .before .before .before .before .before .args .ranks .now))) (rowOf (netIn (c .before .before .before .before .before .before .before .before .before .before .before .before .before .before .before .before .before .before .args .roads .now) (c .before .before .before .before .before .before .before .before .before .before .before .before .before .before .before .before .before .before .args .ranks .now)) (c .before .before .before .before .before .before .before .before .before .loop .c - 1)) (c .before .before .before .before .before .before .before .before .before .loop .c - 1), c .before .before .before .before .before .before .before .before .loop-test .taken, c .before .before .before .before .before .before .before .before .before .loop .inv .0), search needs, search needs, λ r e u d. walked-turn _ _ r (c .before .before .before .before .before .before .before .before .before .loop .c) (c .before .before .before .before .before .before .before .before .before .loop .c - 1) _ _ _ _ _ (omega (arith, c .before .before .before .before .before .before .before .before .loop-test .taken)) (c .before .before .before .before .before .before .before .before .before .before .before .before .before .before .before .before .before .before .pre .1 .nexts (c .before .before .before .before .before .before .before .before .before .loop .c - 1) (omega (arith, (c .before .before .before .before .before .before .before .before .before .loop .inv .3 (c .before .before .before .before .before .before .before .before .before .before .before .before .before .before .before .before .before .before .args .r .0) (c .before .before .before .before .before .before .before .before .before .before .before .before .before .before .before .before .before .before .pre .1 .firsts (c .before .before .before .before .before .before .before .before .before .before .before .before .before .before .before .before .before .before .args .r .0) (c .before .before .before .before .before .before .before .before .before .before .before .before .before .before .before .before .before .before .pre .2)) (c .before .before .before .before .before .before .before .before .before .before .before .before .before .before .before .before .before .before .pre .7) (c .before .before .before .before .before .before .before .before .before .before .before .before .before .before .before .before .before .before .pre .8)) .inside, c .before .before .before .before .before .before .before .before .loop-test .taken))) (c .before .before .before .before .before .before .before .before .before .loop .inv .3 r e u d) (c .before .before .before .before .before .relax-road .ensures))
+loop-again c = (omega (arith, c .before .before .before .before .before .before .before .before .before .before .before .before .before .before .before .before .before .before .pre .0 .linked .nexts (c .before .before .before .before .before .before .before .before .before .loop .c - 1) (omega (arith, (c .before .before .before .before .before .before .before .before .before .loop .inv .3 (c .before .before .before .before .before .before .before .before .before .before .before .before .before .before .before .before .before .before .args .r .0) (c .before .before .before .before .before .before .before .before .before .before .before .before .before .before .before .before .before .before .pre .0 .linked .firsts (c .before .before .before .before .before .before .before .before .before .before .before .before .before .before .before .before .before .before .args .r .0) (c .before .before .before .before .before .before .before .before .before .before .before .before .before .before .before .before .before .before .pre .1)) (c .before .before .before .before .before .before .before .before .before .before .before .before .before .before .before .before .before .before .pre .2) (c .before .before .before .before .before .before .before .before .before .before .before .before .before .before .before .before .before .before .pre .3)) .below, c .before .before .before .before .before .before .before .before .loop-test .taken)), lastOf-le (rowOf (netIn (c .before .before .before .before .before .before .before .before .before .before .before .before .before .before .before .before .before .before .args .roads .now) (c .before .before .before .before .before .before .before .before .before .before .before .before .before .before .before .before .before .before .args .ranks .now))) (rowOf (netIn (c .before .before .before .before .before .before .before .before .before .before .before .before .before .before .before .before .before .before .args .roads .now) (c .before .before .before .before .before .before .before .before .before .before .before .before .before .before .before .before .before .before .args .ranks .now)) (c .before .before .before .before .before .before .before .before .before .loop .c - 1)) (c .before .before .before .before .before .before .before .before .before .loop .c - 1), c .before .before .before .before .before .before .before .before .loop-test .taken, c .before .before .before .before .before .before .before .before .before .loop .inv .0), search needs, search needs, λ r e u d. walked-turn _ _ r (c .before .before .before .before .before .before .before .before .before .loop .c) (c .before .before .before .before .before .before .before .before .before .loop .c - 1) _ _ _ _ _ (omega (arith, c .before .before .before .before .before .before .before .before .loop-test .taken)) (c .before .before .before .before .before .before .before .before .before .before .before .before .before .before .before .before .before .before .pre .0 .linked .nexts (c .before .before .before .before .before .before .before .before .before .loop .c - 1) (omega (arith, (c .before .before .before .before .before .before .before .before .before .loop .inv .3 (c .before .before .before .before .before .before .before .before .before .before .before .before .before .before .before .before .before .before .args .r .0) (c .before .before .before .before .before .before .before .before .before .before .before .before .before .before .before .before .before .before .pre .0 .linked .firsts (c .before .before .before .before .before .before .before .before .before .before .before .before .before .before .before .before .before .before .args .r .0) (c .before .before .before .before .before .before .before .before .before .before .before .before .before .before .before .before .before .before .pre .1)) (c .before .before .before .before .before .before .before .before .before .before .before .before .before .before .before .before .before .before .pre .2) (c .before .before .before .before .before .before .before .before .before .before .before .before .before .before .before .before .before .before .pre .3)) .below, c .before .before .before .before .before .before .before .before .loop-test .taken))) (c .before .before .before .before .before .before .before .before .before .loop .inv .3 r e u d) (c .before .before .before .before .before .relax-road .ensures))
 
 returns : tie.Need-returns Inv-loop μ-loop
-returns c = walked-end _ _ _ (c .before .loop .c) _ _ (omega (arith, c .loop-test .left)) (c .before .loop .inv .3 (c .before .before .before .before .before .before .before .before .before .before .args .r .0) (c .before .before .before .before .before .before .before .before .before .before .pre .1 .firsts (c .before .before .before .before .before .before .before .before .before .before .args .r .0) (c .before .before .before .before .before .before .before .before .before .before .pre .2)) (c .before .before .before .before .before .before .before .before .before .before .pre .7) (c .before .before .before .before .before .before .before .before .before .before .pre .8))
+returns c = walked-end _ _ _ (c .before .loop .c) _ _ (omega (arith, c .loop-test .left)) (c .before .loop .inv .3 (c .before .before .before .before .before .before .before .before .before .before .args .r .0) (c .before .before .before .before .before .before .before .before .before .before .pre .0 .linked .firsts (c .before .before .before .before .before .before .before .before .before .before .args .r .0) (c .before .before .before .before .before .before .before .before .before .before .pre .1)) (c .before .before .before .before .before .before .before .before .before .before .pre .2) (c .before .before .before .before .before .before .before .before .before .before .pre .3))
 
 pub relax-roads-spec : {M : Type 1} → statement M
 relax-roads-spec =
@@ -42,7 +45,7 @@ relax-roads-spec =
     μ-loop
     (λ c. search needs)
     (λ c. search needs)
-    (λ c. search needs)
+    shared-slice-read-c
     loop-holds
     (λ c. search needs)
     (λ c. search needs)

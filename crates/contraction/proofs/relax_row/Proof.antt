@@ -1,12 +1,12 @@
+use borrow.Author.Needs.{needs}
+use native.Mathlib.Omega.{arith}
 use Prim.Native.Nat.{_-_, _≤_, min, ℕ}
+use mathlib.Core.Path.{_∙_, _≡_, ap₂, refl}
+use lib.ListN.{length, length-set}
+use Rattle.contraction.proofs.Passes.{Relaxing, relaxing-end, relaxing-start, relaxing-turn}
 use Rattle.graph.specs.Total.{_⊕_}
 use Rattle.model.specs.Word.{ofWord, word}
 use Rattle.network.specs.Width.{fit}
-use borrow.Author.Needs.{needs}
-use native.Mathlib.Omega.{arith}
-use mathlib.Core.Path.{_∙_, _≡_, ap, ap₂, refl}
-use lib.ListN.{length, length-set}
-use Rattle.contraction.proofs.Passes.{Relaxing, relaxing-end, relaxing-start, relaxing-turn}
 use Rattle.contraction.proofs.relax_row.Statement.{statement}
 use Rattle.contraction.proofs.relax_row.Tie as tie
 
@@ -35,7 +35,7 @@ slice-write-row : tie.Need-slice-write-row Inv-loop μ-loop
 slice-write-row c = let q = c .before .before .before .before .before .before .before .before .before .before .before .pre .3 (c .before .before .before .before .before .before .before .before .loop .i) (c .before .before .before .before .before .before .before .before .loop .inv .0) (c .before .before .before .before .before .before .before .loop-test .taken) in omega (arith, q, c .before .before .before .before .before .before .before .before .loop .inv .2)
 
 loop-again : tie.Need-loop-again Inv-loop μ-loop
-loop-again c = (search needs, search needs, simp length-set (c .before .before .before .before .before .before .before .before .loop .inv .2), relaxing-turn _ _ _ _ _ _ (c .before .before .before .before .before .before .before .before .loop .i) _ _ _ (c .before .before .before .before .before .before .before .before .loop .inv .0) (c .before .before .before .before .before .before .before .loop-test .taken) (c .before .before .before .before .before .before .before .before .loop .inv .2) refl (c .word .ensures ∙ c .before .or-sum .ensures ∙ ap₂ (λ (x : ℕ) (y : ℕ). min x (word (fit (ofWord (c .before .before .before .before .before .before .before .before .before .before .before .args .time .0) ⊕ ofWord y)))) (c .before .before .before .before .of-word .ensures) (c .before .before .of-word2 .ensures)) (c .before .before .before .before .before .before .before .before .loop .inv .3))
+loop-again c = (search needs, search needs, simp length-set (c .before .before .before .before .before .before .before .before .loop .inv .2), relaxing-turn _ _ _ _ _ _ (c .before .before .before .before .before .before .before .before .loop .i) _ _ _ (c .before .before .before .before .before .before .before .before .loop .inv .0) (c .before .before .before .before .before .before .before .loop-test .taken) refl (c .word .ensures ∙ c .before .or-sum .ensures ∙ ap₂ (λ (x : ℕ) (y : ℕ). min x (word (fit (ofWord (c .before .before .before .before .before .before .before .before .before .before .before .args .time .0) ⊕ ofWord y)))) (c .before .before .before .before .of-word .ensures) (c .before .before .of-word2 .ensures)) (c .before .before .before .before .before .before .before .before .loop .inv .3))
 
 returns : tie.Need-returns Inv-loop μ-loop
 returns c = relaxing-end _ _ _ _ _ _ (c .before .loop .i) _ (c .before .loop .inv .1) (c .loop-test .left) (c .before .loop .inv .3)
