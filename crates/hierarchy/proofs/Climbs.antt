@@ -1,10 +1,10 @@
 -- The ways in which the walk and the estimate of a rank meet their contracts.
 use mathlib.Core.Path.{_∙_, _≡_, ap, ap₂, refl, subst, sym}
-use mathlib.Core.Logic.{_≢_, _⊎_, inl, inr}
-use mathlib.Core.Bool.{Bool, false, true}
+use mathlib.Core.Logic.{_⊎_, inl, inr}
+use mathlib.Core.Bool.{false, true}
 use mathlib.Core.Option.{none, some}
 use mathlib.Core.List.{List}
-use Prim.Native.Nat.{_*_, _+_, _<_, _≤_, min, suc, zero, ℕ}
+use Prim.Native.Nat.{_*_, _+_, _<_, _≤_, min, suc, ℕ}
 use lib.ListN.{getD, length, length-set, set}
 use lib.Seq.{getD-set-other, getD-set-same}
 use native.Mathlib.Decide.{decLt, ℕ-discrete}
@@ -13,14 +13,13 @@ use native.Mathlib.Omega.{arith}
 use Rattle.graph.specs.Total.{Total, _⊓_, _⊕_, none-some, true-false, decide, Tested, ⊓-assoc, ⊓-none}
 use Rattle.graph.specs.Least.{minBelow, minBelow-none, minBelow-skip}
 use Rattle.graph.specs.Pairs.{up}
-use Rattle.graph.specs.Records.{Pair, pairOf}
+use Rattle.graph.specs.Records.{Pair}
 use Rattle.graph.specs.Estimate.{downTotal}
-use Rattle.graph.specs.Meet.{reaches, reaches-path}
+use Rattle.graph.specs.Reach.{reaches, reaches-path}
 use Rattle.graph.specs.Ranks.{rank-below, vertex-of-rank}
 use Rattle.graph.specs.Map.{Map, downTotalOf, estimateOf, pairsOf, rank, weights}
-use Rattle.model.specs.Words.{listed, wordAt}
-use Rattle.model.specs.Word.{noneWord, ofWord, ofWord-word, word}
-use Rattle.model.specs.State.{unasked}
+use Rattle.model.specs.Bytes.{wordAt}
+use Rattle.model.specs.Word.{noneWord, ofWord, ofWord-word, unasked, word}
 use Rattle.model.specs.Calls.{filled}
 use Rattle.model.specs.Laws.{listed-at}
 use Rattle.model.specs.Ends.{filled-is}
@@ -28,7 +27,7 @@ use Rattle.model.specs.Good.{AimFacts, Filled, filled-no, filled-yes}
 use Rattle.model.specs.Use.{pairIn}
 use Rattle.network.specs.Width.{fit, fit-is, fit-min}
 use Rattle.hierarchy.specs.Estimates.{aim-filled}
-use Rattle.hierarchy.specs.Walks.{Climbed, Holds, Kept, Risen, Starts, Walked, above, answer, estimateAt, highIn, leads, lowIn, over, upIn}
+use Rattle.hierarchy.specs.Walks.{Climbed, Holds, Risen, Starts, Walked, above, answer, estimateAt, highIn, leads, lowIn, over, upIn}
 use Rattle.hierarchy.proofs.Tests.{Leads, answer-asked, answer-other, leads-facts}
 use Rattle.hierarchy.proofs.Facts.{Ranked, above-closed, above-here, above-link, ascending, climbs, down-small, estimate-small, idle, order-rank, over-all, over-here, over-idle, over-other, placed, ranked, up-small}
 
@@ -203,6 +202,7 @@ module _ (n : ℕ) (order pairs : List ℕ) (count : ℕ) (down e : List ℕ) (r
   pub astray : n ≤ i → Climbed n order pairs count down e e r noneWord
   astray h = record {
     kept = λ j q. refl;
+    stored = λ l. absurd (omega arith);
     answered = λ q. omega arith;
     exact = λ M o t a. absurd (omega (arith, vertices o, o .vertices-are));
   }
@@ -211,6 +211,7 @@ module _ (n : ℕ) (order pairs : List ℕ) (count : ℕ) (down e : List ℕ) (r
   pub known : (v : ℕ) → v ≡ getD e i 0 → length e ≡ n → (v ≡ unasked → ⊥) → Climbed n order pairs count down e e r v
   known v q len h = record {
     kept = λ j p. refl;
+    stored = λ l. sym (q ∙ ap (λ (y : ℕ). getD e y 0) i-is);
     answered = h;
     exact = λ M o t a.
         let f = full M t o (a .entries i (vertices o)) in (
@@ -229,6 +230,7 @@ module _ (n : ℕ) (order pairs : List ℕ) (count : ℕ) (down e : List ℕ) (r
       → Climbed n order pairs count down e (set z i x) r v
   computed z own best v x h len d w b xv = subst (λ (y : ℕ). Climbed n order pairs count down e (set z i y) r v) (sym xv) (record {
     kept = λ j q. getD-set-other z i j v 0 (λ p. q (ap (λ (y : ℕ). getD e y 0) p ∙ h)) ∙ w .kept j q;
+    stored = λ l. ap (λ (y : ℕ). getD (set z i v) y 0) (sym i-is) ∙ getD-set-same z i v 0 (omega (arith, l, i-is, len));
     answered = λ q. answer-asked best (sym b ∙ q);
     exact = λ M o t a. right M o t a;
   })

@@ -4,28 +4,23 @@ use mathlib.Core.Logic.{_⊎_, inl, inr}
 use mathlib.Core.Bool.{cond, false, true}
 use mathlib.Core.Option.{none, some}
 use mathlib.Core.List.{List}
-use Prim.Native.Nat.{_*_, _-_, _<_, _≤_, ℕ}
-use borrow.Author.Tests.{eq-eqb, eqb-false, eqb-true, ne-eqb}
+use Prim.Native.Nat.{_-_, _<_, ℕ}
+use borrow.Author.Tests.{eq-eqb, eqb-true, ne-eqb}
 use lib.Dec.{eqb}
-use lib.ListN.{getD, length}
-use native.Mathlib.Decide.{ℕ-discrete}
 use native.Mathlib.Omega.{arith}
 use Rattle.graph.specs.Total.{Tested, Total, _⊓_, _⊕_, cond-no, cond-yes, decide, decideOption, true-false}
 use Rattle.graph.specs.Least.{minBelow}
 use Rattle.graph.specs.Path.{Path, Weights, empty, link, path-join}
-use Rattle.graph.specs.Pairs.{up}
+use Rattle.graph.specs.Pairs.{down, up}
 use Rattle.graph.specs.Records.{Kept, Pair, pairOf, rows-member}
 use Rattle.graph.specs.Estimate.{downTotal, estimate, estimate-law}
-use Rattle.graph.specs.Meet.{Ups, path-reaches, reaches, reaches-path}
+use Rattle.graph.specs.Reach.{Ups, path-reaches, reaches, reaches-path}
 use Rattle.graph.specs.Bound.{totals-fit}
 use Rattle.graph.specs.Ranks.{rank-of-vertex}
-use Rattle.graph.specs.Map.{Map, downTotalOf, estimateOf, pairsOf, rank, weights}
-use Rattle.graph.specs.Rows.{ranked-downTotal, ranked-estimate, ranked-up, rows-ascend, rows-has, ups-rows}
-use Rattle.model.specs.Words.{listed, wordAt}
-use Rattle.model.specs.Word.{noneWord, ofWord, ofWord-word, word}
-use Rattle.model.specs.State.{unasked}
-use Rattle.model.specs.Laws.{listed-at}
-use Rattle.model.specs.Good.{AimFacts, UpClosed}
+use Rattle.graph.specs.Map.{Map, pairsOf, rank, weights}
+use Rattle.graph.specs.Rows.{ranked-down, ranked-downTotal, ranked-estimate, ranked-up, rows-ascend, rows-has, ups-rows}
+use Rattle.model.specs.Word.{noneWord, unasked, word}
+use Rattle.model.specs.Good.{UpClosed}
 use Rattle.model.specs.Use.{pairIn, pairIn-mem}
 use Rattle.network.specs.Width.{fit, fit-is}
 use Rattle.hierarchy.specs.Walks.{Ascending, Holds, above, estimateAt, highIn, leads, lowIn, over, upIn}
@@ -62,6 +57,7 @@ pub record Ranked (M : Map) (i low high : ℕ) : Type 0 where
   pub low-is : pairIn (pairsOf M) i .low ≡ low
   pub high-is : pairIn (pairsOf M) i .high ≡ high
   pub up-is : pairIn (pairsOf M) i .upTime ≡ up (weights M) low high
+  pub down-is : pairIn (pairsOf M) i .downTime ≡ down (weights M) low high
   pub rises : low < high
   pub below : high < M .vertices
 
@@ -73,7 +69,14 @@ module _ {M : Map} {n : ℕ} {order pairs : List ℕ} {count : ℕ} (o : Holds M
       go k =
           let a = ap (λ (p : Pair). p .low) (k .is) in
           let b = ap (λ (p : Pair). p .high) (k .is) in
-          record { low-is = refl; high-is = refl; up-is = ap (λ (p : Pair). p .upTime) (k .is) ∙ sym (ap₂ (up (weights M)) a b); rises = omega (arith, a, b, k .less); below = omega (arith, b, k .highs) }
+          record {
+            low-is = refl;
+            high-is = refl;
+            up-is = ap (λ (p : Pair). p .upTime) (k .is) ∙ sym (ap₂ (up (weights M)) a b);
+            down-is = ap (λ (p : Pair). p .downTime) (k .is) ∙ sym (ap₂ (down (weights M)) a b);
+            rises = omega (arith, a, b, k .less);
+            below = omega (arith, b, k .highs);
+          }
 
   pub ascending : Ascending pairs count
   ascending i k ik kc =
@@ -95,6 +98,12 @@ module _ {M : Map} {n : ℕ} {order pairs : List ℕ} {count : ℕ} (o : Holds M
   up-small i u l e =
       let k = ranked i l in
       let b = totals-fit (o .vertices-high) (ranked-up (o .valid) (o .most) (pairIn (pairsOf M) i .low) (pairIn (pairsOf M) i .high) (omega (arith, k .rises, k .below)) (sym (k .up-is) ∙ e)) in
+      omega (arith, b)
+
+  pub down-time-small : (i u : ℕ) → i < count → pairIn (pairsOf M) i .downTime ≡ some u → u < unasked
+  down-time-small i u l e =
+      let k = ranked i l in
+      let b = totals-fit (o .vertices-high) (ranked-down (o .valid) (o .most) (pairIn (pairsOf M) i .low) (pairIn (pairsOf M) i .high) (k .below) (sym (k .down-is) ∙ e)) in
       omega (arith, b)
 
   pub estimate-small : (t r u : ℕ) → rank M t < M .vertices → r < M .vertices → estimateAt M t r ≡ some u → u < unasked

@@ -3,3 +3,4 @@ pub mod Places
 pub mod Facts
 pub mod Climbs
 pub mod Prepares
+pub mod Descends

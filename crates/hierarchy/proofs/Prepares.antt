@@ -7,7 +7,6 @@ use native.Mathlib.Omega.{arith}
 use Rattle.graph.specs.Ranks.{rank-below}
 use Rattle.graph.specs.Map.{pairsOf, rank}
 use Rattle.model.specs.Word.{noneWord}
-use Rattle.model.specs.State.{unasked}
 use Rattle.model.specs.Laws.{listed-at}
 use Rattle.model.specs.Use.{RecordAt, pairIn, words-at}
 use Rattle.network.specs.Bodies.{Prepared, junction-in, map-facts, mapIn}

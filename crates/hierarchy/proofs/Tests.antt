@@ -1,6 +1,6 @@
 -- Laws of the tests on a record's words, of answers and of the bisection.
-use mathlib.Core.Path.{_≡_, refl, sym}
-use mathlib.Core.Bool.{Bool, cond, false, not, true}
+use mathlib.Core.Path.{_≡_, sym}
+use mathlib.Core.Bool.{Bool, false, not, true}
 use mathlib.Core.List.{List}
 use Prim.Native.Nat.{_+_, _<_, _≤_, ℕ}
 use borrow.Author.Tests.{eq-eqb, eqb-false, eqb-true, le-ltb, lt-ltb, ltb-true, ne-eqb, not-true}
@@ -8,8 +8,7 @@ use lib.Dec.{eqb, ltb}
 use native.Mathlib.Decide.{ℕ-discrete}
 use native.Mathlib.Omega.{arith}
 use Rattle.graph.specs.Total.{and-true}
-use Rattle.model.specs.Word.{noneWord}
-use Rattle.model.specs.State.{unasked}
+use Rattle.model.specs.Word.{noneWord, unasked}
 use Rattle.hierarchy.specs.Walks.{Ascending, answer, leads, lowIn}
 
 -- ---- a record that leads up
@@ -65,8 +64,12 @@ answer-asked x = go (ℕ-discrete x unasked)
 
 -- ---- bisection
 
-pub bisect : (pairs : List ℕ) (count r mid x : ℕ) → mid < count → x ≡ lowIn pairs mid → x < r → Ascending pairs count → (i : ℕ) → i < mid + 1 → lowIn pairs i < r
-bisect pairs count r mid x l e h s i q = omega (arith, s i mid (omega arith) l)
+module _ (pairs : List ℕ) (count r mid x : ℕ) (l : mid < count) (e : x ≡ lowIn pairs mid) where
+  pub bisect-low : x < r → Ascending pairs count → (i : ℕ) → i < mid + 1 → lowIn pairs i < r
+  bisect-low h s i q = omega (arith, s i mid (omega arith) l)
+
+  pub bisect-high : r ≤ x → Ascending pairs count → (i : ℕ) → mid ≤ i → i < count → r ≤ lowIn pairs i
+  bisect-high h s i q k = omega (arith, s mid i q k)
 
 -- the test on what was read is the test on the record
 pub leads-read : (n r l h u low high up : ℕ) (b : Bool) → b ≡ leads n r low high up → low ≡ l → high ≡ h → up ≡ u → leads n r l h u ≡ b

@@ -5,8 +5,7 @@ use mathlib.Core.List.{List}
 use Prim.Native.Nat.{ℕ}
 use lib.ListN.{getD}
 use Rattle.graph.specs.Map.{Map, estimateOf, fills}
-use Rattle.model.specs.Word.{word}
-use Rattle.model.specs.State.{unasked}
+use Rattle.model.specs.Word.{unasked, word}
 use Rattle.model.specs.Calls.{filled}
 use Rattle.model.specs.Good.{AimFacts, UpClosed, filled-entries, fills-on}
 use Rattle.network.specs.Bodies.{Prepared, mapIn}

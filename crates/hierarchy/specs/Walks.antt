@@ -10,13 +10,11 @@ use Rattle.graph.specs.Total.{Total, _⊓_, _⊕_}
 use Rattle.graph.specs.Least.{minBelow}
 use Rattle.graph.specs.Network.{Arc}
 use Rattle.graph.specs.Bound.{CostsAtMost}
-use Rattle.graph.specs.Records.{Pair}
 use Rattle.graph.specs.Estimate.{downTotal, estimate}
-use Rattle.graph.specs.Meet.{reaches}
+use Rattle.graph.specs.Reach.{reaches}
 use Rattle.graph.specs.Map.{Map, Valid, estimateOf, pairsOf, rank, weights}
-use Rattle.model.specs.Words.{wordAt}
-use Rattle.model.specs.Word.{noneWord, word}
-use Rattle.model.specs.State.{unasked}
+use Rattle.model.specs.Bytes.{wordAt}
+use Rattle.model.specs.Word.{noneWord, unasked, word}
 use Rattle.model.specs.Calls.{filled}
 use Rattle.model.specs.Good.{AimFacts}
 use Rattle.model.specs.Use.{RecordAt, pairIn}
@@ -48,10 +46,11 @@ answer x = cond (eqb x unasked) noneWord x
 abbrev pub Ascending : List ℕ → ℕ → Type 0
 Ascending pairs count = (i k : ℕ) → i ≤ k → k < count → lowIn pairs i ≤ lowIn pairs k
 
--- s is the place of the first record whose low is not below r, if the records ascend
+-- s is the place of the first record whose low is not below r, if the records ascend; the number of records, if there is none
 pub record Starts (pairs : List ℕ) (count r s : ℕ) : Type 0 where
   pub bound : s ≤ count
   pub before : Ascending pairs count → (i : ℕ) → i < s → lowIn pairs i < r
+  pub onward : Ascending pairs count → (i : ℕ) → s ≤ i → i < count → r ≤ lowIn pairs i
 
 -- ---- a map of n junctions, as the order and the records hold it
 
@@ -87,6 +86,8 @@ Kept e z = (i : ℕ) → (getD e i 0 ≡ unasked → ⊥) → getD z i 0 ≡ get
 -- the estimate v of rank r
 pub record Climbed (n : ℕ) (order pairs : List ℕ) (count : ℕ) (down e z : List ℕ) (r v : ℕ) : Type 0 where
   pub kept : Kept e z
+  -- on any contents: the answer is stored, and it is not the mark unasked; so no entry is walked twice
+  pub stored : wordAt order (4 * r) < n → getD z (wordAt order (4 * r)) 0 ≡ v
   pub answered : v ≡ unasked → ⊥
   pub exact : (M : Map) → Holds M n order pairs count → (t : ℕ) → AimFacts M t down e
       → (v ≡ word (estimateAt M t r)) × (z ≡ filled M t (above M r) e)

@@ -7,7 +7,7 @@ use lib.ListN.{drop, getD, length, length-append, length-set, set}
 use lib.Seq.{append-snoc, drop-cons, drop-set-lt, getD-set-same}
 use native.Mathlib.Nat.{zero-add}
 use native.Mathlib.Omega.{arith}
-use Rattle.model.specs.Words.{wordAt}
+use Rattle.model.specs.Bytes.{wordAt}
 use Rattle.model.specs.Calls.{first}
 use Rattle.labels.specs.Ways.{roadsBack, stepBack, wayOf}
 

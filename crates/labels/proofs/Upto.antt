@@ -6,7 +6,7 @@ use lib.ListN.{getD, length, length-set, set}
 use lib.Seq.{getD-set-other, getD-set-same}
 use native.Mathlib.Decide.{ℕ-discrete}
 use native.Mathlib.Omega.{arith}
-use Rattle.model.specs.Words.{listed}
+use Rattle.model.specs.Bytes.{listed}
 use Rattle.model.specs.Ends.{listed-is}
 
 -- the entries below i have their value, the others are as they were

@@ -10,7 +10,7 @@ use native.Mathlib.Omega.{arith}
 use Rattle.graph.specs.Total.{none-some}
 use Rattle.graph.specs.Search.{Entry, Problem, back, timeIn}
 use Rattle.model.specs.Word.{word}
-use Rattle.model.specs.Words.{wordAt}
+use Rattle.model.specs.Bytes.{wordAt}
 use Rattle.labels.specs.Keys.{kept, settledKey}
 use Rattle.labels.specs.Labelled.{Labelled, Labels, Searchable, Way, label-candidate, label-hopeless, label-logged, label-unseen, way-begins, way-through}
 use Rattle.labels.specs.Begun.{StartsAt}

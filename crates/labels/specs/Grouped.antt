@@ -3,7 +3,7 @@ use mathlib.Core.Path.{_≡_}
 use mathlib.Core.List.{List}
 use Prim.Native.Nat.{_*_, _<_, _≤_, suc, ℕ}
 use lib.ListN.{getD}
-use Rattle.model.specs.Words.{wordAt}
+use Rattle.model.specs.Bytes.{wordAt}
 
 -- j is the first road from u among those numbered k to m - 1, or m
 pub record FirstFrom (roads : List ℕ) (m u k j : ℕ) : Type 0 where

@@ -4,7 +4,7 @@ use mathlib.Core.List.{List, [], _++_, _∷_}
 use Prim.Native.Nat.{_*_, suc, zero, ℕ}
 use lib.Dec.{eqb, ltb}
 use lib.ListN.{getD}
-use Rattle.model.specs.Words.{wordAt}
+use Rattle.model.specs.Bytes.{wordAt}
 
 -- the tail of the road that gave v its time; v itself where there is none such
 unfoldable pub stepBack : (roads vias : List ℕ) (n m v : ℕ) → ℕ

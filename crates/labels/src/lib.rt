@@ -5,7 +5,7 @@ ghost use Prim.Native.Nat.{ℕ, _*_, _+_, _<_, _≤_};
 ghost use lib.Dec.{ltb};
 ghost use lib.ListN.{getD, length, set};
 ghost use Rattle.model.specs.Word.{noneWord};
-ghost use Rattle.model.specs.Words.{listed, wordAt};
+ghost use Rattle.model.specs.Bytes.{listed, wordAt};
 ghost use Rattle.model.specs.Calls.{first};
 ghost use Rattle.labels.specs.Keys.{Chosen, kept, settledKey};
 ghost use Rattle.labels.specs.Improved.{Improved, Stored};

@@ -6,7 +6,7 @@ use lib.ListN.{drop, getD, length, set, take}
 use lib.Seq.{drop-append-add, drop-drop, drop-length, length-take-le, sets-eq, take-at, take-length, take-suc}
 use native.Mathlib.Numerals.{add-one}
 use native.Mathlib.Omega.{arith}
-use Rattle.model.specs.Words.{bytesOf}
+use Rattle.model.specs.Bytes.{bytesOf}
 use Rattle.model.specs.CardBack.{bytes-length}
 use Rattle.network.specs.Bytes.{bytes-append}
 

@@ -8,7 +8,7 @@ use native.Mathlib.Omega.{arith}
 use Rattle.graph.specs.Network.{Arc}
 use Rattle.graph.specs.Bound.{CostsAtMost}
 use Rattle.graph.specs.Map.{Map, Valid, pairsOf, rank}
-use Rattle.model.specs.Words.{listed, wordAt, wordsAt}
+use Rattle.model.specs.Bytes.{listed, wordAt, wordsAt}
 use Rattle.model.specs.Card.{Rows, mapOf, rowsRefusal}
 use Rattle.model.specs.State.{recordsIn}
 use Rattle.model.specs.Laws.{listed-at, listed-length}
@@ -55,7 +55,8 @@ map-facts {roads} {order} s =
 
 -- ---- the map by its words
 
-word-in : (s : List ℕ) (k : ℕ) → 4 * k + 4 ≤ length s → getD (wordsAt s 0 (length s / 4)) k 0 ≡ wordAt s (4 * k)
+-- word k of a body
+pub word-in : (s : List ℕ) (k : ℕ) → 4 * k + 4 ≤ length s → getD (wordsAt s 0 (length s / 4)) k 0 ≡ wordAt s (4 * k)
 word-in s k h =
     let e : 0 + 4 * k ≡ 4 * k = omega arith in
     listed-at (length s / 4) (λ i. wordAt s (0 + 4 * i)) k (omega arith) ∙ ap (wordAt s) e

@@ -2,7 +2,7 @@
 use mathlib.Core.Path.{_≡_, ap, refl}
 use mathlib.Core.List.{List, [], _++_, _∷_}
 use Prim.Native.Nat.{_%_, _/_, ℕ}
-use Rattle.model.specs.Words.{bytesOf}
+use Rattle.model.specs.Bytes.{bytesOf}
 
 pub bytes-append : (l r : List ℕ) → bytesOf (l ++ r) ≡ bytesOf l ++ bytesOf r
 bytes-append [] r = refl

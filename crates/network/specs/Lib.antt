@@ -1,3 +1,4 @@
 pub mod Width
 pub mod Bytes
 pub mod Bodies
+pub mod Refusals

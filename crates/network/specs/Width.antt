@@ -8,8 +8,7 @@ use lib.Dec.{ltb}
 use native.Mathlib.Decide.{decLt}
 use native.Mathlib.Omega.{arith}
 use Rattle.graph.specs.Total.{Total, _⊓_}
-use Rattle.model.specs.Word.{noneWord, ofWord, ofWord-none, ofWord-some, word}
-use Rattle.model.specs.State.{unasked}
+use Rattle.model.specs.Word.{noneWord, ofWord, ofWord-none, ofWord-some, unasked, word}
 
 -- a total that a time cannot hold is none
 abbrev pub fit : Total → Total

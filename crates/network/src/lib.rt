@@ -6,10 +6,11 @@ ghost use Prim.Native.Nat.{_*_, _+_, _<_, _≤_, min};
 ghost use lib.Dec.{eqb};
 ghost use lib.ListN.{drop, getD, length, take};
 ghost use Rattle.graph.specs.Total.{_⊕_};
-ghost use Rattle.model.specs.Word.{noneWord, ofWord, word};
-ghost use Rattle.model.specs.Words.{bytesOf, wordAt};
-ghost use Rattle.model.specs.State.{unasked};
+ghost use Rattle.model.specs.Word.{noneWord, ofWord, unasked, word};
+ghost use Rattle.model.specs.Bytes.{bytesOf, wordAt};
+ghost use Rattle.model.specs.Card.{question};
 ghost use Rattle.network.specs.Width.{fit};
+ghost use Rattle.network.specs.Refusals.{placeOf, refusalIn};
 
 // The number of a junction (a vertex).
 pub struct Junction(pub u32);
@@ -88,6 +89,71 @@ impl Time {
         let sum = Time::of_total((x as u64) + (y as u64));
         let t = sum.0;
         if t < best { Time(t) } else { Time(best) }
+    }
+}
+
+// Why something is refused: one variant for each question of document 01, in its order.
+pub enum Refusal {
+    Short,
+    Kinds,
+    Starts,
+    Sizes,
+    Road(u32),
+    Place(u32),
+    AreaLengths,
+    Room,
+    Lengths,
+    NoRoad,
+    NotAllowed,
+    NoJunction,
+    NoTarget,
+    LentLengths,
+    NoPath(u32),
+}
+
+// Document 01's number of a refusal.
+pub fn question_of(q: Refusal) -> u32
+    ensures { λ r. ⌜ r ≡ question (refusalIn q) ⌝ }
+{
+    match q {
+        Refusal::Short => 1,
+        Refusal::Kinds => 2,
+        Refusal::Starts => 3,
+        Refusal::Sizes => 4,
+        Refusal::Road(_) => 5,
+        Refusal::Place(_) => 6,
+        Refusal::AreaLengths => 7,
+        Refusal::Room => 8,
+        Refusal::Lengths => 9,
+        Refusal::NoRoad => 10,
+        Refusal::NotAllowed => 11,
+        Refusal::NoJunction => 12,
+        Refusal::NoTarget => 13,
+        Refusal::LentLengths => 14,
+        Refusal::NoPath(_) => 15,
+    }
+}
+
+// The road or the place that a refusal by question 5 or 6 names; 0 for any other.
+pub fn place_of(q: Refusal) -> u32
+    ensures { λ r. ⌜ r ≡ placeOf (refusalIn q) ⌝ }
+{
+    match q {
+        Refusal::Short => 0,
+        Refusal::Kinds => 0,
+        Refusal::Starts => 0,
+        Refusal::Sizes => 0,
+        Refusal::Road(i) => i,
+        Refusal::Place(i) => i,
+        Refusal::AreaLengths => 0,
+        Refusal::Room => 0,
+        Refusal::Lengths => 0,
+        Refusal::NoRoad => 0,
+        Refusal::NotAllowed => 0,
+        Refusal::NoJunction => 0,
+        Refusal::NoTarget => 0,
+        Refusal::LentLengths => 0,
+        Refusal::NoPath(_) => 0,
     }
 }
 

@@ -19,7 +19,7 @@ use Rattle.graph.specs.Answer.{Ended, count-is, end, found, lost}
 use Rattle.graph.specs.Map.{Map, estimateOf, fills}
 use Rattle.graph.specs.Go.{goOf}
 use Rattle.model.specs.Word.{noneWord, word}
-use Rattle.model.specs.Words.{listed, wordAt}
+use Rattle.model.specs.Bytes.{listed, wordAt}
 use Rattle.model.specs.Laws.{listed-at, true-and}
 use Rattle.model.specs.Calls.{asks, filled, first, goAsks, goFills, goRoute, liveOf}
 use Rattle.model.specs.Ends.{filled-is, listed-same}

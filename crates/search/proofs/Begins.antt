@@ -9,7 +9,7 @@ use lib.Dec.{eqb}
 use lib.ListN.{getD, length, set}
 use native.Mathlib.Omega.{arith}
 use Rattle.model.specs.Word.{noneWord, word}
-use Rattle.model.specs.Words.{listed}
+use Rattle.model.specs.Bytes.{listed}
 use Rattle.model.specs.Laws.{listed-at, listed-length}
 use Rattle.model.specs.Good.{AimFacts}
 use Rattle.network.specs.Bodies.{mapIn}

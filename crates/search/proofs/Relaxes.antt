@@ -5,7 +5,7 @@ use Prim.Native.Nat.{_*_, _+_, _<_, _≤_, suc, ℕ}
 use lib.ListN.{getD}
 use native.Mathlib.Omega.{arith}
 use Rattle.graph.specs.Search.{Entry}
-use Rattle.model.specs.Words.{wordAt}
+use Rattle.model.specs.Bytes.{wordAt}
 use Rattle.labels.specs.Grouped.{FirstFrom, Grouped}
 use Rattle.labels.specs.Relax.{labels-skip}
 use Rattle.search.specs.State.{Held, Logged, Ready, Relaxed, goIn}

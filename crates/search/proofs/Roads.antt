@@ -15,7 +15,7 @@ use Rattle.graph.specs.Total.{_⊕_, cond-same, ⊕-none}
 use Rattle.graph.specs.Search.{Entry, Problem, offerVia, timeIn}
 use Rattle.graph.specs.Walk.{some-offerVia}
 use Rattle.model.specs.Word.{noneWord, ofWord, ofWord-none, ofWord-some, word}
-use Rattle.model.specs.Words.{wordAt}
+use Rattle.model.specs.Bytes.{wordAt}
 use Rattle.network.specs.Width.{fit, fit-in}
 use Rattle.network.specs.Bodies.{mapIn}
 use Rattle.hierarchy.specs.Estimates.{Estimated, aim-estimated}

@@ -7,7 +7,7 @@ use lib.Dec.{eqb}
 use lib.ListN.{getD, getD-replicate, length, replicate}
 use native.Mathlib.Omega.{arith}
 use Rattle.model.specs.Word.{noneWord}
-use Rattle.model.specs.Words.{listed}
+use Rattle.model.specs.Bytes.{listed}
 use Rattle.model.specs.Calls.{first}
 use Rattle.network.specs.Bodies.{map-facts, mapIn}
 use Rattle.labels.specs.Keys.{kept}

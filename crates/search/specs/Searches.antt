@@ -7,7 +7,7 @@ use Prim.Native.Nat.{_<_, _≤_, ℕ}
 use lib.ListN.{length}
 use Rattle.graph.specs.Search.{countOf, history, logOf, routeOf, timeIn, totalOf, vertices}
 use Rattle.model.specs.Word.{word}
-use Rattle.model.specs.Words.{listed}
+use Rattle.model.specs.Bytes.{listed}
 use Rattle.model.specs.Calls.{asks, filled, first, goRoute, liveOf, settable}
 use Rattle.model.specs.Good.{AimFacts}
 use Rattle.network.specs.Bodies.{Prepared, mapIn}

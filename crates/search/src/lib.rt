@@ -2,7 +2,7 @@
 ghost use mathlib.Core.Path.{_≡_};
 ghost use Prim.Native.Nat.{ℕ, _*_, _+_, _<_, _≤_};
 ghost use lib.ListN.{getD, length};
-ghost use Rattle.model.specs.Words.{wordAt};
+ghost use Rattle.model.specs.Bytes.{wordAt};
 ghost use Rattle.labels.specs.Keys.{noKey};
 ghost use Rattle.labels.specs.Grouped.{Grouped};
 ghost use Rattle.search.specs.State.{Begun, Explores, Relaxed, Sized};

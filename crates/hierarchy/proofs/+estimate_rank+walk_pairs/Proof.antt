@@ -155,7 +155,12 @@ pub +estimate-rank+walk-pairs-spec : {M : Type 1} → statement M
       search needs,
       search needs,
       walk-take _ _ _ _ _ _ _ _
-          (c .before .before .before .before .before .before .before .before .before .before .before .before .before .before .before .before .before .before .before .before .pre .1 .0) _ _ _ (c .before .before .before .before .before .before .before .before .before .before .before .before .before .before .loop .inv .2) (c .before .before .before .before .before .before .before .before .before .before .before .before .before .loop-test .taken) (leads-read _ _ _ _ _ _ _ _ _ (c .before .before .before .before .before .before .leads-up .ensures) (c .before .before .before .before .before .before .before .before .before .before .before .before .low-of .ensures) (c .before .before .before .before .before .before .before .before .high-of .ensures) (c .before .before .before .before .before .before .before .up-of .ensures) ∙ c .before .before .before .before .before .if2 .taken) _ _ _ _ _ (c .before .before .before .before .before .before .before .before .high-of .ensures) (c .before .before .before .before .before .before .before .up-of .ensures) (c .before .before .before .estimate-rank .ensures) (c .or-sum .ensures),
+          (c .before .before .before .before .before .before .before .before .before .before .before .before .before .before .before .before .before .before .before .before .pre .1 .0)
+          _ _ _ (c .before .before .before .before .before .before .before .before .before .before .before .before .before .before .loop .inv .2)
+          (c .before .before .before .before .before .before .before .before .before .before .before .before .before .loop-test .taken)
+          (leads-read _ _ _ _ _ _ _ _ _ (c .before .before .before .before .before .before .leads-up .ensures) (c .before .before .before .before .before .before .before .before .before .before .before .before .low-of .ensures) (c .before .before .before .before .before .before .before .before .high-of .ensures) (c .before .before .before .before .before .before .before .up-of .ensures) ∙ c .before .before .before .before .before .if2 .taken)
+          _ _ _ _ _ (c .before .before .before .before .before .before .before .before .high-of .ensures)
+          (c .before .before .before .before .before .before .before .up-of .ensures) (c .before .before .before .estimate-rank .ensures) (c .or-sum .ensures),
     ))
     (λ c. search needs)
     (λ c. (

@@ -8,7 +8,8 @@ returns c = unranked _ _ _ _ _ _ _ _ _ (search needs) (search needs) (c .before 
 
 returns-2 : tie.Need-returns-2
 returns-2 c =
-    estimated _ _ _ _ _ _ _ _ _ (search needs) (search needs) (c .before .before .before .before .before .before .rank-of .ensures) _ _ (c .before .before .estimate-rank .ensures)
+    estimated _ _ _ _ _ _ _ _ _ (search needs) (search needs) (c .before .before .before .before .before .before .rank-of .ensures) _ _
+    (c .before .before .estimate-rank .ensures)
 
 pub estimate-spec : {M : Type 1} → statement M
 estimate-spec = tie.close (tie.spec (λ c κs. search needs) returns (λ c κs. search needs) (λ c. search needs) returns-2)

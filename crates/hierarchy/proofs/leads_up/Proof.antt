@@ -14,7 +14,8 @@ returns-3 c = leads-out _ _ _ _ _ (c .before .before .before .before .before .if
 
 returns-4 : tie.Need-returns-4
 returns-4 c =
-    leads-by _ _ _ _ _ (c .before .before .before .before .before .before .if1 .left) (c .before .before .before .if2 .left) (c .before .if3 .left) _ (c .is-none .ensures)
+    leads-by _ _ _ _ _ (c .before .before .before .before .before .before .if1 .left) (c .before .before .before .if2 .left) (c .before .if3 .left) _
+    (c .is-none .ensures)
 
 pub leads-up-spec : {M : Type 1} → statement M
 leads-up-spec = tie.close (tie.spec returns returns-2 returns-3 (λ c κs. search needs) returns-4)

@@ -1,5 +1,5 @@
 use native.Mathlib.Omega.{arith}
-use Rattle.model.specs.Words.{wordAt}
+use Rattle.model.specs.Bytes.{wordAt}
 use borrow.Author.Needs.{needs}
 use Rattle.network.proofs.word_at.Statement.{statement}
 use Rattle.network.proofs.word_at.Tie as tie

@@ -1,0 +1,9 @@
+pub mod Firsts
+pub mod Seen
+pub mod Roads
+pub mod Verdicts
+pub mod Numbers
+pub mod Table
+pub mod Parts
+pub mod ReadWays
+pub mod WriteWays

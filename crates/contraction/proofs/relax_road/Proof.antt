@@ -1,0 +1,57 @@
+use native.Mathlib.Omega.{arith}
+use mathlib.Core.Path.{ap, sym}
+use mathlib.Core.Option.{some}
+use Rattle.contraction.proofs.Roads.{ends, road-down, road-up}
+use borrow.Author.Needs.{needs}
+use Rattle.contraction.proofs.relax_road.Statement.{statement}
+use Rattle.contraction.proofs.relax_road.Tie as tie
+
+rank-of-requires : tie.Need-rank-of-requires
+rank-of-requires c κs = omega (arith, c .tail-of .ensures, c .before .before .before .before .before .pre .0 .tails (c .before .before .before .before .before .args .i) (c .before .before .before .before .before .pre .1))
+
+rank-of-requires-2 : tie.Need-rank-of-requires-2
+rank-of-requires-2 c κs = omega (arith, c .head-of .ensures, c .before .before .before .before .before .before .before .pre .0 .heads (c .before .before .before .before .before .before .before .args .i) (c .before .before .before .before .before .before .before .pre .1))
+
+slice-read-least : tie.Need-slice-read-least
+slice-read-least c = omega (arith, (ends (c .before .before .before .before .before .before .before .before .before .before .before .pre .0) _ _ _ _ _ (c .before .before .before .before .before .before .before .before .before .before .before .pre .1) (c .before .before .before .before .before .before .tail-of .ensures) (c .before .before .before .before .before .rank-of .ensures) (c .before .before .before .before .head-of .ensures) (c .before .before .before .rank-of2 .ensures)) .head-below, c .before .before .before .before .before .before .before .before .before .before .before .pre .2)
+
+slice-write-ups : tie.Need-slice-write-ups
+slice-write-ups c = omega (arith, (ends (c .before .before .before .before .before .before .before .before .before .before .before .before .pre .0) _ _ _ _ _ (c .before .before .before .before .before .before .before .before .before .before .before .before .pre .1) (c .before .before .before .before .before .before .before .tail-of .ensures) (c .before .before .before .before .before .before .rank-of .ensures) (c .before .before .before .before .before .head-of .ensures) (c .before .before .before .before .rank-of2 .ensures)) .head-below, c .before .before .before .before .before .before .before .before .before .before .before .before .pre .2)
+
+slice-read-least-2 : tie.Need-slice-read-least-2
+slice-read-least-2 c = omega (arith, (ends (c .before .before .before .before .before .before .before .before .before .before .before .pre .0) _ _ _ _ _ (c .before .before .before .before .before .before .before .before .before .before .before .pre .1) (c .before .before .before .before .before .before .tail-of .ensures) (c .before .before .before .before .before .rank-of .ensures) (c .before .before .before .before .head-of .ensures) (c .before .before .before .rank-of2 .ensures)) .tail-below, c .before .before .before .before .before .before .before .before .before .before .before .pre .3)
+
+slice-write-downs : tie.Need-slice-write-downs
+slice-write-downs c = omega (arith, (ends (c .before .before .before .before .before .before .before .before .before .before .before .before .pre .0) _ _ _ _ _ (c .before .before .before .before .before .before .before .before .before .before .before .before .pre .1) (c .before .before .before .before .before .before .before .tail-of .ensures) (c .before .before .before .before .before .before .rank-of .ensures) (c .before .before .before .before .before .head-of .ensures) (c .before .before .before .before .rank-of2 .ensures)) .tail-below, c .before .before .before .before .before .before .before .before .before .before .before .before .pre .3)
+
+returns : tie.Need-returns
+returns c = let e = (ends (c .before .before .before .before .before .before .before .before .before .before .before .before .pre .0) _ _ _ _ _ (c .before .before .before .before .before .before .before .before .before .before .before .before .pre .1) (c .before .before .before .before .before .before .before .tail-of .ensures) (c .before .before .before .before .before .before .rank-of .ensures) (c .before .before .before .before .before .head-of .ensures) (c .before .before .before .before .rank-of2 .ensures)) in road-up _ _ _ _ _ (c .before .before .before .base-of .result .0) _ _ (e .tail-is) (e .head-is) (ap some (sym (c .before .before .before .base-of .ensures))) (omega (arith, c .before .before .before .base-of .ensures, c .before .before .before .before .before .before .before .before .before .before .before .before .pre .0 .bases (c .before .before .before .before .before .before .before .before .before .before .before .before .args .i) (c .before .before .before .before .before .before .before .before .before .before .before .before .pre .1))) (c .before .before .if1 .taken) (c .before .before .before .before .before .before .before .before .before .before .before .before .pre .2) _ (c .least .ensures)
+
+returns-2 : tie.Need-returns-2
+returns-2 c = let e = (ends (c .before .before .before .before .before .before .before .before .before .before .before .before .pre .0) _ _ _ _ _ (c .before .before .before .before .before .before .before .before .before .before .before .before .pre .1) (c .before .before .before .before .before .before .before .tail-of .ensures) (c .before .before .before .before .before .before .rank-of .ensures) (c .before .before .before .before .before .head-of .ensures) (c .before .before .before .before .rank-of2 .ensures)) in road-down _ _ _ _ _ (c .before .before .before .base-of .result .0) _ _ (e .tail-is) (e .head-is) (ap some (sym (c .before .before .before .base-of .ensures))) (omega (arith, c .before .before .before .base-of .ensures, c .before .before .before .before .before .before .before .before .before .before .before .before .pre .0 .bases (c .before .before .before .before .before .before .before .before .before .before .before .before .args .i) (c .before .before .before .before .before .before .before .before .before .before .before .before .pre .1))) (c .before .before .if1 .left) (c .before .before .before .before .before .before .before .before .before .before .before .before .pre .3) _ (c .least2 .ensures)
+
+pub relax-road-spec : {M : Type 1} → statement M
+relax-road-spec =
+    tie.close
+    (tie.spec
+    (λ c κs. search needs)
+    rank-of-requires
+    (λ c κs. search needs)
+    rank-of-requires-2
+    (λ c κs. search needs)
+    (λ c. search needs)
+    (λ c. search needs)
+    slice-read-least
+    (λ c κs. search needs)
+    (λ c. search needs)
+    slice-write-ups
+    (λ c. search needs)
+    (λ c. search needs)
+    slice-read-least-2
+    (λ c κs. search needs)
+    (λ c. search needs)
+    slice-write-downs
+    (λ c. search needs)
+    returns
+    (λ c. search needs)
+    returns-2)

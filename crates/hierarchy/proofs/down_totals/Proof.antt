@@ -1,0 +1,53 @@
+use Rattle.hierarchy.proofs.Descends.{descend-end, descend-start, descend-turn}
+use Rattle.hierarchy.specs.Downs.{Descending}
+use lib.ListN.{length, length-set}
+use mathlib.Core.Path.{_∙_, _≡_}
+use Prim.Native.Nat.{_-_, _≤_}
+use borrow.Author.Needs.{needs}
+use Rattle.hierarchy.proofs.down_totals.Statement.{statement}
+use Rattle.hierarchy.proofs.down_totals.Tie as tie
+
+abbrev Inv-loop : tie.InvT-loop
+Inv-loop n count order pairs down₀ t i₀ down i = (i ≤ count) × (length down ≡ n) × Descending n order pairs count t i down
+
+abbrev μ-loop : tie.MeasureT-loop
+μ-loop n count order pairs down₀ t i₀ down i = count - i
+
+loop-holds : tie.Need-loop-holds Inv-loop μ-loop
+loop-holds c = (
+  search needs,
+  simp length-set (search needs),
+  descend-start _ _ _ _ _ (search needs) _ _ _ (c .before .before .before .before .before .before .before .before .before .before .pre .3)
+      (c .before .before .before .before .before .fill .ensures) (c .word .ensures ∙ c .before .of-word .ensures),
+)
+
+loop-again : tie.Need-loop-again Inv-loop μ-loop
+loop-again c = (
+  search needs,
+  search needs,
+  descend-turn _ _ _ _ _ _ _ _ (c .before .before .before .before .loop-test .taken) (c .before .before .before .before .before .loop .inv .1)
+      (c .before .before .before .before .before .loop .inv .2) (c .before .before .hand-down .ensures),
+)
+
+returns : tie.Need-returns Inv-loop μ-loop
+returns c = descend-end _ _ _ _ _ _ _ (c .loop-test .left) (c .before .loop .inv .1) (search needs) (c .before .loop .inv .2)
+
+pub down-totals-spec : {M : Type 1} → statement M
+down-totals-spec =
+    tie.close
+    (tie.spec
+    Inv-loop
+    μ-loop
+    (λ c κs. search needs)
+    (λ c. search needs)
+    (λ c κs. search needs)
+    (λ c κs. search needs)
+    (λ c. search needs)
+    (λ c. search needs)
+    loop-holds
+    (λ c κs. search needs)
+    (λ c. search needs)
+    (λ c. search needs)
+    loop-again
+    (λ c. search needs)
+    returns)

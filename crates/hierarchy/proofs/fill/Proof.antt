@@ -1,0 +1,41 @@
+use Rattle.hierarchy.proofs.Descends.{fill-end, fill-turn}
+use lib.ListN.{getD, length, length-set}
+use mathlib.Core.Path.{_≡_}
+use Prim.Native.Nat.{_-_, _<_, _≤_, ℕ}
+use native.Mathlib.Omega.{arith}
+use borrow.Author.Needs.{needs}
+use Rattle.hierarchy.proofs.fill.Statement.{statement}
+use Rattle.hierarchy.proofs.fill.Tie as tie
+
+abbrev Inv-loop : tie.InvT-loop
+Inv-loop area₀ w i₀ area i = (i ≤ length area) × (length area ≡ length area₀) × ((k : ℕ) → k < i → getD area k 0 ≡ w)
+
+abbrev μ-loop : tie.MeasureT-loop
+μ-loop area₀ w i₀ area i = length area - i
+
+loop-less : tie.Need-loop-less Inv-loop μ-loop
+loop-less c = simp length-set (omega arith)
+
+loop-again : tie.Need-loop-again Inv-loop μ-loop
+loop-again c = (simp length-set (search needs), simp length-set (search needs), fill-turn (c .before .loop .area) _ _ (c .loop-test .taken) (c .before .loop .inv .2))
+
+returns : tie.Need-returns Inv-loop μ-loop
+returns c =
+    fill-end (c .before .before .before .before .args .area .now) (c .before .loop .area) _ _ _ (c .before .loop .inv .1) (c .loop-test .left) (c .before .loop .inv .2)
+    (c .before .before .word .ensures)
+
+pub fill-spec : {M : Type 1} → statement M
+fill-spec =
+    tie.close
+    (tie.spec
+    Inv-loop
+    μ-loop
+    (λ c κs. search needs)
+    (λ c. search needs)
+    (λ c. search needs)
+    (λ c. search needs)
+    (λ c. search needs)
+    loop-less
+    loop-again
+    (λ c. search needs)
+    returns)

@@ -1,0 +1,24 @@
+use mathlib.Core.Path.{_∙_, ap, sym}
+use Rattle.card.specs.Answers.{readingIn}
+use Rattle.unit_c.proofs.Told.{read-told, unread-told}
+use borrow.Author.Needs.{needs}
+use Rattle.unit_c.proofs.card_read.Statement.{statement}
+use Rattle.unit_c.proofs.card_read.Tie as tie
+
+returns : tie.Need-returns
+returns c = read-told _ _ _ (ap readingIn (sym (c .before .n .given .1)) ∙ c .before .before .before .read .ensures)
+
+returns-2 : tie.Need-returns-2
+returns-2 c = unread-told _ _ _ _ (ap readingIn (sym (c .before .before .before .q .given .1)) ∙ c .before .before .before .before .before .read .ensures) (c .question-of .ensures) (c .before .place-of .ensures)
+
+pub card-read-spec : {M : Type 1} → statement M
+card-read-spec =
+    tie.close
+    (tie.spec
+    (λ c κs. search needs)
+    (λ c. search needs)
+    (λ c. search needs)
+    (λ c κs. search needs)
+    (λ c κs. search needs)
+    returns
+    returns-2)

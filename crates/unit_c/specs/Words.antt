@@ -1,0 +1,35 @@
+-- Answers as words. Definitions only.
+use mathlib.Core.Path.{_≡_}
+use mathlib.Core.List.{List, [], _∷_}
+use Prim.Native.Nat.{ℕ}
+use Rattle.model.specs.Types.{Accepted, Answer, Estimated, Gone, Read, Reading, Refused, Unreadable}
+use Rattle.model.specs.Card.{Written, question}
+use Rattle.network.specs.Refusals.{placeOf}
+
+-- 0, or the number of the question that refuses
+abbrev pub readingNumber : Reading → ℕ
+readingNumber (Unreadable q) = question q
+readingNumber (Read n m) = 0
+
+-- n and m, or the place that is named
+abbrev pub readingWords : Reading → List ℕ
+readingWords (Unreadable q) = placeOf q ∷ 0 ∷ []
+readingWords (Read n m) = n ∷ m ∷ []
+
+abbrev pub answerNumber : Answer → ℕ
+answerNumber (Refused q) = question q
+answerNumber Accepted = 0
+answerNumber (Estimated t) = 0
+answerNumber (Gone t c k) = 0
+
+abbrev pub answerPlace : Answer → ℕ
+answerPlace (Refused q) = placeOf q
+answerPlace Accepted = 0
+answerPlace (Estimated t) = 0
+answerPlace (Gone t c k) = 0
+
+-- what the writer answers and leaves, as the caller sees it
+pub record Wrote (w : Written) (number place : ℕ) (area : List ℕ) : Type 0 where
+  pub number-is : number ≡ answerNumber (w .answer)
+  pub place-is : place ≡ answerPlace (w .answer)
+  pub area-is : area ≡ w .area

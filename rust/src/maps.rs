@@ -1,0 +1,250 @@
+//! Maps to test and to measure with.
+
+use crate::card::{self, Refusal, LONGEST, MOST_ROADS};
+use crate::order;
+use crate::random::Random;
+use crate::time::Time;
+
+#[derive(Clone, Copy, Debug, PartialEq, Eq)]
+pub struct Road {
+    pub tail: u32,
+    pub head: u32,
+    pub base: Time,
+}
+
+/// Roads by number, and the junctions from lowest rank to highest.
+#[derive(Clone, Debug, PartialEq, Eq)]
+pub struct Map {
+    pub roads: Vec<Road>,
+    pub order: Vec<u32>,
+}
+
+impl Map {
+    pub fn n(&self) -> usize {
+        self.order.len()
+    }
+
+    pub fn m(&self) -> usize {
+        self.roads.len()
+    }
+
+    /// Each road's base time.
+    pub fn base(&self) -> Vec<Time> {
+        self.roads.iter().map(|road| road.base).collect()
+    }
+
+    /// The map as two rows of words, as the writer of cards is lent it.
+    pub fn rows(&self) -> (Vec<u32>, Vec<u32>) {
+        let words = |road: &Road| [road.tail, road.head, road.base];
+        (self.roads.iter().flat_map(words).collect(), self.order.clone())
+    }
+
+    /// The map's card.
+    pub fn card(&self) -> Result<Vec<u8>, Refusal> {
+        let (roads, order) = self.rows();
+        let mut card = vec![0; card::len(self.n(), self.m())];
+        card::write(&roads, &order, &mut card)?;
+        Ok(card)
+    }
+
+    /// Roads over `n` junctions in a good order.
+    fn in_good_order(n: usize, roads: Vec<Road>) -> Map {
+        let order = order::least_degree(n, &roads);
+        Map { roads, order }
+    }
+}
+
+/// Document 01's example.
+pub fn map_p() -> Map {
+    let road = |(tail, head, base)| Road { tail, head, base };
+    let roads = [(0, 1, 10), (1, 3, 10), (0, 2, 15), (2, 3, 10), (3, 0, 20)];
+    Map { roads: roads.map(road).to_vec(), order: vec![1, 2, 0, 3] }
+}
+
+/// `m` roads with base times to `longest` between any of `n` junctions, parallel ones among them,
+/// in any order. Where n is 1 there are none.
+pub fn random(random: &mut Random, n: usize, m: usize, longest: Time) -> Map {
+    let mut order: Vec<u32> = (0..n as u32).collect();
+    random.shuffle(&mut order);
+    let road = |_| {
+        let tail = random.below(n);
+        let head = (tail + 1 + random.below(n - 1)) % n;
+        Road { tail: tail as u32, head: head as u32, base: random.within(1..=longest) }
+    };
+    let roads = (0..if n < 2 { 0 } else { m }).map(road).collect();
+    Map { roads, order }
+}
+
+/// The streets of a town, in percent of the grid's.
+#[derive(Clone, Copy, Debug, PartialEq, Eq)]
+pub struct Streets {
+    pub missing: u32,
+    pub one_way: u32,
+}
+
+impl Streets {
+    /// As in most towns.
+    pub const USUAL: Streets = Streets { missing: 15, one_way: 25 };
+    /// Nearly the whole grid, and both ways.
+    pub const DENSE: Streets = Streets { missing: 3, one_way: 0 };
+}
+
+/// A town: a grid of streets, one way in alternate directions or both ways, each eighth line a
+/// main road. A block takes 10 to 40 seconds each way, on main roads a third of it. The roads are
+/// numbered in any order, the order is a good one.
+pub fn town(random: &mut Random, width: usize, height: usize, streets: Streets) -> Map {
+    let mut roads = Vec::new();
+    for (line, [a, b]) in blocks(width, height) {
+        let main = line % 8 == 3;
+        if !main && random.chance(streets.missing) {
+            continue;
+        }
+        let [tail, head] = if line.is_multiple_of(2) { [a, b] } else { [b, a] };
+        let base = random.within(10..=40) / if main { 3 } else { 1 };
+        roads.push(Road { tail, head, base });
+        if main || !random.chance(streets.one_way) {
+            roads.push(Road { tail: head, head: tail, base: base + random.within(0..=5) });
+        }
+    }
+    random.shuffle(&mut roads);
+    Map::in_good_order(width * height, roads)
+}
+
+/// The largest dense town: 4,096 junctions, and 16,384 roads with the parallel ones.
+pub fn largest_town(random: &mut Random) -> Map {
+    let mut map = town(random, 64, 64, Streets::DENSE);
+    while map.m() < MOST_ROADS {
+        let road = random.pick(&map.roads);
+        map.roads.push(Road { base: random.within(1..=60), ..road });
+    }
+    map
+}
+
+/// A two-way grid with base times of 1 and a few of 2, junctions and roads numbered in any order:
+/// many totals and keys are equal. The order is a good one.
+pub fn even_grid(random: &mut Random, width: usize, height: usize) -> Map {
+    let mut numbers: Vec<u32> = (0..(width * height) as u32).collect();
+    random.shuffle(&mut numbers);
+    let mut roads = Vec::new();
+    for (_, ends) in blocks(width, height) {
+        let [a, b] = ends.map(|end| numbers[end as usize]);
+        for [tail, head] in [[a, b], [b, a]] {
+            roads.push(Road { tail, head, base: random.pick(&[1, 1, 1, 2]) });
+        }
+    }
+    random.shuffle(&mut roads);
+    Map::in_good_order(width * height, roads)
+}
+
+/// The blocks of a grid with the number of their line, across or down, and the junctions at their
+/// ends, which are numbered line by line.
+fn blocks(width: usize, height: usize) -> impl Iterator<Item = (usize, [u32; 2])> {
+    let at = move |x, y| (y * width + x) as u32;
+    let across = move |y| (1..width).map(move |x| (y, [at(x - 1, y), at(x, y)]));
+    let down = move |x| (1..height).map(move |y| (x, [at(x, y - 1), at(x, y)]));
+    (0..height).flat_map(across).chain((0..width).flat_map(down))
+}
+
+/// A two-way line of junctions with the longest base times, its order from one end to the other:
+/// the largest least total, and an estimate that asks for all the others one within the other.
+pub fn line(n: usize) -> Map {
+    let roads = (1..n).flat_map(|i| both_ways(i - 1, i)).collect();
+    Map { roads, order: (0..n as u32).collect() }
+}
+
+/// Two-way spokes from junction 0 with the longest base times, the centre ranking highest. In the
+/// reverse order, the centre lowest, every two junctions are a pair.
+pub fn star(n: usize) -> Map {
+    let roads = (1..n).flat_map(|i| both_ways(0, i)).collect();
+    Map { roads, order: (1..n as u32).chain([0]).collect() }
+}
+
+/// A one-way ring with the longest base times, its order once round.
+pub fn ring(n: usize) -> Map {
+    let roads = (0..n).map(|i| long(i, (i + 1) % n)).collect();
+    Map { roads, order: (0..n as u32).collect() }
+}
+
+/// A one-way line 0, 1 .. n - 2 with the longest base times; and from n - 3 roads back to 0 and, by
+/// way of n - 1, on to n - 2. With road n - 3, the line's last, closed, the search from 1 to n - 2 has
+/// two candidates at last: 0 with a key of 2n - 5 roads, 8,187,000,000 in the largest map, and n - 1
+/// with one of n - 2 roads, which would be the larger one if keys had 32 bits.
+pub fn wide_keys(n: usize) -> Map {
+    let mut roads: Vec<Road> = (0..n - 2).map(|i| long(i, i + 1)).collect();
+    roads.extend([long(n - 3, 0), long(n - 3, n - 1), long(n - 1, n - 2)]);
+    Map { roads, order: (0..n as u32).collect() }
+}
+
+/// Three maps alike but for the order: a one-way line 0, 1 .. n - 4 with the longest base times, roads
+/// from a = n - 3 and x = n - 2 to its first junction, and from its last to x and b = n - 1. The chain
+/// from a to b has n - 2 roads, and that by way of x 2(n - 2), in the largest map 8,188,000,000: the
+/// smaller one if it had 32 bits. The two are compared by contraction with the first order, by the down
+/// totals for b with the second, by the estimate of a for b with the third.
+pub fn wide_sums(n: usize) -> [Map; 3] {
+    let (a, x, b) = (n - 3, n - 2, n - 1);
+    let mut roads: Vec<Road> = (0..n - 4).map(|i| long(i, i + 1)).collect();
+    roads.extend([long(a, 0), long(x, 0), long(n - 4, x), long(n - 4, b)]);
+    [[x, a, b], [b, x, a], [a, x, b]].map(|last| {
+        let order = (0..n - 3).chain(last).map(|junction| junction as u32).collect();
+        Map { roads: roads.clone(), order }
+    })
+}
+
+fn both_ways(a: usize, b: usize) -> [Road; 2] {
+    [long(a, b), long(b, a)]
+}
+
+fn long(tail: usize, head: usize) -> Road {
+    Road { tail: tail as u32, head: head as u32, base: LONGEST }
+}
+
+#[cfg(test)]
+mod tests {
+    use super::*;
+    use crate::card::MOST_JUNCTIONS;
+    use crate::order::{pairs, MOST_PAIRS};
+
+    #[test]
+    fn every_kind_has_a_card() {
+        let mut r = Random::new(1);
+        for map in [
+            map_p(),
+            random(&mut r, 1, 7, LONGEST),
+            random(&mut r, MOST_JUNCTIONS, MOST_ROADS, LONGEST),
+            town(&mut r, 10, 20, Streets::USUAL),
+            largest_town(&mut r),
+            even_grid(&mut r, 20, 20),
+            line(MOST_JUNCTIONS),
+            star(MOST_JUNCTIONS),
+            ring(MOST_JUNCTIONS),
+            wide_keys(MOST_JUNCTIONS),
+            wide_sums(MOST_JUNCTIONS)[0].clone(),
+        ] {
+            let card = map.card().unwrap();
+            assert_eq!(card::map(&card), Ok(map.rows()));
+        }
+    }
+
+    #[test]
+    fn towns_keep_few_pairs() {
+        for (width, height, streets, roads, most) in [
+            (10, 20, Streets::USUAL, 500, 1_000),
+            (10, 20, Streets::DENSE, 680, 1_500),
+            (32, 32, Streets::USUAL, 2_900, 8_000),
+            (64, 64, Streets::USUAL, 12_000, 45_000),
+            (64, 64, Streets::DENSE, 15_500, MOST_PAIRS),
+            (128, 32, Streets::DENSE, 15_500, MOST_PAIRS),
+        ] {
+            for seed in 0..4 {
+                let map = town(&mut Random::new(seed), width, height, streets);
+                assert_eq!(map.n(), width * height);
+                assert!(map.m() >= roads, "{width}, {height}, {streets:?}: {} roads", map.m());
+                let kept = pairs(&map);
+                assert!(kept <= most, "{width}, {height}, {streets:?}: {kept} pairs");
+            }
+        }
+        let map = largest_town(&mut Random::new(1));
+        assert_eq!((map.n(), map.m()), (MOST_JUNCTIONS, MOST_ROADS));
+        assert!(pairs(&map) <= MOST_PAIRS);
+    }
+}
