@@ -1,20 +1,17 @@
 -- A state that is ready, as a problem that the labels can be kept for. Assumes nothing.
-use mathlib.Core.Path.{_∙_, _≡_, ap, refl, sym}
-use mathlib.Core.Option.{some}
+use mathlib.Core.Path.{_≡_, refl, sym}
 use mathlib.Core.List.{List}
 use Prim.Native.Nat.{_*_, _+_, _<_, _≤_, ℕ}
 use borrow.Author.Tests.{eq-eqb, ne-eqb}
 use lib.Dec.{eqb}
 use lib.ListN.{length}
 use native.Mathlib.Omega.{arith}
-use Rattle.graph.specs.Total.{Total}
 use Rattle.graph.specs.Least.{least-unique}
 use Rattle.graph.specs.Network.{Arc}
 use Rattle.graph.specs.Bound.{CostsAtMost, totals-fit}
 use Rattle.graph.specs.Potential.{Slower}
-use Rattle.graph.specs.Search.{Entry, Problem, timeIn}
 use Rattle.graph.specs.Walk.{startAt-some}
-use Rattle.graph.specs.History.{Reached, logged-least, mem-timeIn}
+use Rattle.graph.specs.History.{logged-least, mem-timeIn}
 use Rattle.graph.specs.Map.{estimateOf, estimateOf-bound, liveNet, timeOf-bound}
 use Rattle.graph.specs.Go.{go-time-least, go-well-formed, goOf}
 use Rattle.model.specs.Bytes.{wordAt}

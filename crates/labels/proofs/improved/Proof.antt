@@ -2,7 +2,7 @@ use Rattle.labels.proofs.Improves.{takes-over}
 use borrow.Author.Tests.{eqb-false, eqb-true}
 use native.Mathlib.Omega.{arith}
 use Rattle.labels.specs.Improved.{behind, later, lost, settled, tied}
-use mathlib.Core.Path.{_≡_, _∙_, sym}
+use mathlib.Core.Path.{_∙_, sym}
 use borrow.Author.Needs.{needs}
 use Rattle.labels.proofs.improved.Statement.{statement}
 use Rattle.labels.proofs.improved.Tie as tie

@@ -1,7 +1,4 @@
 use native.Mathlib.Omega.{arith}
-use mathlib.Core.Path.{_≡_, _∙_, sym}
-use Prim.Native.Nat.{_-_, _<_, _≤_}
-use lib.ListN.{length, length-set}
 use Rattle.labels.proofs.Backs.{step-far, step-none, step-to}
 use borrow.Author.Needs.{needs}
 use Rattle.labels.proofs.step_back.Statement.{statement}
