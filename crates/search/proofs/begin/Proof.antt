@@ -7,13 +7,29 @@ use Rattle.search.proofs.begin.Statement.{statement}
 use Rattle.search.proofs.begin.Tie as tie
 
 returns : tie.Need-returns
-returns c = begun-none _ _ _ _ _ _ _ _ _ (c .before .before .before .before .before .before .before .before .before .before .before .before .before .before .before .before .before .before .before .before .before .before .args .elapsed .now) _ _ (c .before .before .before .before .before .before .before .before .before .before .before .before .before .before .before .before .before .before .before .before .before .before .pre .5) (c .before .before .before .before .before .before .before .before .before .before .before .before .before .before .before .before .before .before .before .before .before .before .pre .6) (c .before .before .before .before .before .before .before .before .before .before .before .before .fill .ensures) (c .before .before .before .before .before .before .before .before .before .before .before .before .before .before .before .before .before .before .before .before .before .before .pre .12) (c .before .before .before .before .before .before .before .before .before .before .before .before .before .before .before .before .before .before .before .before .before .before .args .wins .now) _ (c .before .before .before .before .before .before .before .before .before .before .before .before .before .before .before .before .before .before .before .before .before .before .pre .8) (c .before .before .before .before .before .before .before .before .reset .ensures) _ (c .before .before .before .before .estimate .ensures) (sym (c .before .is-none .ensures) ∙ c .if1 .taken)
+returns c =
+    let at-estimate = c .before .before .before .before in
+    let at-reset = at-estimate .before .before .before .before in
+    let at-fill = at-reset .before .before .before .before in
+    let start = at-fill .before .before .before .before .before .before .before .before .before .before in
+    begun-none _ _ _ _ _ _ _ _ _ (start .args .elapsed .now) _ _ (start .pre .5) (start .pre .6) (at-fill .fill .ensures) (start .pre .12) (start .args .wins .now) _ (start .pre .8) (at-reset .reset .ensures) _ (at-estimate .estimate .ensures) (sym (c .before .is-none .ensures) ∙ c .if1 .taken)
 
 enter-requires : tie.Need-enter-requires
-enter-requires c κs = (simp length-set (omega (arith, c .before .before .before .before .before .before .before .before .before .before .before .before .before .before .before .before .before .before .before .before .before .before .before .before .before .before .pre .0, c .before .before .before .before .before .before .before .before .before .before .before .before .before .before .before .before .before .before .before .before .before .before .before .before .before .before .pre .7)), omega (arith, c .before .before .before .before .before .before .before .before .before .before .before .before .before .before .before .before .before .before .before .before .before .before .before .before .before .before .pre .0, c .before .before .before .before .before .before .before .before .before .before .before .before .before .before .before .before .before .before .before .before .before .before .before .before .before .before .pre .8, c .before .before .before .before .before .before .before .before .before .before .before .before .reset .kept .0))
+enter-requires c κs =
+    let at-reset = c .before .before .before .before .before .before .before .before .before .before .before .before in
+    let start = at-reset .before .before .before .before .before .before .before .before .before .before .before .before .before .before in
+    (simp length-set (omega (arith, start .pre .0, start .pre .7)), omega (arith, start .pre .0, start .pre .8, at-reset .reset .kept .0))
 
 returns-2 : tie.Need-returns-2
-returns-2 c = begun-first _ _ _ _ _ _ _ _ _ (c .before .before .before .before .before .before .before .before .before .before .before .before .before .before .before .before .before .before .before .before .before .before .before .before .before .before .before .before .before .args .elapsed .now) _ (c .before .before .before .before .before .before .before .before .before .before .before .before .before .before .before .before .before .before .before .before .before .before .before .before .before .before .before .before .before .args .keys .now) (c .before .before .before .before .before .before .before .before .before .before .before .before .before .before .before .before .before .before .before .before .before .before .before .before .before .before .before .before .before .pre .5) (c .before .before .before .before .before .before .before .before .before .before .before .before .before .before .before .before .before .before .before .before .before .before .before .before .before .before .before .before .before .pre .6) (c .before .before .before .before .before .before .before .before .before .before .before .before .before .before .before .before .before .before .before .fill .ensures) (c .before .before .before .before .before .before .before .before .before .before .before .before .before .before .before .before .before .before .before .before .before .before .before .before .before .before .before .before .before .pre .12) (c .before .before .before .before .before .before .before .before .before .before .before .before .before .before .before .before .before .before .before .before .before .before .before .before .before .before .before .before .before .args .wins .now) _ (c .before .before .before .before .before .before .before .before .before .before .before .before .before .before .before .before .before .before .before .before .before .before .before .before .before .before .before .before .before .pre .8) (c .before .before .before .before .before .before .before .before .before .before .before .before .before .before .before .reset .ensures) _ (c .before .before .before .before .before .before .before .before .before .before .before .estimate .ensures) _ _ _ (sym (c .before .before .before .before .before .before .before .before .is-none .ensures) ∙ c .before .before .before .before .before .before .before .if1 .left) refl (c .before .before .before .before .before .word .ensures) (c .before .before .before .before .before .before .before .before .before .before .before .before .before .before .before .before .before .before .before .before .before .before .before .before .before .before .before .before .before .pre .0) (c .before .before .before .before .before .before .before .before .before .before .before .before .before .before .before .before .before .before .before .before .before .before .before .before .before .before .before .before .before .pre .7) (c .before .before .enter .ensures)
+returns-2 c =
+    let at-word = c .before .before .before .before .before in
+    let at-if1 = at-word .before .before in
+    let at-is-none = at-if1 .before in
+    let at-estimate = at-is-none .before .before .before in
+    let at-reset = at-estimate .before .before .before .before in
+    let at-fill = at-reset .before .before .before .before in
+    let start = at-fill .before .before .before .before .before .before .before .before .before .before in
+    begun-first _ _ _ _ _ _ _ _ _ (start .args .elapsed .now) _ (start .args .keys .now) (start .pre .5) (start .pre .6) (at-fill .fill .ensures) (start .pre .12) (start .args .wins .now) _ (start .pre .8) (at-reset .reset .ensures) _ (at-estimate .estimate .ensures) _ _ _ (sym (at-is-none .is-none .ensures) ∙ at-if1 .if1 .left) refl (at-word .word .ensures) (start .pre .0) (start .pre .7) (c .before .before .enter .ensures)
 
 pub begin-spec : {M : Type 1} → statement M
 begin-spec =
