@@ -2,10 +2,11 @@
 // Functions on slices; nothing here asks an estimate.
 ghost use mathlib.Core.Path.{_≡_};
 ghost use Prim.Native.Nat.{ℕ, _*_, _+_, _<_, _≤_};
+ghost use lib.Dec.{eqb};
 ghost use lib.ListN.{getD, length};
 ghost use Rattle.model.specs.Bytes.{listed};
 ghost use Rattle.model.specs.Calls.{first};
-ghost use Rattle.labels.specs.Keys.{kept};
+ghost use Rattle.labels.specs.Keys.{kept, settledKey};
 ghost use Rattle.labels.specs.Winners.{Chooses, Entered, Leads, Settled, blockEnd};
 ghost use Rattle.labels.specs.Improved.{Improved, Stored};
 ghost use Rattle.labels.specs.Grouped.{Grouped};
@@ -35,6 +36,13 @@ pub struct Label {
     pub via: u32,
 }
 
+// A candidate's key: its time plus its estimate. The sum may pass 32 bits.
+pub fn key_of(time: Time, estimate: Time) -> u64
+    ensures { λ r. ⌜ r ≡ time .0 + estimate .0 ⌝ }
+{
+    time.word() as u64 + estimate.word() as u64
+}
+
 // The label of a junction after road i is relaxed too, which gives it the time `offer`; `estimate` is the junction's.
 pub fn improved(old: Label, offer: Time, estimate: Time, i: u32) -> Label
     ensures { λ r. ⌜ Improved (offer .0) (estimate .0) i (old .time .0) (old .key) (old .via) (r .time .0) (r .key) (r .via) ⌝ }
@@ -61,7 +69,7 @@ pub fn improved(old: Label, offer: Time, estimate: Time, i: u32) -> Label
     if w < t {
         return Label {
             time: offer,
-            key: w as u64 + estimate.word() as u64,
+            key: key_of(offer, estimate),
             via: i,
         };
     }
@@ -209,6 +217,15 @@ fn block_end(n: u32, b: u32) -> u32
 {
     let end = 64 * b + 64;
     if end < n { end } else { n }
+}
+
+// Is v logged?
+pub fn is_logged(keys: &[u64], v: Junction) -> bool
+    requires { ⌜ v .0 < length (now keys) ⌝ }
+    ensures { λ r. ⌜ r ≡ eqb (getD (now (keys .entry)) (v .0) 0) settledKey ⌝ }
+{
+    let a = v.0 as usize;
+    keys[a] == SETTLED
 }
 
 // The candidate v is logged as number c.

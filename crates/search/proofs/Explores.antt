@@ -5,14 +5,17 @@ use mathlib.Core.Bool.{false, true}
 use mathlib.Core.Option.{none, some}
 use mathlib.Core.List.{List, [], _++_, _∷_, map-append, reverse, reverse-cons}
 use Prim.Native.Nat.{_+_, _<_, _≤_, ℕ}
-use borrow.Author.Tests.{eq-eqb, ne-eqb}
+use borrow.Author.Tests.{eq-eqb, eqb-false, eqb-true, ne-eqb}
+use lib.Dec.{eqb}
 use lib.ListN.{getD, length, length-reverse, set}
+use lib.Seq.{getD-set-same}
 use native.Mathlib.Omega.{arith}
+use Rattle.graph.specs.Total.{true-false}
 use Rattle.graph.specs.Search.{Entry, Problem, extend, hasGoal, history, timeIn, vertices}
-use Rattle.graph.specs.Walk.{timeIn-here}
+use Rattle.graph.specs.Walk.{TimeIs, timeIn-cases, timeIn-here}
 use Rattle.graph.specs.Choice.{NextIs, chosen}
 use Rattle.graph.specs.History.{Reached, fresh, grow}
-use Rattle.graph.specs.Complete.{Complete, extend-grows, length-le, length-vertices}
+use Rattle.graph.specs.Complete.{Complete, extend-grows, length-le, length-vertices, no-goal}
 use Rattle.graph.specs.Steps.{complete-history}
 use Rattle.model.specs.Calls.{first}
 use Rattle.model.specs.Ends.{first-snoc}
@@ -21,7 +24,7 @@ use Rattle.labels.specs.declared.Choice.{Choice}
 use Rattle.labels.specs.declared.Choice.the-variants.{At, Nothing}
 use Rattle.labels.specs.Keys.{Chosen, LeastKey, settledKey}
 use Rattle.labels.specs.Winners.{Chooses, Inside, Settled, Winners}
-use Rattle.labels.specs.Labelled.{Labels}
+use Rattle.labels.specs.Labelled.{Labelled, Labels, label-candidate, label-hopeless, label-logged, label-unseen}
 use Rattle.labels.specs.Relax.{labels-full}
 use Rattle.labels.specs.Log.{labels-log, next-chosen, next-none}
 use Rattle.search.specs.State.{Explored, Explores, Held, Logged, Ready, Relaxed, goIn}
@@ -132,13 +135,37 @@ module _ (roads order ranks pairs live down : List ℕ) (n m count z : ℕ) wher
             st .log-is ∙ ap (λ (x : List ℕ). set x c v) (g .log-is) ∙ ap (λ (k : ℕ). set (first (vertices (reverse (g .past))) log₀) k v) (sym n)
             ∙ first-snoc (vertices (reverse (g .past))) log₀ v (rw n lc) ∙ ap (λ (x : List ℕ). first x log₀) (sym (log-more (g .past) entry))
 
+        -- what the target's key says of v
+        target-key : z < length keys → eqb (getD keys′ z 0) settledKey ≡ false → v ≡ z → ⊥
+        target-key lz q e =
+            eqb-false (getD keys′ z 0) settledKey q
+            (ap (λ (x : List ℕ). getD x z 0) (st .keys-are) ∙ ap (λ (u : ℕ). getD (set keys u settledKey) z 0) e ∙ getD-set-same keys z settledKey 0 lz)
+
+        target-logged : eqb (getD keys′ z 0) settledKey ≡ true → v ≡ z
+        unfolding entry
+        target-logged q = go (held-more .labels z (rw (codes r .size-is) (r .target)))
+          where
+            older : (t : ℕ) → TimeIs entry (g .past) z t → v ≡ z
+            older t (inl e) = e .0
+            older t (inr e) = absurd (true-false (codes r .goals z ∙ eq-eqb z z refl) (no-goal (goIn roads order live s z) (g .past) (g .no-goal) z t (e .1)))
+
+            key : getD keys′ z 0 ≡ settledKey
+            key = eqb-true (getD keys′ z 0) settledKey q
+
+            go : {t i : ℕ} → Labelled (goIn roads order live s z) (entry ∷ g .past) v 0 z t (getD keys′ z 0) i → v ≡ z
+            go (label-logged {t} h a w) = older t (timeIn-cases entry (g .past) z t h)
+            go (label-hopeless h p a b) = absurd (omega (arith, key))
+            go (label-unseen h bare a b) = absurd (omega (arith, key))
+            go (label-candidate {p = p} h pot least fits first b) = absurd (omega (arith, key, codes r .ok .pots z p (rw (codes r .size-is) (r .target)) pot))
+
         goal-of : goIn roads order live s z .goal v ≡ true → hasGoal (goIn roads order live s z) (entry ∷ g .past) ≡ true
         unfolding entry hasGoal
         goal-of q = rw q
 
         -- it is the target
-        ends-found : v ≡ z → Explored roads order live s z down e₀ log₀ e times keys′ vias wins′ log′ (c + 1)
-        ends-found q =
+        ends-found : eqb (getD keys′ z 0) settledKey ≡ true → Explored roads order live s z down e₀ log₀ e times keys′ vias wins′ log′ (c + 1)
+        ends-found y =
+            let q = target-logged y in
             let d : hasGoal (goIn roads order live s z) (entry ∷ g .past) ≡ true = goal-of (codes r .goals v ∙ eq-eqb v z q) in
             over e₀ log₀ e times keys′ vias wins′ log′ (c + 1) 0 (entry ∷ g .past) reached-more (inl d) (omega (arith, g .counted)) log-next
             (subst (λ (a : ℕ). Held roads order live s z (entry ∷ g .past) a 0 down e₀ e times keys′ vias wins′) q held-more)
@@ -152,10 +179,11 @@ module _ (roads order ranks pairs live down : List ℕ) (n m count z : ℕ) wher
         unfolding entry
         logged-more ne = record { reached = reached-more; time-is = timeIn-here entry (g .past) v refl; not-target = ne }
 
-        goes-more : (e″ times″ keys″ vias″ wins″ : List ℕ) → (v ≡ z → ⊥)
+        goes-more : (e″ times″ keys″ vias″ wins″ : List ℕ) → z < length keys → eqb (getD keys′ z 0) settledKey ≡ false
             → Relaxed roads order ranks pairs live down n m count v (getD times v 0) 0 m e times keys′ vias wins′ e″ times″ keys″ vias″ wins″
             → Going s e₀ log₀ e″ times″ keys″ vias″ wins″ log′ (c + 1)
-        goes-more e″ times″ keys″ vias″ wins″ ne x =
+        goes-more e″ times″ keys″ vias″ wins″ lz y x =
+            let ne = target-key lz y in
             let h = x s z (entry ∷ g .past) e₀ r (logged-more ne) held-more in
             record {
               past = entry ∷ g .past;
@@ -180,12 +208,12 @@ module _ (roads order ranks pairs live down : List ℕ) (n m count z : ℕ) wher
       goes-none q s e₀ r h = let d = g .goes s e₀ r h in ends-none r d (nothing-of keys′ n b (ch .exact (won r d)) q)
 
       module _ (j : Junction) (q : b ≡ At j) (lk : j .0 < length keys′) (lc : c < length log) (keys″ wins″ log″ : List ℕ) (st : Settled n c (j .0) keys′ wins′ log′ keys″ wins″ log″) where
-        pub goes-found : j .0 ≡ z → Explores roads order ranks pairs live down n m count z e times keys vias wins log e′ times′ keys″ vias′ wins″ log″ (c + 1)
+        pub goes-found : eqb (getD keys″ z 0) settledKey ≡ true → Explores roads order ranks pairs live down n m count z e times keys vias wins log e′ times′ keys″ vias′ wins″ log″ (c + 1)
         goes-found t s e₀ r h = let d = g .goes s e₀ r h in ends-found r d (j .0) (least-of keys′ n b j (ch .exact (won r d)) q) lk lc keys″ wins″ log″ st t
 
-        pub goes-on : (e‴ times‴ keys‴ vias‴ wins‴ : List ℕ) → (j .0 ≡ z → ⊥)
+        pub goes-on : (e‴ times‴ keys‴ vias‴ wins‴ : List ℕ) → z < length keys′ → eqb (getD keys″ z 0) settledKey ≡ false
             → Relaxed roads order ranks pairs live down n m count (j .0) (getD times′ (j .0) 0) 0 m e′ times′ keys″ vias′ wins″ e‴ times‴ keys‴ vias‴ wins‴
             → Goes e times keys vias wins log e‴ times‴ keys‴ vias‴ wins‴ log″ (c + 1)
-        goes-on e‴ times‴ keys‴ vias‴ wins‴ ne x = record {
-          goes = λ s e₀ r h. (let d = g .goes s e₀ r h in goes-more r d (j .0) (least-of keys′ n b j (ch .exact (won r d)) q) lk lc keys″ wins″ log″ st e‴ times‴ keys‴ vias‴ wins‴ ne x);
+        goes-on e‴ times‴ keys‴ vias‴ wins‴ lz ne x = record {
+          goes = λ s e₀ r h. (let d = g .goes s e₀ r h in goes-more r d (j .0) (least-of keys′ n b j (ch .exact (won r d)) q) lk lc keys″ wins″ log″ st e‴ times‴ keys‴ vias‴ wins‴ lz ne x);
         }

@@ -17,6 +17,8 @@ use labels::enter;
 use labels::finish;
 use labels::group;
 use labels::improve;
+use labels::is_logged;
+use labels::key_of;
 use labels::reset;
 use labels::settle;
 use labels::way_back;
@@ -134,8 +136,9 @@ fn begin(
         return;
     }
     let a = start.0 as usize;
-    elapsed[a] = 0;
-    keys[a] = to_go.word() as u64;
+    let here = Time::of_word(0);
+    elapsed[a] = here.word();
+    keys[a] = key_of(here, to_go);
     enter(keys, wins, start);
 }
 
@@ -160,7 +163,7 @@ fn explore(
     log: &mut [u32],
     target: Junction,
 ) -> u32
-    requires { ⌜ (n ≤ length (now log)) × (n ≤ length (now keys)) × (n ≤ length (now vias)) × (n ≤ 64 * length (now wins)) × (n ≤ length (now firsts)) × (m ≤ length (now nexts)) × Grouped (now roads) n m (now firsts) (now nexts) × Sized n m count (length (now roads)) (length (now order)) (length (now ranks)) (length (now pairs)) (length (now live)) (length (now down)) (length (now estimates)) (length (now elapsed)) ⌝ }
+    requires { ⌜ (n ≤ length (now log)) × (n ≤ length (now keys)) × (n ≤ length (now vias)) × (n ≤ 64 * length (now wins)) × (n ≤ length (now firsts)) × (m ≤ length (now nexts)) × Grouped (now roads) n m (now firsts) (now nexts) × Sized n m count (length (now roads)) (length (now order)) (length (now ranks)) (length (now pairs)) (length (now live)) (length (now down)) (length (now estimates)) (length (now elapsed)) × (target .0 < n) ⌝ }
     ensures { λ c. ⌜ Explores (now (roads .entry)) (now (order .entry)) (now (ranks .entry)) (now (pairs .entry)) (now (live .entry)) (now (down .entry)) n m count (target .0) (now (estimates .entry)) (now (elapsed .entry)) (now (keys .entry)) (now (vias .entry)) (now (wins .entry)) (now (log .entry)) (now (estimates .exit)) (now (elapsed .exit)) (now (keys .exit)) (now (vias .exit)) (now (wins .exit)) (now (log .exit)) c ⌝ }
 {
     let mut c: u32 = 0;
@@ -172,7 +175,7 @@ fn explore(
             Choice::At(v) => {
                 settle(keys, wins, log, n, c, v);
                 c += 1;
-                if v.0 == target.0 {
+                if is_logged(keys, target) {
                     return c;
                 }
                 relax(

@@ -18,10 +18,16 @@ loop-holds : tie.Need-loop-holds Inv-loop μ-loop
 loop-holds c = (search needs, search needs, passed-start _ _ _ _)
 
 loop-again : tie.Need-loop-again Inv-loop μ-loop
-loop-again c = (search needs, search needs, passed-take _ _ _ _ _ _ (c .before .before .before .before .loop-test .taken) (c .before .before .before .before .before .loop .inv .2) _ refl (c .before .before .if1 .taken) (c .if2 .taken))
+loop-again c =
+    let at-loop-test = c .before .before .before .before in
+    let at-loop = at-loop-test .before in
+    (search needs, search needs, passed-take _ _ _ _ _ _ (at-loop-test .loop-test .taken) (at-loop .loop .inv .2) _ refl (c .before .before .if1 .taken) (c .if2 .taken))
 
 loop-again-2 : tie.Need-loop-again-2 Inv-loop μ-loop
-loop-again-2 c = (search needs, search needs, passed-keep _ _ _ _ _ _ (c .before .before .before .before .loop-test .taken) (c .before .before .before .before .before .loop .inv .2) _ refl (c .before .before .if1 .taken) (c .if2 .left))
+loop-again-2 c =
+    let at-loop-test = c .before .before .before .before in
+    let at-loop = at-loop-test .before in
+    (search needs, search needs, passed-keep _ _ _ _ _ _ (at-loop-test .loop-test .taken) (at-loop .loop .inv .2) _ refl (c .before .before .if1 .taken) (c .if2 .left))
 
 loop-again-3 : tie.Need-loop-again-3 Inv-loop μ-loop
 loop-again-3 c = (search needs, search needs, passed-skip _ _ _ _ _ _ (c .before .before .loop-test .taken) (c .before .before .before .loop .inv .2) (c .if1 .left))

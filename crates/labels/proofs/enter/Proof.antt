@@ -13,16 +13,25 @@ returns : tie.Need-returns
 returns c = entered-far _ _ _ (c .before .before .before .pre .1) _ _ refl refl (c .if1 .taken)
 
 returns-2 : tie.Need-returns-2
-returns-2 c = entered-stays _ _ _ (c .before .before .before .before .before .before .pre .1) _ _ refl refl (omega arith) (λ q. absurd (omega arith))
+returns-2 c =
+    let start = c .before .before .before .before .before .before in
+    entered-stays _ _ _ (start .pre .1) _ _ refl refl (omega arith) (λ q. absurd (omega arith))
 
 returns-3 : tie.Need-returns-3
-returns-3 c = entered-wins (c .before .before .before .before .before .before .before .before .before .args .keys .now) (c .before .before .before .before .before .before .before .before .before .args .wins .now) _ (c .before .before .before .before .before .before .before .before .before .pre .1) _ _ refl refl _ refl (λ q. absurd (omega arith)) (omega arith)
+returns-3 c =
+    let start = c .before .before .before .before .before .before .before .before .before in
+    entered-wins (start .args .keys .now) (start .args .wins .now) _ (start .pre .1) _ _ refl refl _ refl (λ q. absurd (omega arith)) (omega arith)
 
 returns-4 : tie.Need-returns-4
-returns-4 c = entered-wins (c .before .before .before .before .before .before .before .before .before .before .before .args .keys .now) (c .before .before .before .before .before .before .before .before .before .before .before .args .wins .now) _ (c .before .before .before .before .before .before .before .before .before .before .before .pre .1) _ _ refl refl _ refl (λ q. c .if4 .taken) (c .before .before .before .before .before .if2 .left)
+returns-4 c =
+    let at-if2 = c .before .before .before .before .before in
+    let start = at-if2 .before .before .before .before .before .before in
+    entered-wins (start .args .keys .now) (start .args .wins .now) _ (start .pre .1) _ _ refl refl _ refl (λ q. c .if4 .taken) (at-if2 .if2 .left)
 
 returns-5 : tie.Need-returns-5
-returns-5 c = entered-stays (c .before .before .before .before .before .before .before .before .before .before .before .args .keys .now) (c .before .before .before .before .before .before .before .before .before .before .before .args .wins .now) _ (c .before .before .before .before .before .before .before .before .before .before .before .pre .1) _ _ refl refl (c .before .before .if3 .left) (λ q. c .if4 .left)
+returns-5 c =
+    let start = c .before .before .before .before .before .before .before .before .before .before .before in
+    entered-stays (start .args .keys .now) (start .args .wins .now) _ (start .pre .1) _ _ refl refl (c .before .before .if3 .left) (λ q. c .if4 .left)
 
 pub enter-spec : {M : Type 1} → statement M
 enter-spec =

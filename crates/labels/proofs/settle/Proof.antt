@@ -6,10 +6,14 @@ use Rattle.labels.proofs.settle.Statement.{statement}
 use Rattle.labels.proofs.settle.Tie as tie
 
 winner-requires : tie.Need-winner-requires
-winner-requires c κs = (omega (arith, c .before .block-end .ensures, c .before .before .before .before .before .before .before .pre .0), simp length-set (omega (arith, c .before .block-end .ensures, c .before .before .before .before .before .before .before .pre .2)))
+winner-requires c κs =
+    let start = c .before .before .before .before .before .before .before in
+    (omega (arith, c .before .block-end .ensures, start .pre .0), simp length-set (omega (arith, c .before .block-end .ensures, start .pre .2)))
 
 returns : tie.Need-returns
-returns c = settled-with _ _ _ _ _ _ _ _ (c .before .before .before .before .before .before .before .before .pre .0) (c .before .before .before .before .before .before .before .before .pre .3) (c .before .before .block-end .ensures) (c .winner .ensures)
+returns c =
+    let start = c .before .before .before .before .before .before .before .before in
+    settled-with _ _ _ _ _ _ _ _ (start .pre .0) (start .pre .3) (c .before .before .block-end .ensures) (c .winner .ensures)
 
 pub settle-spec : {M : Type 1} → statement M
 settle-spec =

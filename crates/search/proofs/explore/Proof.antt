@@ -1,6 +1,6 @@
 use borrow.Author.Needs.{needs}
 use native.Mathlib.Omega.{arith}
-use mathlib.Core.Path.{_≡_, _∙_, refl}
+use mathlib.Core.Path.{_≡_, _∙_, refl, sym}
 use Prim.Native.Nat.{_-_, _≤_}
 use lib.ListN.{length}
 use Rattle.search.proofs.Explores.{Goes, goes-found, goes-full, goes-none, goes-on, goes-start, inside-of}
@@ -30,6 +30,13 @@ settle-requires c κs =
     let start = at-loop .before .before .before .before .before .before .before .before .before .before .before .before .before .before .before in
     let q = inside-of _ (at-choose .choose .result) _ (at-choose .choose .ensures .inside) (at-v .v .given .1) in (q, start .pre .7 .n-high, omega (arith, at-loop .loop .inv .3, start .pre .1), omega (arith, at-loop .loop .inv .5, start .pre .3), omega (arith, at-loop-test .loop-test .taken, at-loop .loop .inv .6, start .pre .0))
 
+is-logged-requires : tie.Need-is-logged-requires Inv-loop μ-loop
+is-logged-requires c κs =
+    let at-settle = c .before .before .before .before .before .before .before in
+    let at-loop = at-settle .before .before .before .before .before .before .before .before .before .before .before in
+    let start = at-loop .before .before .before .before .before .before .before .before .before .before .before .before .before .before .before in
+    omega (arith, start .pre .8, start .pre .1, at-loop .loop .inv .3, at-settle .settle .kept .0)
+
 returns-2 : tie.Need-returns-2 Inv-loop μ-loop
 returns-2 c =
     let at-settle = c .before .before .before .before .before .before .before .before .before in
@@ -38,7 +45,7 @@ returns-2 c =
     let at-loop-test = at-choose .before .before .before in
     let at-loop = at-loop-test .before in
     let start = at-loop .before .before .before .before .before .before .before .before .before .before .before .before .before .before .before in
-    let q = inside-of _ (at-choose .choose .result) _ (at-choose .choose .ensures .inside) (at-v .v .given .1) in goes-found _ _ _ _ _ _ _ _ _ _ (at-loop .loop .inv .7) (at-choose .choose .result) (at-choose .choose .ensures) _ (at-v .v .given .1) (omega (arith, q, at-loop .loop .inv .3, start .pre .1)) (omega (arith, at-loop-test .loop-test .taken, start .pre .0)) _ _ _ (at-settle .settle .ensures) (c .if1 .taken)
+    let q = inside-of _ (at-choose .choose .result) _ (at-choose .choose .ensures .inside) (at-v .v .given .1) in goes-found _ _ _ _ _ _ _ _ _ _ (at-loop .loop .inv .7) (at-choose .choose .result) (at-choose .choose .ensures) _ (at-v .v .given .1) (omega (arith, q, at-loop .loop .inv .3, start .pre .1)) (omega (arith, at-loop-test .loop-test .taken, start .pre .0)) _ _ _ (at-settle .settle .ensures) (sym (c .before .is-logged .ensures) ∙ c .if1 .taken)
 
 relax-requires : tie.Need-relax-requires Inv-loop μ-loop
 relax-requires c κs =
@@ -47,7 +54,7 @@ relax-requires c κs =
     let at-choose = at-v .before .before in
     let at-loop = at-choose .before .before .before .before in
     let start = at-loop .before .before .before .before .before .before .before .before .before .before .before .before .before .before .before in
-    let q = inside-of _ (at-choose .choose .result) _ (at-choose .choose .ensures .inside) (at-v .v .given .1) in (q, omega (arith, at-settle .settle .kept .0, at-loop .loop .inv .3, start .pre .1), omega (arith, at-loop .loop .inv .4, start .pre .2), omega (arith, at-settle .settle .kept .1 .0, at-loop .loop .inv .5, start .pre .3), start .pre .4, start .pre .5, start .pre .6, record { n-high = start .pre .7 .n-high; m-high = start .pre .7 .m-high; count-high = start .pre .7 .count-high; roads-are = start .pre .7 .roads-are; order-is = start .pre .7 .order-is; ranks-are = start .pre .7 .ranks-are; pairs-are = start .pre .7 .pairs-are; live-is = start .pre .7 .live-is; down-is = start .pre .7 .down-is; estimates-are = at-loop .loop .inv .1 ∙ start .pre .7 .estimates-are; elapsed-is = at-loop .loop .inv .2 ∙ start .pre .7 .elapsed-is })
+    let q = inside-of _ (at-choose .choose .result) _ (at-choose .choose .ensures .inside) (at-v .v .given .1) in (q, omega (arith, at-settle .settle .kept .0, at-loop .loop .inv .3, start .pre .1), omega (arith, at-loop .loop .inv .4, start .pre .2), omega (arith, at-settle .settle .kept .1 .0, at-loop .loop .inv .5, start .pre .3), start .pre .4, start .pre .5, start .pre .6, record { n-high = start .pre .7 .n-high; m-high = start .pre .7 .m-high; count-high = start .pre .7 .count-high; roads-are = start .pre .7 .roads-are; order-is = start .pre .7 .order-is; ranks-are = start .pre .7 .ranks-are; pairs-are = start .pre .7 .pairs-are; live-is = start .pre .7 .live-is; down-is = start .pre .7 .down-is; estimates-are = omega (arith, at-loop .loop .inv .1, start .pre .7 .estimates-are); elapsed-is = omega (arith, at-loop .loop .inv .2, start .pre .7 .elapsed-is) })
 
 loop-less : tie.Need-loop-less Inv-loop μ-loop
 loop-less c =
@@ -58,13 +65,14 @@ loop-again : tie.Need-loop-again Inv-loop μ-loop
 loop-again c =
     let at-relax = c .before .before .before .before .before .before .before .before .before .before in
     let at-if1 = at-relax .before .before .before .before .before .before in
-    let at-settle = at-if1 .before .before .before .before .before .before .before .before .before in
+    let at-is-logged = at-if1 .before in
+    let at-settle = at-is-logged .before .before .before .before .before .before .before .before in
     let at-v = at-settle .before .before .before .before .before in
     let at-choose = at-v .before .before in
     let at-loop-test = at-choose .before .before .before in
     let at-loop = at-loop-test .before in
     let start = at-loop .before .before .before .before .before .before .before .before .before .before .before .before .before .before .before in
-    let q = inside-of _ (at-choose .choose .result) _ (at-choose .choose .ensures .inside) (at-v .v .given .1) in (omega (arith, at-loop-test .loop-test .taken), omega (arith, at-relax .relax .kept .1 .1 .1 .1 .1 .1 .1 .1 .1 .0, at-loop .loop .inv .1), omega (arith, at-relax .relax .kept .1 .1 .1 .1 .1 .1 .1 .1 .1 .1 .0, at-loop .loop .inv .2), omega (arith, at-relax .relax .kept .1 .1 .1 .1 .1 .1 .1 .1 .1 .1 .1 .0, at-settle .settle .kept .0, at-loop .loop .inv .3), omega (arith, at-relax .relax .kept .1 .1 .1 .1 .1 .1 .1 .1 .1 .1 .1 .1 .0, at-loop .loop .inv .4), omega (arith, at-relax .relax .kept .1 .1 .1 .1 .1 .1 .1 .1 .1 .1 .1 .1 .1 .0, at-settle .settle .kept .1 .0, at-loop .loop .inv .5), omega (arith, at-settle .settle .kept .1 .1 .0, at-loop .loop .inv .6), goes-on _ _ _ _ _ _ _ _ _ _ (at-loop .loop .inv .7) (at-choose .choose .result) (at-choose .choose .ensures) _ (at-v .v .given .1) (omega (arith, q, at-loop .loop .inv .3, start .pre .1)) (omega (arith, at-loop-test .loop-test .taken, start .pre .0)) _ _ _ (at-settle .settle .ensures) _ _ _ _ _ (at-if1 .if1 .left) (at-relax .relax .ensures))
+    let q = inside-of _ (at-choose .choose .result) _ (at-choose .choose .ensures .inside) (at-v .v .given .1) in (omega (arith, at-loop-test .loop-test .taken), omega (arith, at-relax .relax .kept .1 .1 .1 .1 .1 .1 .1 .1 .1 .0, at-loop .loop .inv .1), omega (arith, at-relax .relax .kept .1 .1 .1 .1 .1 .1 .1 .1 .1 .1 .0, at-loop .loop .inv .2), omega (arith, at-relax .relax .kept .1 .1 .1 .1 .1 .1 .1 .1 .1 .1 .1 .0, at-settle .settle .kept .0, at-loop .loop .inv .3), omega (arith, at-relax .relax .kept .1 .1 .1 .1 .1 .1 .1 .1 .1 .1 .1 .1 .0, at-loop .loop .inv .4), omega (arith, at-relax .relax .kept .1 .1 .1 .1 .1 .1 .1 .1 .1 .1 .1 .1 .1 .0, at-settle .settle .kept .1 .0, at-loop .loop .inv .5), omega (arith, at-settle .settle .kept .1 .1 .0, at-loop .loop .inv .6), goes-on _ _ _ _ _ _ _ _ _ _ (at-loop .loop .inv .7) (at-choose .choose .result) (at-choose .choose .ensures) _ (at-v .v .given .1) (omega (arith, q, at-loop .loop .inv .3, start .pre .1)) (omega (arith, at-loop-test .loop-test .taken, start .pre .0)) _ _ _ (at-settle .settle .ensures) _ _ _ _ _ (omega (arith, at-loop .loop .inv .3, start .pre .1, start .pre .8)) (sym (at-is-logged .is-logged .ensures) ∙ at-if1 .if1 .left) (at-relax .relax .ensures))
 
 returns-3 : tie.Need-returns-3 Inv-loop μ-loop
 returns-3 c = goes-full _ _ _ _ _ _ _ _ _ _ (c .before .loop .inv .7) (c .loop-test .left)
@@ -88,6 +96,7 @@ explore-spec =
     (λ c. search needs)
     settle-requires
     (λ c. search needs)
+    is-logged-requires
     (λ c. search needs)
     (λ c. search needs)
     (λ c. search needs)

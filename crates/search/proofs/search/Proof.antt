@@ -21,7 +21,7 @@ explore-requires c κs =
     let at-begin = c .before .before .before .before .before .before .before .before .before .before .before .before .before .before in
     let at-group = at-begin .before .before .before .before .before .before .before in
     let start = at-group .before .before .before .before .before .before .before .before .before .before .before .before .before in
-    let z = start .pre .4 in (start .pre .3, omega (arith, at-begin .begin .kept .1 .1 .1 .1 .1 .1 .1 .1 .0, z .n-high), z .n-high, omega (arith, at-begin .begin .kept .1 .1 .1 .1 .1 .1 .1 .1 .1 .0, z .n-high), omega (arith, at-group .group .kept .1 .1 .1 .0, z .n-high), omega (arith, at-group .group .kept .1 .1 .1 .1 .0, z .m-high), at-group .group .ensures, record { n-high = z .n-high; m-high = z .m-high; count-high = z .count-high; roads-are = z .roads-are; order-is = z .order-is; ranks-are = z .ranks-are; pairs-are = z .pairs-are; live-is = z .live-is; down-is = z .down-is; estimates-are = omega (arith, at-begin .begin .kept .1 .1 .1 .1 .1 .1 .0, z .estimates-are); elapsed-is = omega (arith, at-begin .begin .kept .1 .1 .1 .1 .1 .1 .1 .0, z .elapsed-is) })
+    let z = start .pre .4 in (start .pre .3, omega (arith, at-begin .begin .kept .1 .1 .1 .1 .1 .1 .1 .1 .0, z .n-high), z .n-high, omega (arith, at-begin .begin .kept .1 .1 .1 .1 .1 .1 .1 .1 .1 .0, z .n-high), omega (arith, at-group .group .kept .1 .1 .1 .0, z .n-high), omega (arith, at-group .group .kept .1 .1 .1 .1 .0, z .m-high), at-group .group .ensures, record { n-high = z .n-high; m-high = z .m-high; count-high = z .count-high; roads-are = z .roads-are; order-is = z .order-is; ranks-are = z .ranks-are; pairs-are = z .pairs-are; live-is = z .live-is; down-is = z .down-is; estimates-are = omega (arith, at-begin .begin .kept .1 .1 .1 .1 .1 .1 .0, z .estimates-are); elapsed-is = omega (arith, at-begin .begin .kept .1 .1 .1 .1 .1 .1 .1 .0, z .elapsed-is) }, start .pre .1)
 
 finish-requires : tie.Need-finish-requires
 finish-requires c κs =
