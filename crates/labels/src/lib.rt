@@ -47,23 +47,14 @@ pub fn key_of(time: Time, estimate: Time) -> u64
 pub fn improved(old: Label, offer: Time, estimate: Time, i: u32) -> Label
     ensures { λ r. ⌜ Improved (offer .0) (estimate .0) i (old .time .0) (old .key) (old .via) (r .time .0) (r .key) (r .via) ⌝ }
 {
-    let time = old.time;
-    let key = old.key;
-    let via = old.via;
     if estimate.is_none() {
-        return Label {
-            time: time,
-            key: key,
-            via: via,
-        };
+        return old;
     }
+    let key = old.key;
     if key == SETTLED {
-        return Label {
-            time: time,
-            key: key,
-            via: via,
-        };
+        return old;
     }
+    let time = old.time;
     let t = time.word();
     let w = offer.word();
     if w < t {
@@ -74,24 +65,16 @@ pub fn improved(old: Label, offer: Time, estimate: Time, i: u32) -> Label
         };
     }
     if t < w {
-        return Label {
-            time: time,
-            key: key,
-            via: via,
-        };
+        return old;
     }
-    if i < via {
+    if i < old.via {
         return Label {
             time: time,
             key: key,
             via: i,
         };
     }
-    Label {
-        time: time,
-        key: key,
-        via: via,
-    }
+    old
 }
 
 // Road i offers v the time `offer`: v's label is improved in the three areas.
@@ -120,12 +103,12 @@ pub fn improve(
     vias[a] = new.via;
 }
 
+// ---- the choice: junctions stand in blocks of 64, and of each block the one that would be chosen is kept
+
 pub enum Choice {
     At(Junction),
     Nothing,
 }
-
-// ---- the choice: junctions stand in blocks of 64, and of each block the one that would be chosen is kept
 
 // Every block's first junction wins, as it does where no junction is a candidate.
 pub fn reset(wins: &mut [u32])
@@ -243,8 +226,6 @@ pub fn settle(keys: &mut [u64], wins: &mut [u32], log: &mut [u32], n: u32, c: u3
     log[k] = v.0;
 }
 
-// ---- the end
-
 // The times of candidates that were never logged become none.
 pub fn finish(times: &mut [u32], keys: &[u64])
     requires { ⌜ length (now times) ≤ length (now keys) ⌝ }
@@ -259,6 +240,8 @@ pub fn finish(times: &mut [u32], keys: &[u64])
         }
     }
 }
+
+// ---- roads by tail
 
 // Links the roads of each junction by ascending number: its first road, and after each road the next of the same tail; m ends a row.
 pub fn group(roads: &[u8], n: u32, m: u32, firsts: &mut [u32], nexts: &mut [u32])
