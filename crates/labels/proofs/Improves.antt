@@ -7,9 +7,9 @@ use Rattle.model.specs.Word.{noneWord}
 use Rattle.labels.specs.Keys.{settledKey}
 use Rattle.labels.specs.Improved.{Improved, Stored, earlier}
 
--- the key is the sum of the words x and y that were read of the offer and of the estimate
-pub takes-over : (w e i t q j x y : ℕ) → x ≡ w → y ≡ e → (e ≡ noneWord → ⊥) → (q ≡ settledKey → ⊥) → w < t → Improved w e i t q j w (x + y) i
-takes-over w e i t q j x y ex ey a b l = rw (ex, ey) (earlier a b l)
+-- the key x is the sum of the offer and the estimate
+pub takes-over : (w e i t q j x : ℕ) → x ≡ w + e → (e ≡ noneWord → ⊥) → (q ≡ settledKey → ⊥) → w < t → Improved w e i t q j w x i
+takes-over w e i t q j x ex a b l = rw ex (earlier a b l)
 
 -- the time is read as x and written as y
 pub stored-at : (w e i v x t q j y : ℕ) (times keys vias : List ℕ) → x ≡ getD times v 0 → y ≡ t → Improved w e i x (getD keys v 0) (getD vias v 0) t q j

@@ -3,3 +3,4 @@ pub mod Keys
 pub mod Improves
 pub mod Groups
 pub mod Backs
+pub mod Tournament

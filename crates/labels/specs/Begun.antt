@@ -1,21 +1,34 @@
 -- The labels before anything is logged: the start is the only candidate, if it has an estimate. Assumes nothing.
-use mathlib.Core.Path.{_≡_, refl}
+use mathlib.Core.Path.{_∙_, _≡_, ap, refl}
 use mathlib.Core.Logic.{inl, inr}
 use mathlib.Core.Option.{none, some}
 use mathlib.Core.List.{List, []}
-use Prim.Native.Nat.{_+_, _<_, ℕ}
+use Prim.Native.Nat.{_*_, _<_, _≤_, ℕ}
 use lib.Dec.{eqb}
 use lib.ListN.{getD, length, set}
 use lib.Seq.{getD-set-other, getD-set-same}
 use native.Mathlib.Decide.{ℕ-discrete}
-use native.Mathlib.Nat.{zero-add}
 use native.Mathlib.Omega.{arith}
 use Rattle.graph.specs.Total.{cond-same, none-some}
 use Rattle.graph.specs.Least.{least-number}
 use Rattle.graph.specs.Search.{Problem, offerVia, timeIn}
 use Rattle.model.specs.Word.{noneWord}
+use Rattle.model.specs.Bytes.{listed}
+use Rattle.model.specs.Laws.{listed-at}
 use Rattle.labels.specs.Keys.{noKey}
+use Rattle.labels.specs.Winners.{Winners}
 use Rattle.labels.specs.Labelled.{Gives, Labelled, Labels, Offers, label-candidate, label-hopeless, label-unseen}
+
+-- where no junction is a candidate, every block's first junction wins
+pub winners-fresh : (n : ℕ) (keys wins₀ wins : List ℕ) → wins ≡ listed (length wins₀) (λ b. 64 * b) → n ≤ 64 * length wins₀ → ((v : ℕ) → v < n → getD keys v 0 ≡ noKey) → Winners keys wins n
+winners-fresh n keys wins₀ wins e room keyless b lb =
+    let q : getD wins b 0 ≡ 64 * b = ap (λ (l : List ℕ). getD l b 0) e ∙ listed-at (length wins₀) (λ b. 64 * b) b (omega arith) in
+    rw q (record {
+      low = omega arith;
+      high = omega arith;
+      least = λ v a c. omega (arith, keyless v (omega arith), keyless (64 * b) lb);
+      first = λ v a c. absurd (omega arith);
+    })
 
 -- s is the only start, at time 0
 pub record StartsAt (G : Problem) (s : ℕ) : Type 0 where

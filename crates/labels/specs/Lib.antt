@@ -1,4 +1,5 @@
 pub mod Keys
+pub mod Winners
 pub mod Improved
 pub mod Grouped
 pub mod Ways

@@ -1,10 +1,10 @@
 -- Labels as the log grows: what is chosen by its key is what the definition logs next. Assumes nothing.
-use mathlib.Core.Path.{_∙_, _≡_, ap, refl, subst, sym}
+use mathlib.Core.Path.{_∙_, _≡_, ap, refl, sym}
 use mathlib.Core.Logic.{_⊎_, inl, inr}
 use mathlib.Core.Bool.{false}
 use mathlib.Core.Option.{none, some}
 use mathlib.Core.List.{List, [], _++_, _∷_}
-use Prim.Native.Nat.{_+_, _<_, _≤_, ℕ}
+use Prim.Native.Nat.{_<_, _≤_, ℕ}
 use lib.ListN.{getD, length, set}
 use lib.Seq.{getD-set-other, getD-set-same}
 use native.Mathlib.Decide.{decLt, ℕ-discrete}
@@ -16,8 +16,7 @@ use Rattle.graph.specs.Search.{Entry, Problem, back, firstVia, is, offerVia, of
 use Rattle.graph.specs.Walk.{Offer, byArc, byStart, offerVia-some, offered-least, some-offerVia, timeIn-here, timeIn-there}
 use Rattle.graph.specs.Choice.{Candidate, NextIs, Prior, chosen, finished}
 use Rattle.graph.specs.Back.{back-start, back-there, back-via, firstVia-least}
-use Rattle.model.specs.Word.{noneWord}
-use Rattle.labels.specs.Keys.{LeastKey, noKey, settledKey}
+use Rattle.labels.specs.Keys.{LeastKey, settledKey}
 use Rattle.labels.specs.Labelled.{Gives, Labelled, Labels, Offers, Searchable, Way, label-candidate, label-hopeless, label-logged, label-unseen, way-begins, way-through}
 use Rattle.labels.specs.Relax.{label-same}
 

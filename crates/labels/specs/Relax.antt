@@ -4,15 +4,12 @@ use mathlib.Core.Logic.{_⊎_, inl, inr}
 use mathlib.Core.Option.{none, some}
 use mathlib.Core.List.{List}
 use Prim.Native.Nat.{_+_, _<_, _≤_, ℕ}
-use lib.ListN.{getD, length, set}
-use lib.Seq.{getD-set-other, getD-set-same}
 use native.Mathlib.Decide.{decLt, ℕ-discrete}
 use native.Mathlib.Omega.{arith}
 use Rattle.graph.specs.Total.{Total, none-some, some-some}
 use Rattle.graph.specs.Least.{IsLeast, least-map, least-number}
 use Rattle.graph.specs.Search.{Entry, Problem, offerVia, timeIn}
 use Rattle.model.specs.Word.{noneWord, word}
-use Rattle.labels.specs.Keys.{noKey, settledKey}
 use Rattle.labels.specs.Improved.{Improved, behind, earlier, later, lost, settled, tied}
 use Rattle.labels.specs.Labelled.{Gives, Labelled, Labels, Offers, Way, label-candidate, label-hopeless, label-logged, label-unseen}
 
@@ -187,3 +184,15 @@ module _ {G : Problem} {H : List Entry} {c i : ℕ} (li : i < G .net .arcs) wher
       label-improved (later a b l) (label-candidate h p least fits first y) = under h p least fits y (omega arith) (origin-stays (λ q. absurd (omega arith)) first)
       label-improved (tied a b l m) (label-candidate h p least fits first y) = under h p least fits y (omega arith) (origin-new l m first)
       label-improved (behind a b l m) (label-candidate h p least fits first y) = under h p least fits y (omega arith) (origin-stays (λ q. m) first)
+
+      -- a key never rises
+      pub label-falls : {t q j t′ q′ j′ : ℕ} → Improved w e i t q j t′ q′ j′ → Labelled G H c i v t q j → q′ ≤ q
+      label-falls (lost z) h = omega arith
+      label-falls (settled z) h = omega arith
+      label-falls (earlier a b l) (label-logged h s y) = absurd (b s)
+      label-falls (earlier a b l) (label-hopeless h p x y) = absurd (a (e-is ∙ ap word p))
+      label-falls (earlier a b l) (label-unseen h bare x y) = let r = with-pot e (G .pot v) e-is a in omega (arith, pots (r .0) (r .1), r .2)
+      label-falls (earlier a b l) (label-candidate {p = f} h p least fits first y) = let r = with-pot e (G .pot v) e-is a in let z : r .0 ≡ f = some-some (r .1) p in omega arith
+      label-falls (later a b l) h = omega arith
+      label-falls (tied a b l m) h = omega arith
+      label-falls (behind a b l m) h = omega arith

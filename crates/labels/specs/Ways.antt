@@ -1,5 +1,5 @@
 -- The way back by the roads of the labels. Definitions only.
-use mathlib.Core.Bool.{_&&_, cond}
+use mathlib.Core.Bool.{cond}
 use mathlib.Core.List.{List, [], _++_, _∷_}
 use Prim.Native.Nat.{_*_, suc, zero, ℕ}
 use lib.Dec.{eqb, ltb}

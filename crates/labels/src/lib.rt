@@ -2,12 +2,12 @@
 // Functions on slices; nothing here asks an estimate.
 ghost use mathlib.Core.Path.{_≡_};
 ghost use Prim.Native.Nat.{ℕ, _*_, _+_, _<_, _≤_};
-ghost use lib.Dec.{ltb};
-ghost use lib.ListN.{getD, length, set};
-ghost use Rattle.model.specs.Word.{noneWord};
-ghost use Rattle.model.specs.Bytes.{listed, wordAt};
+ghost use lib.Dec.{eqb};
+ghost use lib.ListN.{getD, length};
+ghost use Rattle.model.specs.Bytes.{listed};
 ghost use Rattle.model.specs.Calls.{first};
-ghost use Rattle.labels.specs.Keys.{Chosen, kept, settledKey};
+ghost use Rattle.labels.specs.Keys.{kept, settledKey};
+ghost use Rattle.labels.specs.Winners.{Chooses, Entered, Leads, Settled, blockEnd};
 ghost use Rattle.labels.specs.Improved.{Improved, Stored};
 ghost use Rattle.labels.specs.Grouped.{Grouped};
 ghost use Rattle.labels.specs.Ways.{roadsBack, stepBack, wayOf};
@@ -36,55 +36,45 @@ pub struct Label {
     pub via: u32,
 }
 
+// A candidate's key: its time plus its estimate. The sum may pass 32 bits.
+pub fn key_of(time: Time, estimate: Time) -> u64
+    ensures { λ r. ⌜ r ≡ time .0 + estimate .0 ⌝ }
+{
+    time.word() as u64 + estimate.word() as u64
+}
+
 // The label of a junction after road i is relaxed too, which gives it the time `offer`; `estimate` is the junction's.
 pub fn improved(old: Label, offer: Time, estimate: Time, i: u32) -> Label
     ensures { λ r. ⌜ Improved (offer .0) (estimate .0) i (old .time .0) (old .key) (old .via) (r .time .0) (r .key) (r .via) ⌝ }
 {
-    let time = old.time;
-    let key = old.key;
-    let via = old.via;
     if estimate.is_none() {
-        return Label {
-            time: time,
-            key: key,
-            via: via,
-        };
+        return old;
     }
+    let key = old.key;
     if key == SETTLED {
-        return Label {
-            time: time,
-            key: key,
-            via: via,
-        };
+        return old;
     }
+    let time = old.time;
     let t = time.word();
     let w = offer.word();
     if w < t {
         return Label {
             time: offer,
-            key: w as u64 + estimate.word() as u64,
+            key: key_of(offer, estimate),
             via: i,
         };
     }
     if t < w {
-        return Label {
-            time: time,
-            key: key,
-            via: via,
-        };
+        return old;
     }
-    if i < via {
+    if i < old.via {
         return Label {
             time: time,
             key: key,
             via: i,
         };
     }
-    Label {
-        time: time,
-        key: key,
-        via: via,
-    }
+    old
 }
 
 // Road i offers v the time `offer`: v's label is improved in the three areas.
@@ -113,26 +103,87 @@ pub fn improve(
     vias[a] = new.via;
 }
 
+// ---- the choice: junctions stand in blocks of 64, and of each block the one that would be chosen is kept
+
 pub enum Choice {
     At(Junction),
     Nothing,
 }
 
-// The candidate with the smallest key, on equal keys the smaller junction number.
-pub fn choose(keys: &[u64], n: u32) -> Choice
-    requires { ⌜ n ≤ length (now keys) ⌝ }
-    ensures { λ r. ⌜ Chosen (now (keys .entry)) n r ⌝ }
+// Every block's first junction wins, as it does where no junction is a candidate.
+pub fn reset(wins: &mut [u32])
+    requires { ⌜ length (now wins) ≤ 64 ⌝ }
+    ensures { λ _. ⌜ now (wins .exit) ≡ listed (length (now (wins .entry))) (λ b. 64 * b) ⌝ }
 {
-    let mut best = SETTLED;
-    let mut at: u32 = 0;
-    let mut i: u32 = 0;
-    while i < n {
+    let mut b = 0;
+    while b < wins.len() {
+        wins[b] = (64 * b) as u32;
+        b += 1;
+    }
+}
+
+// The junction with the smallest key from `from` to `to - 1`, on equal keys the smaller number.
+fn winner(keys: &[u64], from: u32, to: u32) -> u32
+    requires { ⌜ (from < to) × (to ≤ length (now keys)) ⌝ }
+    ensures { λ w. ⌜ Leads (now (keys .entry)) from to w ⌝ }
+{
+    let a = from as usize;
+    let mut best = keys[a];
+    let mut at = from;
+    let mut i = from + 1;
+    while i < to {
         let j = i;
         i += 1;
         let key = keys[j as usize];
         if key < best {
             best = key;
             at = j;
+        }
+    }
+    at
+}
+
+// v's key has fallen: v may now win its block.
+pub fn enter(keys: &[u64], wins: &mut [u32], v: Junction)
+    requires { ⌜ (v .0 < length (now keys)) × (v .0 < 64 * length (now wins)) ⌝ }
+    ensures { λ _. ⌜ Entered (now (keys .entry)) (now (wins .entry)) (now (wins .exit)) (v .0) ⌝ }
+{
+    let a = v.0 as usize;
+    let b = a / 64;
+    let w = wins[b];
+    let top = w as usize;
+    if keys.len() <= top {
+        return;
+    }
+    if keys[top] < keys[a] {
+        return;
+    }
+    if keys[a] < keys[top] {
+        wins[b] = v.0;
+        return;
+    }
+    if v.0 < w {
+        wins[b] = v.0;
+    }
+}
+
+// The candidate with the smallest key, on equal keys the smaller junction number.
+pub fn choose(keys: &[u64], wins: &[u32], n: u32) -> Choice
+    requires { ⌜ (n ≤ 4096) × (n ≤ length (now keys)) × (n ≤ 64 * length (now wins)) ⌝ }
+    ensures { λ r. ⌜ Chooses (now (keys .entry)) (now (wins .entry)) n r ⌝ }
+{
+    let mut best = SETTLED;
+    let mut at: u32 = 0;
+    let mut b: u32 = 0;
+    while 64 * b < n {
+        let w = wins[b as usize];
+        b += 1;
+        if w < n {
+            let key = keys[w as usize];
+            if key < best {
+                best = key;
+                at = w;
+            }
         }
     }
     if best == SETTLED {
@@ -142,26 +193,37 @@ pub fn choose(keys: &[u64], n: u32) -> Choice
     }
 }
 
+// Where block b of n junctions ends.
+fn block_end(n: u32, b: u32) -> u32
+    requires { ⌜ b < 64 ⌝ }
+    ensures { λ r. ⌜ r ≡ blockEnd n b ⌝ }
+{
+    let end = 64 * b + 64;
+    if end < n { end } else { n }
+}
+
+// Is v logged?
+pub fn is_logged(keys: &[u64], v: Junction) -> bool
+    requires { ⌜ v .0 < length (now keys) ⌝ }
+    ensures { λ r. ⌜ r ≡ eqb (getD (now (keys .entry)) (v .0) 0) settledKey ⌝ }
+{
+    let a = v.0 as usize;
+    keys[a] == SETTLED
+}
+
 // The candidate v is logged as number c.
-pub fn settle(keys: &mut [u64], log: &mut [u32], c: u32, v: Junction)
-    requires { ⌜ (v .0 < length (now keys)) × (c < length (now log)) ⌝ }
-    ensures { λ _. ⌜ (now (keys .exit) ≡ set (now (keys .entry)) (v .0) settledKey) × (now (log .exit) ≡ set (now (log .entry)) c (v .0)) ⌝ }
+pub fn settle(keys: &mut [u64], wins: &mut [u32], log: &mut [u32], n: u32, c: u32, v: Junction)
+    requires { ⌜ (v .0 < n) × (n ≤ 4096) × (n ≤ length (now keys)) × (n ≤ 64 * length (now wins)) × (c < length (now log)) ⌝ }
+    ensures { λ _. ⌜ Settled n c (v .0) (now (keys .entry)) (now (wins .entry)) (now (log .entry)) (now (keys .exit)) (now (wins .exit)) (now (log .exit)) ⌝ }
 {
     let a = v.0 as usize;
     let k = c as usize;
+    let b = v.0 / 64;
+    let at = b as usize;
     keys[a] = SETTLED;
+    let to = block_end(n, b);
+    wins[at] = winner(keys, 64 * b, to);
     log[k] = v.0;
-}
-
-// Every time becomes none.
-pub fn clear(times: &mut [u32])
-    ensures { λ _. ⌜ now (times .exit) ≡ listed (length (now (times .entry))) (λ v. noneWord) ⌝ }
-{
-    let mut i = 0;
-    while i < times.len() {
-        times[i] = Time::NONE.word();
-        i += 1;
-    }
 }
 
 // The times of candidates that were never logged become none.
@@ -178,6 +240,8 @@ pub fn finish(times: &mut [u32], keys: &[u64])
         }
     }
 }
+
+// ---- roads by tail
 
 // Links the roads of each junction by ascending number: its first road, and after each road the next of the same tail; m ends a row.
 pub fn group(roads: &[u8], n: u32, m: u32, firsts: &mut [u32], nexts: &mut [u32])

@@ -1,17 +1,17 @@
 -- The end of a search: its answer and its areas are those of the definitions. Assumes nothing.
-use mathlib.Core.Path.{_∙_, _≡_, ap, ap₂, refl, subst, sym}
+use mathlib.Core.Path.{_∙_, _≡_, ap, refl, sym}
 use mathlib.Core.Logic.{_⊎_, inl, inr}
-use mathlib.Core.Bool.{Bool, _&&_, _||_, cond, false, not, true}
-use mathlib.Core.Option.{Option, none, some}
-use mathlib.Core.List.{List, [], _++_, _∷_, reverse}
-use Prim.Native.Nat.{_*_, _+_, _<_, _≤_, ℕ}
+use mathlib.Core.Bool.{Bool, _&&_, _||_, false, not, true}
+use mathlib.Core.Option.{none, some}
+use mathlib.Core.List.{List, [], _∷_}
+use Prim.Native.Nat.{_*_, _<_, _≤_, ℕ}
 use borrow.Author.Tests.{eq-eqb, eqb-false, eqb-true, ne-eqb, not-true}
 use lib.Dec.{eqb}
-use lib.ListN.{getD, length, length-reverse}
+use lib.ListN.{getD, length}
 use native.Mathlib.Omega.{arith}
-use Rattle.graph.specs.Total.{Tested, Total, and-true, decide, decideOption, isNumber, isNumber-true, none-some, some-some, true-false, true-isNumber}
+use Rattle.graph.specs.Total.{Tested, Total, and-true, decide, decideOption, isNumber, isNumber-true, none-some, true-false, true-isNumber}
 use Rattle.graph.specs.Least.{anyBelow, anyBelow-true, true-anyBelow}
-use Rattle.graph.specs.Search.{Entry, Problem, back, countOf, hasGoal, history, logOf, routeOf, timeIn, totalIn, totalOf, vertices, wayIn}
+use Rattle.graph.specs.Search.{Entry, Problem, back, hasGoal, history, logOf, routeOf, timeIn, totalOf, vertices, wayIn}
 use Rattle.graph.specs.Walk.{timeIn-here}
 use Rattle.graph.specs.Complete.{history-reached, length-le, no-goal}
 use Rattle.graph.specs.Back.{back-route}
@@ -27,7 +27,7 @@ use Rattle.network.specs.Bodies.{mapIn}
 use Rattle.labels.specs.Keys.{kept}
 use Rattle.labels.specs.Ways.{roadsBack, wayOf}
 use Rattle.labels.specs.Ended.{kept-times, roads-back, way-back-is}
-use Rattle.search.specs.State.{Asked, Explored, Filling, Held, Ready, asked-head, asked-start, goIn}
+use Rattle.search.specs.State.{Asked, Explored, Ready, asked-head, asked-start, goIn}
 use Rattle.search.specs.Searches.{Found}
 use Rattle.search.proofs.Facts.{codes}
 
@@ -106,7 +106,7 @@ module _ (G : Problem) (z : ℕ) (goals : (v : ℕ) → G .goal v ≡ eqb v z) w
 
 -- ---- from the end of the loop to the answer
 module _ {roads order ranks pairs live : List ℕ} {n m count s z : ℕ} (r : Ready roads order ranks pairs live n m count s z)
-    {down e₀ log₀ e times keys vias log : List ℕ} {c : ℕ} (x : Explored roads order live s z down e₀ log₀ e times keys vias log c)
+    {down e₀ log₀ e times keys vias wins log : List ℕ} {c : ℕ} (x : Explored roads order live s z down e₀ log₀ e times keys vias wins log c)
     (elapsed : List ℕ) (finished : elapsed ≡ listed (length times) (kept keys times)) (timed : length times ≡ n) where
   total-time : timeIn (history (goIn roads order live s z)) z ≡ totalOf (goIn roads order live s z)
   total-time = target-time (goIn roads order live s z) z (codes r .goals) (history (goIn roads order live s z)) (totalOf (goIn roads order live s z)) (end (codes r .ok .well-formed))

@@ -1,20 +1,17 @@
 -- A state that is ready, as a problem that the labels can be kept for. Assumes nothing.
-use mathlib.Core.Path.{_∙_, _≡_, ap, refl, sym}
-use mathlib.Core.Option.{some}
+use mathlib.Core.Path.{_≡_, refl, sym}
 use mathlib.Core.List.{List}
 use Prim.Native.Nat.{_*_, _+_, _<_, _≤_, ℕ}
 use borrow.Author.Tests.{eq-eqb, ne-eqb}
 use lib.Dec.{eqb}
 use lib.ListN.{length}
 use native.Mathlib.Omega.{arith}
-use Rattle.graph.specs.Total.{Total}
 use Rattle.graph.specs.Least.{least-unique}
 use Rattle.graph.specs.Network.{Arc}
-use Rattle.graph.specs.Bound.{CostsAtMost, arcs-most, totals-fit}
+use Rattle.graph.specs.Bound.{CostsAtMost, totals-fit}
 use Rattle.graph.specs.Potential.{Slower}
-use Rattle.graph.specs.Search.{Entry, Problem, timeIn}
 use Rattle.graph.specs.Walk.{startAt-some}
-use Rattle.graph.specs.History.{Reached, logged-least, mem-timeIn}
+use Rattle.graph.specs.History.{logged-least, mem-timeIn}
 use Rattle.graph.specs.Map.{estimateOf, estimateOf-bound, liveNet, timeOf-bound}
 use Rattle.graph.specs.Go.{go-time-least, go-well-formed, goOf}
 use Rattle.model.specs.Bytes.{wordAt}
@@ -42,7 +39,7 @@ module _ {roads order ranks pairs live : List ℕ} {n m count s z : ℕ} (r : Re
   ready-slower = record { no-faster = λ i l. settable-slower (mapIn roads order .base .cost i) (liveOf live i) (r .times i l) }
 
   ready-most : CostsAtMost (Arc (liveNet (mapIn roads order) (liveOf live))) 1000000
-  ready-most = arcs-most {N = liveNet (mapIn roads order) (liveOf live)} (λ i c l e. settable-most (mapIn roads order .base .cost i) c (rw e at (r .times i l)))
+  ready-most x y c a = settable-most (mapIn roads order .base .cost (a .index)) c (rw (a .at .costs) at (r .times (a .index) (a .below)))
 
   pub codes : Codes roads order live n m s z
   unfolding goOf

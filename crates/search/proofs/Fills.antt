@@ -1,16 +1,16 @@
 -- The estimates as the search asks for them. Assumes nothing.
-use mathlib.Core.Path.{_∙_, _≡_, ap, refl, subst, sym}
+use mathlib.Core.Path.{_∙_, _≡_, ap, refl, sym}
 use mathlib.Core.Logic.{_⊎_, inl, inr}
-use mathlib.Core.Bool.{Bool, false, true}
-use mathlib.Core.Option.{none, some}
+use mathlib.Core.Bool.{false, true}
+use mathlib.Core.Option.{none}
 use mathlib.Core.List.{List, [], _∷_}
 use Prim.Native.Nat.{_+_, _<_, _≤_, ℕ}
 use lib.ListN.{getD, length}
 use native.Mathlib.Decide.{decLt, ℕ-discrete}
 use native.Mathlib.Omega.{arith}
-use Rattle.graph.specs.Total.{Tested, decide, none-some, some-some, true-false}
+use Rattle.graph.specs.Total.{Tested, decide, none-some}
 use Rattle.graph.specs.Search.{Entry, Problem, timeIn}
-use Rattle.graph.specs.Walk.{timeIn-cases, timeIn-there}
+use Rattle.graph.specs.Walk.{timeIn-there}
 use Rattle.graph.specs.Map.{Map, estimateOf, fills}
 use Rattle.model.specs.Word.{word}
 use Rattle.model.specs.Calls.{filled}

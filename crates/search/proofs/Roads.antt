@@ -1,13 +1,13 @@
 -- One road is relaxed: the three ways through the code. Assumes nothing.
-use mathlib.Core.Path.{_∙_, _≡_, ap, refl, sym}
+use mathlib.Core.Path.{_∙_, _≡_, ap, sym}
 use mathlib.Core.Logic.{_⊎_, inl, inr}
-use mathlib.Core.Bool.{cond, false, true}
+use mathlib.Core.Bool.{false, true}
 use mathlib.Core.Option.{none, some}
 use mathlib.Core.List.{List}
 use Prim.Native.Nat.{_*_, _+_, _<_, _≤_, min, ℕ}
 use borrow.Author.Tests.{eqb-true, ne-eqb}
 use lib.Dec.{eqb}
-use lib.ListN.{getD, length, set}
+use lib.ListN.{getD, length, length-set, set}
 use lib.Seq.{getD-set-other, getD-set-same}
 use native.Mathlib.Decide.{ℕ-discrete}
 use native.Mathlib.Omega.{arith}
@@ -21,9 +21,10 @@ use Rattle.network.specs.Bodies.{mapIn}
 use Rattle.hierarchy.specs.Estimates.{Estimated, aim-estimated}
 use Rattle.labels.specs.Improved.{Stored}
 use Rattle.labels.specs.Labelled.{Labelled, Labels}
-use Rattle.labels.specs.Relax.{label-improved, label-passed}
-use Rattle.search.specs.State.{Asked, Held, Logged, Ready, Relaxed, asked-head, goIn}
-use Rattle.search.proofs.Facts.{Codes, codes}
+use Rattle.labels.specs.Winners.{Entered}
+use Rattle.labels.specs.Relax.{label-falls, label-improved, label-passed}
+use Rattle.search.specs.State.{Asked, Relaxed, asked-head, goIn}
+use Rattle.search.proofs.Facts.{codes}
 use Rattle.search.proofs.Fills.{asked-closed, asked-on, asked-open, filling-more, filling-same}
 
 -- a closed road gives nothing, nor does one that leads elsewhere
@@ -40,12 +41,12 @@ offer-word : (o t w : ℕ) → o ≡ min noneWord (word (fit (ofWord t ⊕ ofWor
 offer-word o t w e ht hw = e ∙ rw (ofWord-some t (omega arith), ofWord-some w (omega arith), fit-in (t + w) (omega arith)) (omega arith)
 
 module _ (roads order ranks pairs live down : List ℕ) (n m count i from : ℕ) (li : i < m) where
-  abbrev Road : (e times keys vias e′ times′ keys′ vias′ : List ℕ) → Type 0
+  abbrev Road : (e times keys vias wins e′ times′ keys′ vias′ wins′ : List ℕ) → Type 0
   Road = Relaxed roads order ranks pairs live down n m count (wordAt roads (12 * i)) from i (i + 1)
 
   module _ (w : ℕ) (w-is : w ≡ getD live i 0) where
-    pub road-closed : (e times keys vias : List ℕ) → eqb w noneWord ≡ true → Road e times keys vias e times keys vias
-    road-closed e times keys vias closed s z H e₀ r l held =
+    pub road-closed : (e times keys vias wins : List ℕ) → eqb w noneWord ≡ true → Road e times keys vias wins e times keys vias wins
+    road-closed e times keys vias wins closed s z H e₀ r l held =
         let G = goIn roads order live s z in
         let k = codes r in
         let x : getD live i 0 ≡ noneWord = sym w-is ∙ eqb-true w noneWord closed in
@@ -53,22 +54,23 @@ module _ (roads order ranks pairs live down : List ℕ) (n m count i from : ℕ)
         let la : i < G .net .arcs = rw (k .arcs-are) li in
         record {
           labels = λ v lv. label-passed la (via-closed G H v i q) (held .labels v lv);
+          winners = held .winners;
           filling = filling-same (λ a x. asked-on a x) (λ a x. asked-closed q a x) (held .filling);
         }
 
     module _ (h : ℕ) (h-is : h ≡ wordAt roads (12 * i + 4)) where
       -- the head of a road of a map is one of its junctions
-      pub road-far : (e times keys vias : List ℕ) → n ≤ h → Road e times keys vias e times keys vias
-      road-far e times keys vias far s z H e₀ r l held =
+      pub road-far : (e times keys vias wins : List ℕ) → n ≤ h → Road e times keys vias wins e times keys vias wins
+      road-far e times keys vias wins far s z H e₀ r l held =
           let k = codes r in
           let b = k .ok .well-formed .inside .heads i (rw (k .arcs-are) li) in
           absurd (omega (arith, b, k .heads i li, k .size-is))
 
-      pub road-open : (v o : ℕ) (e times keys vias e′ times′ keys′ vias′ : List ℕ) → eqb w noneWord ≡ false → h < n → h < length times → h < length keys → h < length vias
+      pub road-open : (v o : ℕ) (e times keys vias wins e′ times′ keys′ vias′ wins′ : List ℕ) → eqb w noneWord ≡ false → h < n → h < length times → h < length keys → h < length vias
           → Estimated order ranks pairs count down e e′ h v → o ≡ min noneWord (word (fit (ofWord from ⊕ ofWord w)))
-          → Stored o v i h times keys vias times′ keys′ vias′ → Road e times keys vias e′ times′ keys′ vias′
+          → Stored o v i h times keys vias times′ keys′ vias′ → Entered keys′ wins wins′ h → n ≤ length keys → Road e times keys vias wins e′ times′ keys′ vias′ wins′
       unfolding ofWord
-      road-open v o e times keys vias e′ times′ keys′ vias′ open′ lh lt lk lv est offer st s z H e₀ r l held =
+      road-open v o e times keys vias wins e′ times′ keys′ vias′ wins′ open′ lh lt lk lv est offer st ent ln s z H e₀ r l held =
           let G = goIn roads order live s z in
           let k = codes r in
           let la : i < G .net .arcs = rw (k .arcs-are) li in
@@ -86,8 +88,12 @@ module _ (roads order ranks pairs live down : List ℕ) (n m count i from : ℕ)
           let lG : h < G .size = rw (k .size-is) lh in
           let new : Labelled G H (wordAt roads (12 * i)) (i + 1) h (st .time) (st .key) (st .via) =
           label-improved la gives (omega arith) v-is (λ p q. k .ok .pots h p lG q) (st .improves) (held .labels h lG) in
+          let falls : st .key ≤ getD keys h 0 = label-falls la gives (omega arith) v-is (λ p q. k .ok .pots h p lG q) (st .improves) (held .labels h lG) in
+          let key-is : getD keys′ h 0 ≡ st .key = ap (λ (l : List ℕ). getD l h 0) (st .keys-are) ∙ getD-set-same keys h (st .key) 0 lk in
+          let keys-length : length keys′ ≡ length keys = ap length (st .keys-are) ∙ length-set keys h (st .key) in
           record {
             labels = at G la hd new (held .labels);
+            winners = ent .winners keys (mapIn roads order .vertices) (st .keys-are ∙ ap (set keys h) (sym key-is)) (rw key-is falls) lM (omega (arith, r .n-is, keys-length)) (held .winners);
             filling =
                 filling-more h lM (λ a x. asked-on a x)
                 (asked-head i from w la (λ q. omega arith) (λ q. l .not-target (sym tl ∙ q)) logged cost hd)

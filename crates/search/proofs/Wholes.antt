@@ -1,5 +1,5 @@
 -- The whole search, from what its parts ensure. Assumes nothing.
-use mathlib.Core.Path.{_∙_, _≡_, sym}
+use mathlib.Core.Path.{_≡_}
 use mathlib.Core.Bool.{false, true}
 use mathlib.Core.List.{List}
 use Prim.Native.Nat.{_*_, _<_, _≤_, ℕ}
@@ -9,7 +9,7 @@ use native.Mathlib.Omega.{arith}
 use Rattle.model.specs.Word.{noneWord}
 use Rattle.model.specs.Bytes.{listed}
 use Rattle.model.specs.Calls.{first}
-use Rattle.network.specs.Bodies.{map-facts, mapIn}
+use Rattle.network.specs.Bodies.{map-facts}
 use Rattle.labels.specs.Keys.{kept}
 use Rattle.labels.specs.Ways.{roadsBack, wayOf}
 use Rattle.search.specs.State.{Begun, Explores, Ready}
@@ -20,10 +20,10 @@ use Rattle.search.proofs.Answers.{answer-found, answer-lost}
 pub all-same : (k a n v : ℕ) → n ≤ k → v < n → getD (replicate k a) v 0 ≡ a
 all-same k a n v le l = getD-replicate k v a 0 (omega arith)
 
-module _ (roads order ranks pairs live down : List ℕ) (n m count s z : ℕ) (e₀ route₀ log₀ e₁ times₁ keys₁ vias₁ e times keys vias log : List ℕ) (c : ℕ) (elapsed : List ℕ) (total : ℕ)
+module _ (roads order ranks pairs live down : List ℕ) (n m count s z : ℕ) (e₀ route₀ log₀ e₁ times₁ keys₁ vias₁ wins₁ e times keys vias wins log : List ℕ) (c : ℕ) (elapsed : List ℕ) (total : ℕ)
     (roads-are : length roads ≡ 12 * m) (order-is : length order ≡ 4 * n) (ls : s < n) (lz : z < n)
-    (begun : Begun n count order ranks pairs down s e₀ e₁ times₁ keys₁)
-    (explores : Explores roads order ranks pairs live down n m count z e₁ times₁ keys₁ vias₁ log₀ e times keys vias log c)
+    (begun : Begun n count order ranks pairs down s e₀ e₁ times₁ keys₁ wins₁)
+    (explores : Explores roads order ranks pairs live down n m count z e₁ times₁ keys₁ vias₁ wins₁ log₀ e times keys vias wins log c)
     (finished : elapsed ≡ listed (length times) (kept keys times)) (timed : length times ≡ n) (read : total ≡ getD elapsed z 0) where
   pub searches-lost : eqb total noneWord ≡ true → Searches roads order ranks pairs live down count s z e₀ route₀ log₀ e elapsed route₀ log total c 0
   searches-lost q p a t =

@@ -11,6 +11,7 @@ use Rattle.graph.specs.Map.{Map, fills}
 use Rattle.model.specs.Calls.{first, liveOf, searchOf, settable}
 use Rattle.model.specs.Good.{AimFacts, Filled}
 use Rattle.network.specs.Bodies.{Prepared, mapIn}
+use Rattle.labels.specs.Winners.{Winners}
 use Rattle.labels.specs.Labelled.{Labels}
 
 -- lengths of what is lent: n junctions, m roads, count pairs
@@ -55,9 +56,10 @@ pub record Filling (M : Map) (z : ℕ) (A : ℕ → Type 0) (down e₀ e : List 
   pub right : (a : ℕ) → a < M .vertices → A a → Filled M z e a
   pub kept : (v : ℕ) → v < M .vertices → ((a : ℕ) → a < M .vertices → A a → fills M a v ≡ true → ⊥) → getD e v 0 ≡ getD e₀ v 0
 
--- labels and estimates after the history H
-pub record Held (roads order live : List ℕ) (s z : ℕ) (H : List Entry) (c k : ℕ) (down e₀ e times keys vias : List ℕ) : Type 0 where
+-- labels, the winners of blocks by their keys, and estimates after the history H
+pub record Held (roads order live : List ℕ) (s z : ℕ) (H : List Entry) (c k : ℕ) (down e₀ e times keys vias wins : List ℕ) : Type 0 where
   pub labels : Labels (goIn roads order live s z) H c k times keys vias
+  pub winners : Winners keys wins (mapIn roads order .vertices)
   pub filling : Filling (mapIn roads order) z (Asked (goIn roads order live s z) s z H c k) down e₀ e
 
 -- u is logged with the time t
@@ -67,26 +69,26 @@ pub record Logged (G : Problem) (H : List Entry) (z u t : ℕ) : Type 0 where
   pub not-target : u ≡ z → ⊥
 
 -- Relaxing the roads of u, whose time is t, from number k up to l takes the areas from what they hold before these roads to what they hold after them.
-abbrev pub Relaxed : (roads order ranks pairs live down : List ℕ) (n m count u t k l : ℕ) (e times keys vias e′ times′ keys′ vias′ : List ℕ) → Type 0
-Relaxed roads order ranks pairs live down n m count u t k l e times keys vias e′ times′ keys′ vias′ =
+abbrev pub Relaxed : (roads order ranks pairs live down : List ℕ) (n m count u t k l : ℕ) (e times keys vias wins e′ times′ keys′ vias′ wins′ : List ℕ) → Type 0
+Relaxed roads order ranks pairs live down n m count u t k l e times keys vias wins e′ times′ keys′ vias′ wins′ =
     (s z : ℕ) (H : List Entry) (e₀ : List ℕ) → Ready roads order ranks pairs live n m count s z → Logged (goIn roads order live s z) H z u t
-    → Held roads order live s z H u k down e₀ e times keys vias → Held roads order live s z H u l down e₀ e′ times′ keys′ vias′
+    → Held roads order live s z H u k down e₀ e times keys vias wins → Held roads order live s z H u l down e₀ e′ times′ keys′ vias′ wins′
 
 -- The areas before anything is logged: the start's estimate is asked, and it is the first candidate if it has one. e are the estimates before, e′ those after.
-abbrev pub Begun : (n count : ℕ) (order ranks pairs down : List ℕ) (s : ℕ) (e e′ times keys : List ℕ) → Type 0
-Begun n count order ranks pairs down s e e′ times keys =
+abbrev pub Begun : (n count : ℕ) (order ranks pairs down : List ℕ) (s : ℕ) (e e′ times keys wins : List ℕ) → Type 0
+Begun n count order ranks pairs down s e e′ times keys wins =
     (roads live vias : List ℕ) (m z : ℕ) → Ready roads order ranks pairs live n m count s z → AimFacts (mapIn roads order) z down e
-    → Held roads order live s z [] z m down e e′ times keys vias
+    → Held roads order live s z [] z m down e e′ times keys vias wins
 
 -- The search is over: c junctions are logged, and the areas hold what the whole history gives. log₀ is the log area before.
-pub record Explored (roads order live : List ℕ) (s z : ℕ) (down e₀ log₀ e times keys vias log : List ℕ) (c : ℕ) : Type 0 where
+pub record Explored (roads order live : List ℕ) (s z : ℕ) (down e₀ log₀ e times keys vias wins log : List ℕ) (c : ℕ) : Type 0 where
   pub upto : ℕ
   pub count-is : c ≡ length (history (goIn roads order live s z))
   pub log-is : log ≡ first (vertices (reverse (history (goIn roads order live s z)))) log₀
-  pub held : Held roads order live s z (history (goIn roads order live s z)) z upto down e₀ e times keys vias
+  pub held : Held roads order live s z (history (goIn roads order live s z)) z upto down e₀ e times keys vias wins
 
 -- from the first candidate to the end
-abbrev pub Explores : (roads order ranks pairs live down : List ℕ) (n m count z : ℕ) (e times keys vias log e′ times′ keys′ vias′ log′ : List ℕ) (c : ℕ) → Type 0
-Explores roads order ranks pairs live down n m count z e times keys vias log e′ times′ keys′ vias′ log′ c =
-    (s : ℕ) (e₀ : List ℕ) → Ready roads order ranks pairs live n m count s z → Held roads order live s z [] z m down e₀ e times keys vias
-    → Explored roads order live s z down e₀ log e′ times′ keys′ vias′ log′ c
+abbrev pub Explores : (roads order ranks pairs live down : List ℕ) (n m count z : ℕ) (e times keys vias wins log e′ times′ keys′ vias′ wins′ log′ : List ℕ) (c : ℕ) → Type 0
+Explores roads order ranks pairs live down n m count z e times keys vias wins log e′ times′ keys′ vias′ wins′ log′ c =
+    (s : ℕ) (e₀ : List ℕ) → Ready roads order ranks pairs live n m count s z → Held roads order live s z [] z m down e₀ e times keys vias wins
+    → Explored roads order live s z down e₀ log e′ times′ keys′ vias′ wins′ log′ c

@@ -8,14 +8,18 @@ ghost use Rattle.labels.specs.Grouped.{Grouped};
 ghost use Rattle.search.specs.State.{Begun, Explores, Relaxed, Sized};
 ghost use Rattle.search.specs.Searches.{Searches};
 use hierarchy::estimate;
+use hierarchy::fill;
 use labels::Choice;
 use labels::NO_KEY;
 use labels::choose;
-use labels::clear;
 use labels::cost_of;
+use labels::enter;
 use labels::finish;
 use labels::group;
 use labels::improve;
+use labels::is_logged;
+use labels::key_of;
+use labels::reset;
 use labels::settle;
 use labels::way_back;
 use network::Junction;
@@ -37,11 +41,12 @@ fn relax_road(
     elapsed: &mut [u32],
     keys: &mut [u64],
     vias: &mut [u32],
+    wins: &mut [u32],
     i: u32,
     from: Time,
 )
-    requires { ⌜ (i < m) × (n ≤ length (now keys)) × (n ≤ length (now vias)) × Sized n m count (length (now roads)) (length (now order)) (length (now ranks)) (length (now pairs)) (length (now live)) (length (now down)) (length (now estimates)) (length (now elapsed)) ⌝ }
-    ensures { λ _. ⌜ Relaxed (now (roads .entry)) (now (order .entry)) (now (ranks .entry)) (now (pairs .entry)) (now (live .entry)) (now (down .entry)) n m count (wordAt (now (roads .entry)) (12 * i)) (from .0) i (i + 1) (now (estimates .entry)) (now (elapsed .entry)) (now (keys .entry)) (now (vias .entry)) (now (estimates .exit)) (now (elapsed .exit)) (now (keys .exit)) (now (vias .exit)) ⌝ }
+    requires { ⌜ (i < m) × (n ≤ length (now keys)) × (n ≤ length (now vias)) × (n ≤ 64 * length (now wins)) × Sized n m count (length (now roads)) (length (now order)) (length (now ranks)) (length (now pairs)) (length (now live)) (length (now down)) (length (now estimates)) (length (now elapsed)) ⌝ }
+    ensures { λ _. ⌜ Relaxed (now (roads .entry)) (now (order .entry)) (now (ranks .entry)) (now (pairs .entry)) (now (live .entry)) (now (down .entry)) n m count (wordAt (now (roads .entry)) (12 * i)) (from .0) i (i + 1) (now (estimates .entry)) (now (elapsed .entry)) (now (keys .entry)) (now (vias .entry)) (now (wins .entry)) (now (estimates .exit)) (now (elapsed .exit)) (now (keys .exit)) (now (vias .exit)) (now (wins .exit)) ⌝ }
 {
     let cost = cost_of(live, i);
     if cost.is_none() {
@@ -54,6 +59,7 @@ fn relax_road(
     let to_go = estimate(n, count, order, ranks, pairs, down, estimates, head);
     let offer = Time::NONE.or_sum(from, cost);
     improve(elapsed, keys, vias, head, offer, to_go, i);
+    enter(keys, wins, head);
 }
 
 // Relaxes the roads of the logged junction u.
@@ -71,12 +77,13 @@ fn relax(
     elapsed: &mut [u32],
     keys: &mut [u64],
     vias: &mut [u32],
+    wins: &mut [u32],
     firsts: &[u32],
     nexts: &[u32],
     u: Junction,
 )
-    requires { ⌜ (u .0 < n) × (n ≤ length (now keys)) × (n ≤ length (now vias)) × (n ≤ length (now firsts)) × (m ≤ length (now nexts)) × Grouped (now roads) n m (now firsts) (now nexts) × Sized n m count (length (now roads)) (length (now order)) (length (now ranks)) (length (now pairs)) (length (now live)) (length (now down)) (length (now estimates)) (length (now elapsed)) ⌝ }
-    ensures { λ _. ⌜ Relaxed (now (roads .entry)) (now (order .entry)) (now (ranks .entry)) (now (pairs .entry)) (now (live .entry)) (now (down .entry)) n m count (u .0) (getD (now (elapsed .entry)) (u .0) 0) 0 m (now (estimates .entry)) (now (elapsed .entry)) (now (keys .entry)) (now (vias .entry)) (now (estimates .exit)) (now (elapsed .exit)) (now (keys .exit)) (now (vias .exit)) ⌝ }
+    requires { ⌜ (u .0 < n) × (n ≤ length (now keys)) × (n ≤ length (now vias)) × (n ≤ 64 * length (now wins)) × (n ≤ length (now firsts)) × (m ≤ length (now nexts)) × Grouped (now roads) n m (now firsts) (now nexts) × Sized n m count (length (now roads)) (length (now order)) (length (now ranks)) (length (now pairs)) (length (now live)) (length (now down)) (length (now estimates)) (length (now elapsed)) ⌝ }
+    ensures { λ _. ⌜ Relaxed (now (roads .entry)) (now (order .entry)) (now (ranks .entry)) (now (pairs .entry)) (now (live .entry)) (now (down .entry)) n m count (u .0) (getD (now (elapsed .entry)) (u .0) 0) 0 m (now (estimates .entry)) (now (elapsed .entry)) (now (keys .entry)) (now (vias .entry)) (now (wins .entry)) (now (estimates .exit)) (now (elapsed .exit)) (now (keys .exit)) (now (vias .exit)) (now (wins .exit)) ⌝ }
 {
     let a = u.0 as usize;
     let from = Time::of_word(elapsed[a]);
@@ -96,6 +103,7 @@ fn relax(
             elapsed,
             keys,
             vias,
+            wins,
             i,
             from,
         );
@@ -115,19 +123,23 @@ fn begin(
     estimates: &mut [u32],
     elapsed: &mut [u32],
     keys: &mut [u64],
+    wins: &mut [u32],
     start: Junction,
 )
-    requires { ⌜ (start .0 < n) × (n ≤ 4096) × (length (now order) ≡ 4 * n) × (length (now ranks) ≡ n) × (length (now down) ≡ n) × (length (now estimates) ≡ n) × (length (now elapsed) ≡ n) × (n ≤ length (now keys)) × (4 * count ≤ length (now pairs)) × (count ≤ 65536) × ((v : ℕ) → v < n → getD (now keys) v 0 ≡ noKey) ⌝ }
-    ensures { λ _. ⌜ Begun n count (now (order .entry)) (now (ranks .entry)) (now (pairs .entry)) (now (down .entry)) (start .0) (now (estimates .entry)) (now (estimates .exit)) (now (elapsed .exit)) (now (keys .exit)) ⌝ }
+    requires { ⌜ (start .0 < n) × (n ≤ 4096) × (length (now order) ≡ 4 * n) × (length (now ranks) ≡ n) × (length (now down) ≡ n) × (length (now estimates) ≡ n) × (length (now elapsed) ≡ n) × (n ≤ length (now keys)) × (n ≤ 64 * length (now wins)) × (length (now wins) ≤ 64) × (4 * count ≤ length (now pairs)) × (count ≤ 65536) × ((v : ℕ) → v < n → getD (now keys) v 0 ≡ noKey) ⌝ }
+    ensures { λ _. ⌜ Begun n count (now (order .entry)) (now (ranks .entry)) (now (pairs .entry)) (now (down .entry)) (start .0) (now (estimates .entry)) (now (estimates .exit)) (now (elapsed .exit)) (now (keys .exit)) (now (wins .exit)) ⌝ }
 {
-    clear(elapsed);
+    fill(elapsed, Time::NONE);
+    reset(wins);
     let to_go = estimate(n, count, order, ranks, pairs, down, estimates, start);
     if to_go.is_none() {
         return;
     }
     let a = start.0 as usize;
-    elapsed[a] = 0;
-    keys[a] = to_go.word() as u64;
+    let here = Time::of_word(0);
+    elapsed[a] = here.word();
+    keys[a] = key_of(here, to_go);
+    enter(keys, wins, start);
 }
 
 // Logs one candidate after the other, until the target is logged or no candidate is left; answered with their number (document 01: count).
@@ -145,24 +157,25 @@ fn explore(
     elapsed: &mut [u32],
     keys: &mut [u64],
     vias: &mut [u32],
+    wins: &mut [u32],
     firsts: &[u32],
     nexts: &[u32],
     log: &mut [u32],
     target: Junction,
 ) -> u32
-    requires { ⌜ (n ≤ length (now log)) × (n ≤ length (now keys)) × (n ≤ length (now vias)) × (n ≤ length (now firsts)) × (m ≤ length (now nexts)) × Grouped (now roads) n m (now firsts) (now nexts) × Sized n m count (length (now roads)) (length (now order)) (length (now ranks)) (length (now pairs)) (length (now live)) (length (now down)) (length (now estimates)) (length (now elapsed)) ⌝ }
-    ensures { λ c. ⌜ Explores (now (roads .entry)) (now (order .entry)) (now (ranks .entry)) (now (pairs .entry)) (now (live .entry)) (now (down .entry)) n m count (target .0) (now (estimates .entry)) (now (elapsed .entry)) (now (keys .entry)) (now (vias .entry)) (now (log .entry)) (now (estimates .exit)) (now (elapsed .exit)) (now (keys .exit)) (now (vias .exit)) (now (log .exit)) c ⌝ }
+    requires { ⌜ (n ≤ length (now log)) × (n ≤ length (now keys)) × (n ≤ length (now vias)) × (n ≤ 64 * length (now wins)) × (n ≤ length (now firsts)) × (m ≤ length (now nexts)) × Grouped (now roads) n m (now firsts) (now nexts) × Sized n m count (length (now roads)) (length (now order)) (length (now ranks)) (length (now pairs)) (length (now live)) (length (now down)) (length (now estimates)) (length (now elapsed)) × (target .0 < n) ⌝ }
+    ensures { λ c. ⌜ Explores (now (roads .entry)) (now (order .entry)) (now (ranks .entry)) (now (pairs .entry)) (now (live .entry)) (now (down .entry)) n m count (target .0) (now (estimates .entry)) (now (elapsed .entry)) (now (keys .entry)) (now (vias .entry)) (now (wins .entry)) (now (log .entry)) (now (estimates .exit)) (now (elapsed .exit)) (now (keys .exit)) (now (vias .exit)) (now (wins .exit)) (now (log .exit)) c ⌝ }
 {
     let mut c: u32 = 0;
     while c < n {
-        match choose(keys, n) {
+        match choose(keys, wins, n) {
             Choice::Nothing => {
                 return c;
             }
             Choice::At(v) => {
-                settle(keys, log, c, v);
+                settle(keys, wins, log, n, c, v);
                 c += 1;
-                if v.0 == target.0 {
+                if is_logged(keys, target) {
                     return c;
                 }
                 relax(
@@ -179,6 +192,7 @@ fn explore(
                     elapsed,
                     keys,
                     vias,
+                    wins,
                     firsts,
                     nexts,
                     v,
@@ -219,6 +233,7 @@ pub fn search(
 {
     let mut keys = [NO_KEY; 4096];
     let mut vias = [0u32; 4096];
+    let mut wins = [0u32; 64];
     let mut firsts = [m; 4096];
     let mut nexts = [0u32; 16384];
     group(roads, n, m, &mut firsts, &mut nexts);
@@ -232,6 +247,7 @@ pub fn search(
         estimates,
         elapsed,
         &mut keys,
+        &mut wins,
         start,
     );
     let logged = explore(
@@ -248,6 +264,7 @@ pub fn search(
         elapsed,
         &mut keys,
         &mut vias,
+        &mut wins,
         &firsts,
         &nexts,
         log,

@@ -1,6 +1,5 @@
 use borrow.Author.Needs.{needs}
-use native.Mathlib.Omega.{arith}
-use mathlib.Core.Path.{_≡_, _∙_, sym}
+use mathlib.Core.Path.{_≡_, _∙_}
 use Prim.Native.Nat.{_-_, _≤_}
 use lib.ListN.{length, length-set}
 use Rattle.labels.specs.Keys.{kept}
@@ -19,10 +18,15 @@ loop-holds : tie.Need-loop-holds Inv-loop μ-loop
 loop-holds c = (search needs, search needs, upto-start _ _)
 
 loop-again : tie.Need-loop-again Inv-loop μ-loop
-loop-again c = (search needs, simp length-set (search needs), upto-set _ _ _ _ (c .before .before .before .before .loop .inv .2) _ (c .before .before .before .loop-test .taken) (c .word .ensures ∙ kept-no (c .before .before .before .before .before .before .before .args .keys .now) (c .before .before .before .before .before .before .before .args .times .now) (c .before .before .before .before .loop .i) (c .before .if1 .taken)))
+loop-again c =
+    let at-loop = c .before .before .before .before in
+    let start = at-loop .before .before .before in
+    (search needs, simp length-set (search needs), upto-set _ _ _ _ (at-loop .loop .inv .2) _ (c .before .before .before .loop-test .taken) (c .word .ensures ∙ kept-no (start .args .keys .now) (start .args .times .now) (at-loop .loop .i) (c .before .if1 .taken)))
 
 loop-again-2 : tie.Need-loop-again-2 Inv-loop μ-loop
-loop-again-2 c = (search needs, search needs, upto-keep _ _ _ _ (c .before .before .before .loop .inv .2) (kept-yes (c .before .before .before .before .before .before .args .keys .now) (c .before .before .before .before .before .before .args .times .now) (c .before .before .before .loop .i) (c .if1 .left)))
+loop-again-2 c =
+    let start = c .before .before .before .before .before .before in
+    (search needs, search needs, upto-keep _ _ _ _ (c .before .before .before .loop .inv .2) (kept-yes (start .args .keys .now) (start .args .times .now) (c .before .before .before .loop .i) (c .if1 .left)))
 
 returns : tie.Need-returns Inv-loop μ-loop
 returns c = upto-end _ _ _ _ (c .before .loop .inv .2) (search needs) (c .loop-test .left)

@@ -1,7 +1,7 @@
 use borrow.Author.Needs.{needs}
 use native.Mathlib.Omega.{arith}
-use mathlib.Core.Path.{_≡_, _∙_, sym}
-use Prim.Native.Nat.{_-_, _<_, _≤_}
+use mathlib.Core.Path.{_≡_}
+use Prim.Native.Nat.{_≤_}
 use lib.ListN.{length, length-set}
 use Rattle.labels.proofs.Groups.{Linked, linked-end, linked-skip, linked-start, linked-turn}
 use Rattle.labels.proofs.group.Statement.{statement}
@@ -17,7 +17,9 @@ loop-holds : tie.Need-loop-holds Inv-loop μ-loop
 loop-holds c = (search needs, search needs, search needs, linked-start _ _ _ _ _ (c .before .before .before .pre .3))
 
 loop-again : tie.Need-loop-again Inv-loop μ-loop
-loop-again c = (search needs, simp length-set (search needs), simp length-set (search needs), linked-turn _ _ _ (c .before .before .before .before .loop .i) _ _ _ _ (omega arith) (omega arith) (c .before .before .tail-of .ensures) (c .before .before .before .before .loop .inv .3) (c .before .if1 .taken) (omega arith) (omega arith))
+loop-again c =
+    let at-loop = c .before .before .before .before in
+    (search needs, simp length-set (search needs), simp length-set (search needs), linked-turn _ _ _ (at-loop .loop .i) _ _ _ _ (omega arith) (omega arith) (c .before .before .tail-of .ensures) (at-loop .loop .inv .3) (c .before .if1 .taken) (omega arith) (omega arith))
 
 loop-again-2 : tie.Need-loop-again-2 Inv-loop μ-loop
 loop-again-2 c = (search needs, search needs, search needs, linked-skip _ _ _ (c .before .before .before .loop .i) _ _ _ _ (omega arith) (omega arith) (c .before .tail-of .ensures) (c .before .before .before .loop .inv .3) (c .if1 .left))

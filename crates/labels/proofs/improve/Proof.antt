@@ -4,7 +4,9 @@ use Rattle.labels.proofs.improve.Statement.{statement}
 use Rattle.labels.proofs.improve.Tie as tie
 
 returns : tie.Need-returns
-returns c = stored-at _ _ _ _ _ _ _ _ _ _ _ _ (c .before .before .before .before .before .of-word .ensures) (c .word .ensures) (c .before .before .improved .ensures)
+returns c =
+    let at-of-word = c .before .before .before .before .before in
+    stored-at _ _ _ _ _ _ _ _ _ _ _ _ (at-of-word .of-word .ensures) (c .word .ensures) (c .before .before .improved .ensures)
 
 pub improve-spec : {M : Type 1} → statement M
 improve-spec =

@@ -1,8 +1,8 @@
-use Rattle.labels.proofs.Improves.{takes-over}
 use borrow.Author.Tests.{eqb-false, eqb-true}
 use native.Mathlib.Omega.{arith}
+use mathlib.Core.Path.{_∙_, sym}
 use Rattle.labels.specs.Improved.{behind, later, lost, settled, tied}
-use mathlib.Core.Path.{_≡_, _∙_, sym}
+use Rattle.labels.proofs.Improves.{takes-over}
 use borrow.Author.Needs.{needs}
 use Rattle.labels.proofs.improved.Statement.{statement}
 use Rattle.labels.proofs.improved.Tie as tie
@@ -14,16 +14,32 @@ returns-2 : tie.Need-returns-2
 returns-2 c = settled (c .if2 .taken)
 
 returns-3 : tie.Need-returns-3
-returns-3 c = takes-over _ _ _ _ _ _ _ _ (c .before .before .word2 .ensures) (c .word3 .ensures) (eqb-false _ _ (sym (c .before .before .before .before .before .before .is-none .ensures) ∙ c .before .before .before .before .before .if1 .left)) (c .before .before .before .before .if2 .left) (omega arith)
+returns-3 c =
+    let at-if2 = c .before .before .before .before .before in
+    let at-if1 = at-if2 .before in
+    let at-is-none = at-if1 .before in
+    takes-over _ _ _ _ _ _ _ (c .key-of .ensures) (eqb-false _ _ (sym (at-is-none .is-none .ensures) ∙ at-if1 .if1 .left)) (at-if2 .if2 .left) (omega arith)
 
 returns-4 : tie.Need-returns-4
-returns-4 c = later (eqb-false _ _ (sym (c .before .before .before .before .before .before .is-none .ensures) ∙ c .before .before .before .before .before .if1 .left)) (c .before .before .before .before .if2 .left) (omega arith)
+returns-4 c =
+    let at-if2 = c .before .before .before .before .before in
+    let at-if1 = at-if2 .before in
+    let at-is-none = at-if1 .before in
+    later (eqb-false _ _ (sym (at-is-none .is-none .ensures) ∙ at-if1 .if1 .left)) (at-if2 .if2 .left) (omega arith)
 
 returns-5 : tie.Need-returns-5
-returns-5 c = tied (eqb-false _ _ (sym (c .before .before .before .before .before .before .before .is-none .ensures) ∙ c .before .before .before .before .before .before .if1 .left)) (c .before .before .before .before .before .if2 .left) (omega arith) (c .if5 .taken)
+returns-5 c =
+    let at-if2 = c .before .before .before .before .before .before .before in
+    let at-if1 = at-if2 .before in
+    let at-is-none = at-if1 .before in
+    tied (eqb-false _ _ (sym (at-is-none .is-none .ensures) ∙ at-if1 .if1 .left)) (at-if2 .if2 .left) (omega arith) (c .if5 .taken)
 
 returns-6 : tie.Need-returns-6
-returns-6 c = behind (eqb-false _ _ (sym (c .before .before .before .before .before .before .before .is-none .ensures) ∙ c .before .before .before .before .before .before .if1 .left)) (c .before .before .before .before .before .if2 .left) (omega arith) (c .if5 .left)
+returns-6 c =
+    let at-if2 = c .before .before .before .before .before .before .before in
+    let at-if1 = at-if2 .before in
+    let at-is-none = at-if1 .before in
+    behind (eqb-false _ _ (sym (at-is-none .is-none .ensures) ∙ at-if1 .if1 .left)) (at-if2 .if2 .left) (omega arith) (c .if5 .left)
 
 pub improved-spec : {M : Type 1} → statement M
 improved-spec =
@@ -34,10 +50,7 @@ improved-spec =
     returns-2
     (λ c κs. search needs)
     (λ c κs. search needs)
-    (λ c. search needs)
     (λ c κs. search needs)
-    (λ c. search needs)
-    (λ c. search needs)
     returns-3
     returns-4
     returns-5

@@ -1,8 +1,5 @@
 use borrow.Author.Needs.{needs}
-use native.Mathlib.Omega.{arith}
-use mathlib.Core.Path.{_≡_, _∙_, sym}
 use Prim.Native.Nat.{_-_, _<_, _≤_}
-use lib.ListN.{length, length-set}
 use Rattle.labels.proofs.Backs.{Counted, count-end, count-start, count-there, count-turn}
 use Rattle.labels.proofs.roads_back.Statement.{statement}
 use Rattle.labels.proofs.roads_back.Tie as tie

@@ -1,20 +1,23 @@
 use native.Mathlib.Omega.{arith}
-use mathlib.Core.Path.{_≡_, _∙_, sym}
-use Prim.Native.Nat.{_-_, _<_, _≤_}
-use lib.ListN.{length, length-set}
 use Rattle.labels.proofs.Backs.{step-far, step-none, step-to}
 use borrow.Author.Needs.{needs}
 use Rattle.labels.proofs.step_back.Statement.{statement}
 use Rattle.labels.proofs.step_back.Tie as tie
 
 returns : tie.Need-returns
-returns c = (step-none (c .before .before .before .before .args .roads .now) (c .before .before .before .before .args .vias .now) _ _ _ (c .if1 .taken), search needs)
+returns c =
+    let start = c .before .before .before .before in
+    (step-none (start .args .roads .now) (start .args .vias .now) _ _ _ (c .if1 .taken), search needs)
 
 returns-2 : tie.Need-returns-2
-returns-2 c = (step-far (c .before .before .before .before .before .before .args .roads .now) (c .before .before .before .before .before .before .args .vias .now) _ _ _ _ (omega arith) (c .before .tail-of .ensures) (c .if2 .taken), search needs)
+returns-2 c =
+    let start = c .before .before .before .before .before .before in
+    (step-far (start .args .roads .now) (start .args .vias .now) _ _ _ _ (omega arith) (c .before .tail-of .ensures) (c .if2 .taken), search needs)
 
 returns-3 : tie.Need-returns-3
-returns-3 c = (step-to (c .before .before .before .before .before .before .args .roads .now) (c .before .before .before .before .before .before .args .vias .now) _ _ _ _ (omega arith) (c .before .tail-of .ensures) (omega arith), search needs)
+returns-3 c =
+    let start = c .before .before .before .before .before .before in
+    (step-to (start .args .roads .now) (start .args .vias .now) _ _ _ _ (omega arith) (c .before .tail-of .ensures) (omega arith), search needs)
 
 pub step-back-spec : {M : Type 1} → statement M
 step-back-spec =

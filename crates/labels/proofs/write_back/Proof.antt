@@ -1,8 +1,9 @@
 use borrow.Author.Needs.{needs}
 use native.Mathlib.Omega.{arith}
-use mathlib.Core.Path.{_∙_, _≡_, refl, sym}
-use Prim.Native.Nat.{_-_, _<_, _≤_}
+use mathlib.Core.Path.{_≡_}
+use Prim.Native.Nat.{_<_, _≤_}
 use lib.ListN.{length, length-set}
+use mathlib.Core.Path.{refl}
 use Rattle.labels.proofs.Backs.{Writes, write-end, write-turn}
 use Rattle.labels.proofs.write_back.Statement.{statement}
 use Rattle.labels.proofs.write_back.Tie as tie
