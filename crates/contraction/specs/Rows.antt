@@ -12,8 +12,8 @@ use Rattle.graph.specs.Level.{level}
 use Rattle.graph.specs.Pairs.{down, up}
 use Rattle.graph.specs.Records.{Pair, edge, minOver, row, rows}
 use Rattle.graph.specs.Folds.{through}
-use Rattle.model.specs.Word.{ofWord, word}
-use Rattle.model.specs.State.{unasked, words}
+use Rattle.model.specs.Word.{ofWord, unasked, word}
+use Rattle.model.specs.State.{words}
 use Rattle.network.specs.Width.{fit}
 use Rattle.contraction.specs.Links.{rowOf}
 

@@ -3,9 +3,19 @@ ghost use mathlib.Core.Path.{_≡_};
 ghost use mathlib.Core.List.{[], _∷_};
 ghost use Rattle.model.specs.Card.{readCard, writeCard};
 ghost use Rattle.card.specs.Answers.{rowsOf};
+ghost use Rattle.model.specs.Types as model;
+ghost use Rattle.model.specs.Contracts.{AimContract, EstimateContract, GoContract, PrepareContract, SetContract, areasOf};
+ghost use Rattle.unit.specs.Shape.{answeredIn, headerIn, lentOf};
 ghost use Rattle.unit_c.specs.Words.{Wrote, readingNumber, readingWords};
+ghost use Rattle.unit_c.specs.Answers.{answerWords, headerOf, headerWords};
 use card::Reading;
 use card::Writing;
+use network::Junction;
+use network::Time;
+use unit::Answer;
+use unit::Answered;
+use unit::Header;
+use unit::Target;
 
 // Reads a card. `first` and `second` get n and m, or the place that questions 5 and 6 name and 0.
 #[no_mangle]
@@ -42,4 +52,243 @@ pub extern "C" fn card_write(roads: &[u32], order: &[u32], area: &mut [u8], plac
             network::question_of(q)
         }
     }
+}
+
+// A header as C holds it: `aimed` is 0 where there is no target, and `target` is 0 then.
+#[repr(C)]
+pub struct UnitHeader {
+    pub n: u32,
+    pub m: u32,
+    pub pairs: u32,
+    pub aimed: u32,
+    pub target: u32,
+}
+
+// What preparing and the calls hand back. `question` is 0, or the number of the refusal; `place` goes with 5 and 6; `total` is that of a go, or the word of an estimate; `count` is that of a
+// go, also after 15; `roads` is the number of roads of a go. What does not apply is 0.
+#[repr(C)]
+pub struct UnitAnswer {
+    pub header: UnitHeader,
+    pub question: u32,
+    pub place: u32,
+    pub total: u64,
+    pub count: u32,
+    pub roads: u32,
+}
+
+fn header_of(h: UnitHeader) -> Header
+    ensures { λ r. ⌜ headerIn r ≡ headerOf h ⌝ }
+{
+    if h.aimed == 0 {
+        return Header {
+            n: h.n,
+            m: h.m,
+            pairs: h.pairs,
+            target: Target::Absent,
+        };
+    }
+    Header {
+        n: h.n,
+        m: h.m,
+        pairs: h.pairs,
+        target: Target::At(Junction(h.target)),
+    }
+}
+
+fn words_of(h: Header) -> UnitHeader
+    ensures { λ r. ⌜ r ≡ headerWords (headerIn h) ⌝ }
+{
+    let target = h.target;
+    match target {
+        Target::Absent => UnitHeader {
+            n: h.n,
+            m: h.m,
+            pairs: h.pairs,
+            aimed: 0,
+            target: 0,
+        },
+        Target::At(z) => UnitHeader {
+            n: h.n,
+            m: h.m,
+            pairs: h.pairs,
+            aimed: 1,
+            target: z.0,
+        },
+    }
+}
+
+fn answer_of(r: Answered) -> UnitAnswer
+    ensures { λ x. ⌜ x ≡ answerWords (answeredIn r) ⌝ }
+{
+    let h = r.header;
+    let header = words_of(h);
+    let answer = r.answer;
+    match answer {
+        Answer::Refused(q) => UnitAnswer {
+            header: header,
+            question: network::question_of(q),
+            place: network::place_of(q),
+            total: 0,
+            count: network::count_of(q),
+            roads: 0,
+        },
+        Answer::Accepted => UnitAnswer {
+            header: header,
+            question: 0,
+            place: 0,
+            total: 0,
+            count: 0,
+            roads: 0,
+        },
+        Answer::Estimated(t) => UnitAnswer {
+            header: header,
+            question: 0,
+            place: 0,
+            total: t.0 as u64,
+            count: 0,
+            roads: 0,
+        },
+        Answer::Gone(t, c, k) => UnitAnswer {
+            header: header,
+            question: 0,
+            place: 0,
+            total: t,
+            count: c,
+            roads: k,
+        },
+    }
+}
+
+// Prepares a card on the six areas.
+#[no_mangle]
+pub extern "C" fn unit_prepare(
+    card: &[u8],
+    ranks: &mut [u32],
+    pairs: &mut [u32],
+    live: &mut [u32],
+    down: &mut [u32],
+    estimates: &mut [u32],
+    elapsed: &mut [u32],
+) -> UnitAnswer
+    ensures { λ r. ⌜ ((x : model.Answered) × (r ≡ answerWords x) × PrepareContract (now (card .entry)) (areasOf (now (ranks .entry)) (now (pairs .entry)) (now (live .entry)) (now (down .entry)) (now (estimates .entry)) (now (elapsed .entry))) (areasOf (now (ranks .exit)) (now (pairs .exit)) (now (live .exit)) (now (down .exit)) (now (estimates .exit)) (now (elapsed .exit))) x) ⌝ }
+{
+    answer_of(unit::prepare(card, ranks, pairs, live, down, estimates, elapsed))
+}
+
+// Sets a road's live time.
+#[no_mangle]
+pub extern "C" fn unit_set(
+    header: UnitHeader,
+    card: &[u8],
+    ranks: &[u32],
+    pairs: &[u32],
+    live: &mut [u32],
+    down: &[u32],
+    estimates: &[u32],
+    elapsed: &[u32],
+    road: u32,
+    time: u32,
+) -> UnitAnswer
+    ensures { λ r. ⌜ ((x : model.Answered) × (r ≡ answerWords x) × SetContract (now (card .entry)) (headerOf header) (areasOf (now (ranks .entry)) (now (pairs .entry)) (now (live .entry)) (now (down .entry)) (now (estimates .entry)) (now (elapsed .entry))) (now (live .exit)) road time x) ⌝ }
+{
+    let h = header_of(header);
+    answer_of(h.set(
+        card,
+        ranks,
+        pairs,
+        live,
+        down,
+        estimates,
+        elapsed,
+        road,
+        Time::of_word(time),
+    ))
+}
+
+// Aims at a junction.
+#[no_mangle]
+pub extern "C" fn unit_aim(
+    header: UnitHeader,
+    card: &[u8],
+    ranks: &[u32],
+    pairs: &[u32],
+    live: &[u32],
+    down: &mut [u32],
+    estimates: &mut [u32],
+    elapsed: &[u32],
+    junction: u32,
+) -> UnitAnswer
+    ensures { λ r. ⌜ ((x : model.Answered) × (r ≡ answerWords x) × AimContract (now (card .entry)) (headerOf header) (areasOf (now (ranks .entry)) (now (pairs .entry)) (now (live .entry)) (now (down .entry)) (now (estimates .entry)) (now (elapsed .entry))) (now (down .exit)) (now (estimates .exit)) junction x) ⌝ }
+{
+    let h = header_of(header);
+    answer_of(h.aim(
+        card,
+        ranks,
+        pairs,
+        live,
+        down,
+        estimates,
+        elapsed,
+        Junction(junction),
+    ))
+}
+
+// The estimate of a junction.
+#[no_mangle]
+pub extern "C" fn unit_estimate(
+    header: UnitHeader,
+    card: &[u8],
+    ranks: &[u32],
+    pairs: &[u32],
+    live: &[u32],
+    down: &[u32],
+    estimates: &mut [u32],
+    elapsed: &[u32],
+    junction: u32,
+) -> UnitAnswer
+    ensures { λ r. ⌜ ((x : model.Answered) × (r ≡ answerWords x) × EstimateContract (now (card .entry)) (headerOf header) (areasOf (now (ranks .entry)) (now (pairs .entry)) (now (live .entry)) (now (down .entry)) (now (estimates .entry)) (now (elapsed .entry))) (now (estimates .exit)) junction x) ⌝ }
+{
+    let h = header_of(header);
+    answer_of(h.estimate(
+        card,
+        ranks,
+        pairs,
+        live,
+        down,
+        estimates,
+        elapsed,
+        Junction(junction),
+    ))
+}
+
+// The way from a start to the target.
+#[no_mangle]
+pub extern "C" fn unit_go(
+    header: UnitHeader,
+    card: &[u8],
+    ranks: &[u32],
+    pairs: &[u32],
+    live: &[u32],
+    down: &[u32],
+    estimates: &mut [u32],
+    elapsed: &mut [u32],
+    route: &mut [u32],
+    log: &mut [u32],
+    start: u32,
+) -> UnitAnswer
+    ensures { λ r. ⌜ ((x : model.Answered) × (r ≡ answerWords x) × GoContract (now (card .entry)) (headerOf header) (areasOf (now (ranks .entry)) (now (pairs .entry)) (now (live .entry)) (now (down .entry)) (now (estimates .entry)) (now (elapsed .entry))) (lentOf (now (route .entry)) (now (log .entry))) (now (estimates .exit)) (now (elapsed .exit)) (lentOf (now (route .exit)) (now (log .exit))) start x) ⌝ }
+{
+    let h = header_of(header);
+    answer_of(h.go(
+        card,
+        ranks,
+        pairs,
+        live,
+        down,
+        estimates,
+        elapsed,
+        route,
+        log,
+        Junction(start),
+    ))
 }
