@@ -1,0 +1,365 @@
+#!/usr/bin/env python3
+"""The cases of crates/cases: inputs for the definitions of crates/model, with what reference.py says they answer and leave.
+
+    python3 tools/cases.py            write crates/cases/specs/Random.antt and Cards.antt
+    python3 tools/cases.py --check    fail if these files are not what would be written
+    python3 tools/cases.py --report   print how often each kind of case occurs
+
+The seeds are fixed and the dice are our own, so the files are the same on every machine. A kind that occurs too seldom is an error.
+"""
+import pathlib
+import sys
+import textwrap
+from collections import Counter, namedtuple
+
+sys.dont_write_bytecode = True
+import reference as model
+import scripts
+from reference import NONE, SLOWEST, UNASKED, Areas, Header
+
+SPECS = pathlib.Path(__file__).resolve().parent.parent / "crates" / "cases" / "specs"
+
+
+# ---- the text of numbers, lists, calls and refusals
+
+REFUSALS = ["Short", "Kinds", "Starts", "Sizes", "Road", "Place", "AreaLengths", "Room", "Lengths",
+            "NoRoad", "NotAllowed", "NoJunction", "NoTarget", "LentLengths", "NoPath"]
+CALLS = {"set": "setCall", "aim": "aimCall", "est": "estimateCall"}
+
+
+def number(word):
+    return {NONE: "∞", UNASKED: "□"}.get(word, str(word))
+
+
+def applied(name, *words):
+    return " ".join([name, *map(number, words)])
+
+
+def argument(text):
+    return f"({text})" if " " in text else text
+
+
+def listed(items):
+    return " ∷ ".join([*items, "[]"])
+
+
+def row(words):
+    return listed(map(number, words))
+
+
+def road_rows(roads):
+    return listed(" – ".join(map(number, road)) for road in roads)
+
+
+def refusal_text(refusal):
+    return applied(REFUSALS[refusal[0] - 1], *refusal[1:])
+
+
+def call_text(call):
+    if call[0] == "go":
+        return f"{applied('goCall', call[1])} ({applied('lent', *map(len, call[2:]))})"
+    return applied(CALLS[call[0]], *call[1:])
+
+
+def field(text):
+    """A list as a record's field, in several lines if it is long."""
+    lines = textwrap.wrap(text.replace(" ", "\u00a0").replace("\u00a0∷\u00a0", " ∷\u00a0"), 130)
+    return (" " if len(lines) == 1 else "\n      ") + "\n      ".join(lines).replace("\u00a0", " ")
+
+
+# ---- Random.antt
+
+def turn_text(turn):
+    (kind, place, *rest), answer, areas, rows = turn.call, turn.answer, turn.areas, [argument(row(area)) for area in turn.areas]
+    _, _, live, down, estimates, elapsed = rows
+    if answer[0] == "no" and answer[1] < 15:
+        return says(turn, f"no {refusal_text(answer[1:])} ({call_text(turn.call)})")
+    if kind == "set":
+        return says(turn, f"{applied(kind, place, *rest)} {live}", live=areas.live)
+    if kind == "aim":
+        return says(turn, f"{applied(kind, place)} {down}", place, down=areas.down, estimates=[UNASKED] * len(areas.down))
+    if kind == "est":
+        return says(turn, f"{applied(kind, place, answer[1])} {estimates}", estimates=areas.estimates)
+    route, log = turn.lent[0][:answer[3] if answer[0] == "go" else 0], turn.lent[1][:answer[2]]
+    assert turn.lent == (route + rest[0][len(route):], log + rest[1][len(log):])
+    start = f"{place} ({applied('lent', *map(len, rest))})"
+    found = f"go {start} {answer[1]} {argument(row(route))}" if answer[0] == "go" else f"lost {start}"
+    return says(turn, f"{found} {argument(row(log))} {estimates} {elapsed}", estimates=areas.estimates, elapsed=areas.elapsed)
+
+
+def says(turn, text, target=None, **altered):
+    """The text of a turn; the rest of header and areas must be as it was, as the notation has it."""
+    header, areas = turn.before
+    assert turn.header == (header if target is None else header._replace(target=target)) and turn.areas == areas._replace(**altered)
+    return text
+
+
+def script_text(index, script):
+    answer, header, areas = script.prepared
+    records = [areas.pairs[4 * i:4 * i + 4] for i in range(header.pairs)]
+    rest = [0] * (4 * script.room - 4 * header.pairs), script.chart.base, *[[mark] * header.n for mark in (NONE, UNASKED, NONE)]
+    assert answer == ("ok",) and header.target is None and (areas.pairs[4 * header.pairs:], *areas[2:]) == rest
+    turns = "\n      ∷ ".join([*map(turn_text, script.turns), "[]"])
+    return f"""
+-- {script.made[0]}
+script-{index} : Holds record {{
+  roads ={field(road_rows(script.chart.roads))};
+  order = {row(script.chart.order)};
+  room = {script.room};
+  ranks = {row(areas.ranks)};
+  pairs ={field(listed(applied("pair", *record) for record in records))};
+  turns =
+      {turns};
+}}
+unfolding played
+script-{index} = refl
+"""
+
+
+RANDOM = """-- Maps and calls, some made for a purpose and some random, with what the reference model answers and leaves. Made by tools/cases.py.
+use mathlib.Core.Path.{refl}
+use mathlib.Core.List.{[], _∷_}
+use Rattle.model.specs.Types.{LentLengths, NoJunction, NoRoad, NoTarget, NotAllowed}
+use Rattle.model.specs.Calls.{aimCall, estimateCall, goCall, setCall}
+use Rattle.cases.specs.Notation.{Holds, _–_–_, aim, est, go, lent, lost, no, pair, played, set, ∞, □}
+"""
+
+
+# ---- Cards.antt: what is given, in groups with a comment each
+
+Given = namedtuple("Given", "text data")
+
+
+def words(*some):
+    return Given(row(some), list(some))
+
+
+def zeros(length):
+    return Given(f"replicate {length} 0", [0] * length)
+
+
+def card(roads, order):
+    return Given(f"card {argument(road_rows(roads))} {argument(row(order))}", model.make_card(sum(roads, ()), order))
+
+
+def blank(roads, order):
+    return Given(applied("blank", roads, order), model.to_bytes([2, 1, 28, roads, 2, 28 + roads, order]) + bytes(roads + order))
+
+
+def put(*changes):
+    """The small card with other words at some places."""
+    text, data = "small", bytearray(SMALL.data)
+    for place, word in changes:
+        text = f"{applied('put', place, word)} {argument(text)}"
+        data[4 * place:4 * place + 4] = word.to_bytes(4, "little")
+    return Given(text, bytes(data))
+
+
+def cut(length, old):
+    return Given(f"take {length} {argument(old.text)}", old.data[:length])
+
+
+SMALL = Given("small", card([(0, 1, 5)], [1, 0]).data)
+LONGER = Given("(small ++ 0 ∷ [])", SMALL.data + bytes(1))
+MAP_P = card([(0, 1, 10), (1, 3, 10), (0, 2, 15), (2, 3, 10), (3, 0, 20)], [1, 2, 0, 3])
+READINGS = {
+    "fewer than 28 bytes": [words(), cut(27, SMALL)],
+    "the first word": [put((0, 3)), put((0, 2 + 2 ** 24)), cut(28, put((0, 0)))],
+    "the kinds": [put((1, 2)), put((4, 1)), put((1, 2), (4, 1)), put((4, 3), (2, 0))],
+    "the first start": [put((2, 24)), put((2, 32))],
+    "the second start": [put((5, 36)), put((5, 44))],
+    "the end": [put((6, 4)), put((6, 12)), put((3, 24)), LONGER, cut(47, SMALL), cut(28, SMALL)],
+    "sums that wrap, to the second start and to the end": [
+        put((3, 2 ** 32 - 16), (5, 12), (6, 36)), put((3, 2 ** 32 - 40), (5, 2 ** 32 - 12), (6, 60))],
+    "lengths": [blank(13, 8), blank(4, 4), blank(12, 6), blank(12, 9), blank(0, 0), blank(12, 0), blank(196_620, 4), blank(12, 16_388)],
+    "the ends of a road": [card([(2, 1, 5)], [1, 0]), card([(0, 2, 5)], [1, 0]), card([(0, NONE, 5)], [1, 0]), card([(0, 1, 5)], [0]),
+                           card([(0, 1, 5), (1, 1, 5)], [1, 0])],
+    "base times": [card([(0, 1, 0)], [1, 0]), card([(0, 1, NONE)], [1, 0]),
+                   card([(0, 1, 1), (1, 0, SLOWEST), (0, 1, SLOWEST + 1)], [1, 0])],
+    "two roads; a road and a place; a road and the longest order": [
+        card([(0, 1, 5), (0, 0, 5), (1, 0, 0)], [1, 0]), card([(0, 1, 5), (1, 0, 0)], [1, 1]), blank(12, 16_384)],
+    "places of the order": [card([], [1]), card([(0, 1, 5)], [0, 2]), card([], [NONE, 0]), card([], [1, 0, 1]),
+                            card([(2, 0, 1)], [2, 2, 1]), card([], [0, 1, 9, 1])],
+    "accepted": [SMALL, MAP_P, blank(0, 4), card([], [2, 0, 1]), card([(1, 0, 1), (1, 0, SLOWEST)], [0, 1])],
+}
+ROAD, ORDER = words(0, 1, 5), words(1, 0)
+WRITINGS = {
+    "lengths": [(words(), words(), 28), (words(0, 1), ORDER, 44), (words(0, 1, 5, 0), ORDER, 52), (zeros(49_155), words(0), 0),
+                (words(), zeros(4097), 9)],
+    "a road": [(words(0, 2, 5), ORDER, 48), (words(0, 1, 5, 1, 1, 5), words(1, 1), 60), (words(0, 1, 0), zeros(4096), 16_424)],
+    "a place": [(ROAD, words(1, 1), 48), (ROAD, words(0, 2), 7)],
+    "the area": [(ROAD, ORDER, 0), (ROAD, ORDER, 47), (ROAD, ORDER, 49)],
+    "accepted": [([], [0]), ([(0, 1, 5)], [1, 0]), ([(2, 0, SLOWEST), (0, 1, 1), (2, 0, 66_051)], [2, 0, 1])],
+}
+FITTING = Areas(2, 4, 1, 2, 2, 2)  # the lengths for the small card and its one pair
+OTHER = {area: [FITTING._replace(**{area: length - 1}), FITTING._replace(**{area: length + 1})] for area, length in FITTING._asdict().items()}
+PREPARINGS = {
+    "the card": [(READINGS[group][-1], FITTING) for group in READINGS if group != "accepted"],
+    **{area: [(SMALL, lengths) for lengths in changed] for area, changed in OTHER.items()},
+    "an area before the room": [(SMALL, FITTING._replace(pairs=0, elapsed=1))],
+    "the room": [(SMALL, FITTING._replace(pairs=0)), (MAP_P, Areas(4, 16, 5, 4, 4, 4))],
+}
+SETS = [("set", 0, 5), ("set", 1, 0)]
+OTHERS = [("aim", 1), ("aim", 2), ("est", 0), ("go", 0, [60, 61], [80, 81, 82]), ("go", 2, [], [])]
+FORGED = [(1, 1, 1), (3, 1, 1), (2, 0, 1), (2, 2, 1), (2, 1, 2), (0, 0, 0), (2 ** 30 + 2, 1, 1), (2, 2 ** 30 + 1, 1), (2, 1, 2 ** 30 + 1)]
+UNMAPPED = Areas(0, 8, 0, 0, 0, 0)
+CALLINGS = {
+    "the card": [("all", (2, 1, 1), 0, 47, FITTING), ("all", (2, 1, 1), None, 49, FITTING), ("all", (2, 1, 1), 1, 0, FITTING)],
+    **{area: [("all", (2, 1, 1), 1, 48, lengths) for lengths in changed] for area, changed in OTHER.items()},
+    "fewer pairs than the header has": [("all", (2, 1, 1), None, 48, FITTING._replace(pairs=0))],
+    "forged headers": [("all", numbers, 0, 48, FITTING) for numbers in FORGED],
+    "the header of a refused preparing, with areas that it calls for": [
+        ("sets", (0, 0, 0), None, 28, UNMAPPED), ("others", (0, 0, 0), None, 28, UNMAPPED)],
+}
+SIZES = {
+    "bounds": [(0, 4), (196_608, 16_384), (196_620, 4), (0, 16_388), (12, 0)],
+    "multiples": [(196_604, 4), (6, 4), (12, 6), (24, 16_380)],
+}
+MOST = Areas(4096, 262_144, 16_384, 4096, 4096, 4096)
+WIDE = Areas(2 ** 30 + 2, 4, 1, 2 ** 30 + 2, 2 ** 30 + 2, 2 ** 30 + 2)
+LENGTHS = {
+    "bounds": [(1, 0, 0, 32, 1, 0, 0, 1, 1, 1), (4096, 16_384, 65_536, 213_020, *MOST), (4096, 16_384, 65_536, 213_019, *MOST),
+               *[(4096, 16_384, pairs, 213_020, *MOST._replace(pairs=length))
+                 for pairs, length in ((65_535, 262_140), (65_536, 262_140), (65_536, 262_148), (65_535, 262_142))]],
+    "numbers that would fit if products wrapped": [
+        (2 ** 30 + 2, 1, 1, 48, *WIDE), (2, 2 ** 30 + 1, 1, 48, *FITTING._replace(live=2 ** 30 + 1)), (2, 1, 2 ** 30 + 1, 48, *FITTING)],
+}
+
+
+# ---- Cards.antt: what is due; each line with the number that refuses
+
+def reading_line(given):
+    refusal = model.card_refusal(given.data)
+    if refusal:
+        return f"{given.text} ⇒ Unreadable {argument(refusal_text(refusal))}", refusal[0]
+    chart = model.Map(given.data)
+    return f"{given.text} ⇒ {applied('Read', len(chart.order), len(chart.roads))}", "accepted"
+
+
+def writing_line(given):
+    if len(given) == 2:
+        due = card(*given)
+        assert model.write_card(sum(given[0], ()), given[1], bytes(len(due.data))) == (None, due.data)
+        return due.text.replace("card", "written", 1), "accepted"
+    roads, order, length = given
+    refusal, area = model.write_card(roads.data, order.data, bytes([7] * length))
+    assert area == bytes([7] * length)
+    return f"unwritten {argument(roads.text)} {argument(order.text)} {length} {argument(refusal_text(refusal))}", refusal[0]
+
+
+def preparing_line(given):
+    (old, lengths), due = given, 7
+    answer, header, areas = model.prepare(old.data, Areas(*[[7] * length for length in lengths]))
+    if answer == ("no", 8):
+        due = 0
+    assert answer[0] == "no" and header == Header(0, 0, 0, None) and areas == Areas(*[[due] * length for length in lengths])
+    return applied(f"unprepared {argument(refusal_text(answer[1:]))} {due} {argument(old.text)}", *lengths), answer[1]
+
+
+def calling_line(given):
+    name, numbers, target, length, lengths = given
+    header, areas, questions = Header(*numbers, target), Areas(*[[7] * length for length in lengths]), set()
+    for call in {"sets": SETS, "others": OTHERS, "all": SETS + OTHERS}[name]:
+        answer, *left = model.step(bytes([7] * length), header, areas, call)
+        assert answer[0] == "no" and left == [header, areas, call[2:] if call[0] == "go" else ([], [])]
+        questions.add(answer[1])
+    (question,) = questions
+    aimed = "Absent" if target is None else f"(At {target})"
+    return applied(f"refused {REFUSALS[question - 1]} {applied(name, *numbers)} {aimed}", length, *lengths), question
+
+
+def sizes_line(given):
+    right = model.sizes_right(*given)
+    return f"{applied('sizesOk', *given)} ⇒ {str(right).lower()}", "accepted" if right else 4
+
+
+def lengths_line(given):
+    n, m, pairs, length, *lengths = given
+    right = model.all_lengths_right(lengths, length, n, m, pairs)
+    return f"{applied('question9', *given)} ⇒ {str(right).lower()}", "accepted" if right else 9
+
+
+def section(name, types, theorem, tested, unfolds, groups, line, due, counts):
+    """A table and the theorem over it; the answers due must all occur."""
+    lines, found = [], set()
+    for comment, cases in groups.items():
+        lines.append(f"    -- {comment}")
+        for case in cases:
+            text, number = line(case)
+            counts[f"{theorem}: {number}, {comment}"] += 1
+            found.add(number)
+            lines.append(f"    ∷ {text}")
+    assert found == set(due)
+    lines[1] = lines[1].replace("∷ ", "", 1)
+    table = "\n".join([*lines, "    ∷ []"])
+    return f"\nabbrev {name} : List (Case {types})\n{name} =\n{table}\n\n{theorem} : Agree {tested} {name}\nunfolding {unfolds}\n{theorem} = refl\n"
+
+
+CARDS = f"""-- Cards, writings, preparings and lengths, with what the reference model answers and leaves. Made by tools/cases.py.
+use mathlib.Core.Path.{{_≡_, refl}}
+use mathlib.Core.Bool.{{Bool, false, true}}
+use mathlib.Core.List.{{List, [], _++_, _∷_, map}}
+use Prim.Native.Nat.{{ℕ}}
+use lib.ListN.{{replicate, take}}
+use Rattle.model.specs.Types.{{{', '.join(sorted(["Absent", "At", "Read", "Reading", "Unreadable", *REFUSALS]))}}}
+use Rattle.model.specs.Bytes.{{wordAt}}
+use Rattle.model.specs.Card.{{Written, cardRefusal, question, readCard, sizesOk}}
+use Rattle.model.specs.State.{{Step, question9}}
+use Rattle.model.specs.Calls.{{Call, aimCall, estimateCall, goCall, setCall}}
+use Rattle.cases.specs.Notation.{{Agree, Calling, Case, Preparing, Writing, answers, lent, prepares, refused, same, unprepared, unwritten, writes, written}}
+use Rattle.cases.specs.Notation.{{_–_–_, _⇒_, blank, bytes, card, put, ∞}}
+
+-- document 01's number of each refusal
+numbers :
+    map question ({listed(applied(name, 0) if number in (5, 6, 15) else name for number, name in enumerate(REFUSALS, 1))})
+    ≡ {row(range(1, 16))}
+numbers = refl
+
+-- the lowest byte first
+bytes-of : bytes (1000000 ∷ []) ≡ 64 ∷ 66 ∷ 15 ∷ 0 ∷ []
+bytes-of = refl
+
+-- 48 bytes: one road, two junctions
+abbrev small : List ℕ
+small = {card([(0, 1, 5)], [1, 0]).text}
+
+abbrev sets : List Call
+sets = {listed(map(call_text, SETS))}
+
+abbrev others : List Call
+others = {listed(map(call_text, OTHERS))}
+
+abbrev all : List Call
+all = sets ++ others
+"""
+
+
+def cards_text(counts):
+    return CARDS + "".join(section(*parts, counts) for parts in (
+        ("readings", "(List ℕ) Reading", "reading", "readCard", "wordAt cardRefusal", READINGS, reading_line, ["accepted", *range(1, 7)]),
+        ("writings", "Writing Written", "writing", "writes", "writes", WRITINGS, writing_line, ["accepted", *range(4, 8)]),
+        ("preparings", "Preparing Step", "preparing", "prepares", "prepares", PREPARINGS, preparing_line, range(1, 9)),
+        ("callings", "Calling (List Step)", "calling", "answers", "answers", CALLINGS, calling_line, [9, 10, 12]),
+        ("sizes", "Bool Bool", "sized", "same", "sizesOk", SIZES, sizes_line, ["accepted", 4]),
+        ("lengths", "Bool Bool", "fitting", "same", "question9", LENGTHS, lengths_line, ["accepted", 9])))
+
+
+# ---- the files
+
+def main(options):
+    if options not in ([], ["--check"], ["--report"]):
+        sys.exit(__doc__)
+    chosen, counts = scripts.chosen_scripts(), Counter()
+    texts = {"Random.antt": RANDOM + "".join(script_text(i, script) for i, script in enumerate(chosen)), "Cards.antt": cards_text(counts)}
+    if options == ["--report"]:
+        for kind, count in [*scripts.counted(chosen).items(), *counts.items()]:
+            print(f"{count:4}  {kind}")
+    for name, text in texts.items():
+        if options == ["--check"] and (SPECS / name).read_text(encoding="utf-8") != text:
+            sys.exit(f"cases: {name} is not what tools/cases.py writes")
+        if not options:
+            (SPECS / name).write_text(text, encoding="utf-8")
+
+
+if __name__ == "__main__":
+    main(sys.argv[1:])

@@ -1,0 +1,279 @@
+"""Document 01 as a plain model: the card, preparing, the four calls and the machine to compare with.
+
+It is written from the paper alone and shares nothing with the definitions of crates/model. Each least total comes from
+one function, which relaxes arcs until nothing changes; candidates, fillings and routes are read off the paper's sentences.
+A refusal is a tuple: the question's number and, after 5, 6 and 15, the place or count. A call is ("set", road, time),
+("aim", junction), ("est", junction) or ("go", start, route area, log area).
+"""
+import math
+from collections import namedtuple
+
+NONE = CLOSED = 4_294_967_295
+UNASKED = 4_294_967_294
+SLOWEST = 1_000_000
+
+Header = namedtuple("Header", "n m pairs target")
+Areas = namedtuple("Areas", "ranks pairs live down estimates elapsed")
+NO_HEADER = Header(0, 0, 0, None)
+
+
+# ---- the card
+
+def to_words(data):
+    return [int.from_bytes(data[i:i + 4], "little") for i in range(0, len(data), 4)]
+
+
+def to_bytes(words):
+    return b"".join(word.to_bytes(4, "little") for word in words)
+
+
+def card_refusal(card):
+    """Questions 1 to 6."""
+    if len(card) < 28:
+        return (1,)
+    count, kind1, start1, length1, kind2, start2, length2 = to_words(card[:28])
+    if (count, kind1, kind2) != (2, 1, 2):
+        return (2,)
+    if start1 != 28 or start2 != 28 + length1 or start2 + length2 != len(card) or len(card) >= 2 ** 32:
+        return (3,)
+    if not sizes_right(length1, length2):
+        return (4,)
+    return rows_refusal(to_words(card[28:start2]), to_words(card[start2:]))
+
+
+def sizes_right(length1, length2):
+    """Question 4."""
+    return length1 % 12 == 0 and length1 <= 196_608 and length2 % 4 == 0 and 4 <= length2 <= 16_384
+
+
+def rows_refusal(roads, order):
+    """Questions 5 and 6."""
+    for road in range(len(roads) // 3):
+        tail, head, base = roads[3 * road:3 * road + 3]
+        if tail >= len(order) or head >= len(order) or tail == head or not 1 <= base <= SLOWEST:
+            return (5, road)
+    for place, junction in enumerate(order):
+        if junction >= len(order) or junction in order[:place]:
+            return (6, place)
+    return None
+
+
+def make_card(roads, order):
+    return to_bytes([2, 1, 28, 4 * len(roads), 2, 28 + 4 * len(roads), 4 * len(order), *roads, *order])
+
+
+def write_card(roads, order, area):
+    """The refusal or None, and what the area then holds."""
+    if not sizes_right(4 * len(roads), 4 * len(order)):
+        return (4,), area
+    refusal, card = rows_refusal(roads, order), make_card(roads, order)
+    if not refusal and len(area) != len(card):
+        refusal = (7,)
+    return refusal, area if refusal else card
+
+
+# ---- the map: least totals, ranks and pairs
+
+class Map:
+    """The map on an accepted card: the order, the rank of each junction, the roads as (tail, head, base)."""
+
+    def __init__(self, card):
+        words = to_words(card)
+        bodies = 7 + words[3] // 4
+        self.roads = [tuple(words[i:i + 3]) for i in range(7, bodies, 3)]
+        self.base = [base for _, _, base in self.roads]
+        self.order = words[bodies:]
+        self.rank = [self.order.index(junction) for junction in range(len(self.order))]
+
+    def open_roads(self, live):
+        """(tail, head, live time, number)"""
+        return [(*road[:2], live[i], i) for i, road in enumerate(self.roads) if live[i] != CLOSED]
+
+
+def least_totals(arcs, goal):
+    """The least total over chains of arcs (tail, head, time, ..) to the goal, by vertices; those without a chain are left out."""
+    least, stable = {goal: 0}, False
+    while not stable:
+        stable = True
+        for tail, head, time, *_ in arcs:
+            if head in least and time + least[head] < least.get(tail, math.inf):
+                least[tail], stable = time + least[head], False
+    return least
+
+
+def pair_time(chart, a, b):
+    """The least base total of a chain from a to b whose inner junctions all rank below both, or none."""
+    below = set(chart.order[:min(chart.rank[a], chart.rank[b])])
+    arcs = [arc for arc in chart.roads if arc[0] in below | {a} and arc[1] in below | {b}]
+    return least_totals(arcs, b).get(a, NONE)
+
+
+def kept_pairs(chart):
+    """The records: rank of low, rank of high, up, down."""
+    records = []
+    for low, a in enumerate(chart.order):
+        for high, b in list(enumerate(chart.order))[low + 1:]:
+            record = low, high, pair_time(chart, a, b), pair_time(chart, b, a)
+            records += [record] if record[2:] != (NONE, NONE) else []
+    return records
+
+
+# ---- the search log
+
+def search(arcs, estimate, start, target):
+    """The logged junctions' times, in the log's order; and the candidates at each choice, as (key, junction, time)."""
+    times, choices = {}, []
+    while target not in times:
+        found = {} if times else {start: 0}
+        for tail, head, time, _ in arcs:
+            if tail in times and head not in times:
+                found[head] = min(found.get(head, math.inf), times[tail] + time)
+        candidates = sorted((time + estimate[head], head, time) for head, time in found.items() if head in estimate)
+        if not candidates:
+            break
+        choices.append(candidates)
+        times[candidates[0][1]] = candidates[0][2]
+    return times, choices
+
+
+def route_back(arcs, times, target):
+    """Into each junction the smallest-numbered open road from an earlier logged one that gives its time."""
+    log, route, at = list(times), [], target
+    while at != log[0]:
+        earlier = log[:log.index(at)]
+        road, at = min((number, tail) for tail, head, time, number in arcs
+                       if head == at and tail in earlier and times[tail] + time == times[at])
+        route.insert(0, road)
+    return route
+
+
+# ---- the plain machine
+
+def call_refusal(n, base, target, call):
+    """Questions 10 to 14."""
+    kind, place = call[:2]
+    if kind == "set":
+        if place >= len(base):
+            return (10,)
+        return None if call[2] == CLOSED or base[place] <= call[2] <= SLOWEST else (11,)
+    if place >= n:
+        return (12,)
+    if kind != "aim" and target is None:
+        return (13,)
+    if kind == "go" and min(len(call[2]), len(call[3])) < n:
+        return (14,)
+    return None
+
+
+class Machine:
+    """It has live times and a target of its own, and is fed the map, the calls and the lengths of go's two areas."""
+
+    def __init__(self, chart):
+        self.chart, self.live, self.target = chart, list(chart.base), None
+
+    def step(self, call):
+        """The answer, the route and the log."""
+        (kind, place), chart = call[:2], self.chart
+        refusal = call_refusal(len(chart.order), chart.base, self.target, call)
+        if refusal:
+            return ("no", *refusal), [], []
+        if kind == "set":
+            self.live[place] = call[2]
+            return ("ok",), [], []
+        if kind == "aim":
+            self.target = place
+            return ("ok",), [], []
+        estimate = least_totals(chart.roads, self.target)
+        if kind == "est":
+            return ("est", estimate.get(place, NONE)), [], []
+        arcs = chart.open_roads(self.live)
+        log = search(arcs, estimate, place, self.target)[0]
+        total = least_totals(arcs, self.target).get(place)
+        if total is None:
+            return ("no", 15, len(log)), [], list(log)
+        route = route_back(arcs, log, self.target)
+        return ("go", total, len(log), len(route)), route, list(log)
+
+
+# ---- the unit
+
+def lengths_right(lengths, n, m, pairs):
+    """The six areas, in the order of Areas, for questions 7 and 9."""
+    ranks, records, *others = lengths
+    return [ranks, *others] == [n, m, n, n, n] and records % 4 == 0 and 4 * pairs <= records <= 262_144
+
+
+def all_lengths_right(lengths, bytes_, n, m, pairs):
+    """Question 9."""
+    return bytes_ == 28 + 12 * m + 4 * n and lengths_right(lengths, n, m, pairs)
+
+
+def prepare(card, areas):
+    """The answer, the header and the areas."""
+    refusal = card_refusal(card)
+    if refusal:
+        return ("no", *refusal), NO_HEADER, areas
+    chart = Map(card)
+    n, m, records = len(chart.order), len(chart.roads), kept_pairs(chart)
+    if not lengths_right([*map(len, areas)], n, m, 0):
+        return ("no", 7), NO_HEADER, areas
+    if 4 * len(records) > len(areas.pairs):
+        return ("no", 8), NO_HEADER, Areas(*[[0] * len(area) for area in areas])
+    pairs = [word for record in records for word in record]
+    pairs += [0] * (len(areas.pairs) - len(pairs))
+    return ("ok",), Header(n, m, len(records), None), Areas(chart.rank, pairs, chart.base, [NONE] * n, [UNASKED] * n, [NONE] * n)
+
+
+def stored_pairs(chart, header, areas):
+    """(low, high, up, down), with the junctions themselves."""
+    records = [areas.pairs[4 * i:4 * i + 4] for i in range(header.pairs)]
+    return [(chart.order[low], chart.order[high], up, down) for low, high, up, down in records]
+
+
+def down_totals(chart, header, areas, target):
+    downs = [(high, low, down) for low, high, _, down in stored_pairs(chart, header, areas) if down != NONE]
+    least = least_totals(downs, target)
+    return [least.get(junction, NONE) for junction in range(header.n)]
+
+
+def filled(chart, header, areas, asked):
+    """The estimates, with those of the junctions asked and of all reached from them through up times."""
+    ups = [(low, high, up) for low, high, up, _ in stored_pairs(chart, header, areas) if up != NONE]
+    least, reached = least_totals(chart.roads, header.target), set(asked)
+    for low, high, _ in ups:  # low ranks first, so one pass is enough
+        if low in reached:
+            reached.add(high)
+    for junction in reached:  # what source document 002, algorithm 3, makes of the areas
+        above = [up + least[high] for low, high, up in ups if low == junction and high in least]
+        assert least.get(junction, NONE) == min([areas.down[junction], *above])
+    return [least.get(junction, NONE) if junction in reached else old for junction, old in enumerate(areas.estimates)]
+
+
+def step(card, header, areas, call):
+    """The answer, the header, the areas, and go's two areas (empty for another call)."""
+    kind, place = call[:2]
+    lent = call[2:] if kind == "go" else ([], [])
+    if not all_lengths_right([*map(len, areas)], len(card), *header[:3]):
+        return ("no", 9), header, areas, lent
+    chart, target = Map(card) if header.n else None, header.target  # no map after a refused preparing
+    refusal = call_refusal(header.n, chart.base if chart else [], target, call)
+    if refusal:
+        return ("no", *refusal), header, areas, lent
+    if kind == "set":
+        return ("ok",), header, areas._replace(live=areas.live[:place] + [call[2]] + areas.live[place + 1:]), lent
+    if kind == "aim":
+        areas = areas._replace(down=down_totals(chart, header, areas, place), estimates=[UNASKED] * header.n)
+        return ("ok",), header._replace(target=place), areas, lent
+    if kind == "est":
+        areas = areas._replace(estimates=filled(chart, header, areas, [place]))
+        return ("est", areas.estimates[place]), header, areas, lent
+    arcs = chart.open_roads(areas.live)
+    times = search(arcs, least_totals(chart.roads, target), place, target)[0]
+    heads = [head for tail, head, *_ in arcs if tail in times and tail != target]
+    areas = areas._replace(estimates=filled(chart, header, areas, [place, *heads]),
+                           elapsed=[times.get(junction, NONE) for junction in range(header.n)])
+    log = list(times) + lent[1][len(times):]
+    if target not in times:
+        return ("no", 15, len(times)), header, areas, (lent[0], log)
+    route = route_back(arcs, times, target)
+    return ("go", times[target], len(times), len(route)), header, areas, (route + lent[0][len(route):], log)

@@ -1,0 +1,294 @@
+"""Scripts for the four calls: maps with lists of calls, random and made for a purpose, chosen so that each kind of case occurs."""
+from collections import Counter, namedtuple
+
+import reference as model
+from reference import CLOSED, NONE, SLOWEST, UNASKED, Areas
+
+POOL, TURNS = 400, 40  # random scripts to choose from, and how many turns each has at first
+
+
+# ---- scripts: a map, the room for pairs, and turns
+
+class Dice:
+    """A linear congruential generator."""
+
+    def __init__(self, seed):
+        self.state = 2_654_435_769 * seed + 12_345
+        self.below(1)
+
+    def below(self, n):
+        self.state = (6_364_136_223_846_793_005 * self.state + 1_442_695_040_888_963_407) % 2 ** 64
+        return (self.state >> 33) % n
+
+    def pick(self, *choices):
+        return choices[self.below(len(choices))]
+
+
+Turn = namedtuple("Turn", "call before answer header areas lent")
+
+
+class Script:
+    """A prepared map and the turns on it. Each turn is compared with the plain machine, and its kinds are counted, of the same case once."""
+
+    def __init__(self, note, roads, order, spare, *calls):
+        self.made, self.calls, self.turns, self.cases = (note, roads, order, spare), [], [], []
+        self.card = model.make_card([word for road in roads for word in road], order)
+        self.chart = model.Map(self.card)
+        self.records = model.kept_pairs(self.chart)
+        n, m, self.room = len(order), len(roads), len(self.records) + spare
+        self.prepared = model.prepare(self.card, Areas(*[[7] * k for k in (n, 4 * self.room, m, n, n, n)]))
+        _, self.header, self.areas = self.prepared
+        self.machine, self.ended, self.kinds = model.Machine(self.chart), set(), Counter()
+        self.count(map_kinds(self.chart, self.records, spare))
+        for call in calls:
+            self.play(*call)
+
+    def count(self, kinds):
+        for name, holds in kinds.items():
+            self.kinds[name] += bool(holds)
+
+    def play(self, kind, place, *rest):
+        """A call; for go the rest is the lengths of the two areas that it is lent."""
+        self.calls.append((kind, place, *rest))
+        if kind == "go":
+            rest = [*range(60, 60 + rest[0])], [*range(80, 80 + rest[1])]
+        call, before = (kind, place, *rest), (self.header, self.areas)
+        turn = Turn(call, before, *model.step(self.card, *before, call))
+        answer, route, log = self.machine.step(call)
+        assert (turn.answer, turn.lent[0][:len(route)], turn.lent[1][:len(log)]) == (answer, route, log)
+        no = answer[1] if answer[0] == "no" else 0
+        case = (place, self.header.target, self.areas.live) if kind == "go" and no in (0, 15) else (call, before)
+        if case not in self.cases:
+            self.count(KINDS[kind](self, turn, no))
+            self.cases.append(case)
+        if kind == "set" and answer == ("ok",):
+            ends = self.areas.live[place] > rest[0] == self.chart.base[place]
+            self.ended = self.ended | {place} if ends else self.ended - {place}
+        self.turns.append(turn)
+        self.header, self.areas = turn.header, turn.areas
+
+
+def random_script(seed):
+    dice = Dice(seed)
+    n = dice.pick(4, 5, 5, 6, 6, 6)
+    times = dice.pick([1, 2, 3], [1, 2, 3, 4, 5], [1, 2, SLOWEST] if n < 6 else [2, 4, 6])
+    order, roads = list(range(n)), []
+    for i in range(n - 1):
+        j = i + dice.below(n - i)
+        order[i], order[j] = order[j], order[i]
+    for _ in range(n + dice.below(n)):
+        tail = dice.below(n)
+        head = (tail + 1 + dice.below(n - 1)) % n
+        roads += [(tail, head, dice.pick(*times)) for _ in range(1 + (dice.below(6) == 0))]
+    script = Script(f"seed {seed}", roads, order, dice.pick(0, 0, 1, 2))
+    script.play(*random_call(dice, script))
+    script.play("aim", dice.below(n))
+    for _ in range(TURNS - 2):
+        script.play(*random_call(dice, script))
+    return script
+
+
+def random_call(dice, script):
+    n, m, live, base = script.header.n, script.header.m, script.areas.live, script.chart.base
+    kind = dice.pick("set", "set", "set", "aim", "est", "go", "go", "go", "go")
+    junction = dice.below(n) if dice.below(20) else dice.pick(n, UNASKED)
+    if kind == "set":
+        road = dice.pick(*[road for road in range(m) if live[road] != base[road]] or range(m), *range(m), m, NONE)
+        slow = base[road] if road < m else SLOWEST
+        return kind, road, dice.pick(slow, slow, slow, slow + 1, slow + 1, slow + 2, CLOSED, CLOSED, SLOWEST, slow - 1, SLOWEST + 1, UNASKED)
+    if kind == "go":
+        return kind, junction, *[n + dice.pick(0, 0, 1, 2) - (dice.below(20) == 0) for _ in range(2)]
+    if kind == "aim" and script.header.target is not None and dice.below(4) == 0:
+        return kind, script.header.target
+    return kind, junction
+
+
+def chosen_scripts():
+    """Scripts made for a purpose; then random ones, each for the kinds that are too seldom, without the turns that no kind needs."""
+    made = [
+        Script("one junction", [], [0], 0,
+               ("go", 0, 1, 1), ("aim", 1), ("aim", 0), ("est", 0), ("go", 0, 1, 1), ("set", 0, 1), ("go", 0, 0, 1)),
+        Script("no roads, and calls before the first aim", [], [1, 0], 1,
+               ("est", 0), ("est", 2), ("est", NONE), ("go", 2, 2, 2), ("go", UNASKED, 1, 1), ("go", 1, 2, 1), ("go", 1, 1, 3), ("aim", 2),
+               ("set", 0, UNASKED), ("aim", 1), ("est", 0), ("est", 1), ("go", 0, 2, 3), ("aim", 0), ("go", 0, 2, 2)),
+        Script("road 0, from 2 to 1, gives the time of 1, but 2 is logged after 1", [(2, 1, 1), (0, 1, 2), (0, 2, 1), (1, 3, 1)], [3, 1, 0, 2], 0,
+               ("est", 0), ("go", 4, 4, 4), ("go", 0, 0, 0), ("est", 4), ("aim", 3), ("go", 0, 4, 5), ("set", 0, 2), ("go", 0, 5, 4),
+               ("set", 0, 1), ("go", 2, 4, 4), ("aim", 4), ("set", 4, 0)),
+    ]
+    pool, chosen = [random_script(seed) for seed in range(POOL)], []
+    while seldom := too_seldom(made + chosen):
+        best = max(pool, key=lambda script: sum(min(script.kinds[kind], missing) for kind, missing in seldom.items()))
+        assert any(best.kinds[kind] for kind in seldom), seldom
+        chosen.append(best)
+    for i in reversed(range(len(chosen))):
+        rest = made + chosen[:i] + chosen[i + 1:]
+        for turn in reversed(range(TURNS)):
+            shorter = Script(*chosen[i].made, *chosen[i].calls[:turn], *chosen[i].calls[turn + 1:])
+            if not too_seldom(rest + [shorter]):
+                chosen[i] = shorter
+        if not too_seldom(rest):
+            del chosen[i]
+    return made + chosen
+
+
+# ---- kinds of maps and calls, each with whether it occurs here
+
+# How often a kind must occur at least, by its name or its first word; others four times.
+MINIMA = {"map": 3, "map of one junction": 1, "map without roads": 2, "room": 1, "go": 5, "go that finds a route": 50}
+
+
+def minimum(kind):
+    return MINIMA.get(kind) or MINIMA.get(kind.split()[0], 4)
+
+
+def counted(scripts):
+    counts = Counter()
+    for script in scripts:
+        counts.update(script.kinds)
+    return counts
+
+
+def too_seldom(scripts):
+    """How many are missing of each kind."""
+    return {kind: minimum(kind) - count for kind, count in counted(scripts).items() if count < minimum(kind)}
+
+
+def map_kinds(chart, records, spare):
+    ends = [road[:2] for road in chart.roads]
+    times = [(chart.order[low], chart.order[high], up) for low, high, up, _ in records]
+    times += [(chart.order[high], chart.order[low], down) for low, high, _, down in records]
+    return {
+        "map of one junction": len(chart.order) == 1,
+        "map without roads": not chart.roads,
+        "map with parallel roads": len(set(ends)) < len(ends),
+        "map with base times 1 and 1,000,000": {1, SLOWEST} <= set(chart.base),
+        "room for no pair, and none kept": not records and not spare,
+        "room for just the kept pairs": records and not spare,
+        "room for more pairs": spare,
+        "pair with both times": any(NONE not in record for record in records),
+        "pair with an up time only": any(record[3] == NONE for record in records),
+        "pair with a down time only": any(record[2] == NONE for record in records),
+        "pair that no road joins": any(time != NONE and (a, b) not in ends for a, b, time in times),
+        "pair faster than its road": any((a, b) in ends and (a, b, time) not in chart.roads for a, b, time in times),
+    }
+
+
+def set_kinds(script, turn, no):
+    road, time = turn.call[1:]
+    base, live = (script.chart.base[road], script.areas.live[road]) if no != 10 else (0, 0)
+    return {
+        "set: 10": no == 10,
+        "set: 10 where the time is not allowed either": no == 10 and (time == 0 or SLOWEST < time < CLOSED),
+        "set: 11 below the base time": no == 11 and time < base,
+        "set: 11 above 1,000,000": no == 11 and SLOWEST < time < UNASKED,
+        "set: 11 at 4,294,967,294": no == 11 and time == UNASKED,
+        "set to the base time": not no and time == base,
+        "set to 1,000,000": not no and time == SLOWEST,
+        "set to closed": not no and time == CLOSED,
+        "set to the present time": not no and time == live,
+        "set that ends a delay": not no and base == time < live < CLOSED,
+        "set that opens a road": not no and time < live == CLOSED,
+    }
+
+
+def aim_kinds(script, turn, no):
+    target, filled = script.header.target, any(time != UNASKED for time in script.areas.estimates)
+    return {
+        "aim: 12": no == 12,
+        "aim, the first": not no and target is None,
+        "aim elsewhere, estimates filled": not no and target != turn.call[1] and filled,
+        "aim at the present target, estimates filled": not no and target == turn.call[1] and filled,
+        "aim with a down total of two pairs": not no and set(turn.areas.down) - {0, *turn.areas.pairs[3::4]},
+    }
+
+
+def est_kinds(script, turn, no):
+    before, after, junction = script.areas.estimates, turn.areas.estimates, turn.call[1]
+    first = not no and before[junction] == UNASKED
+    return {
+        "est: 12": no == 12,
+        "est: 12 where there is no target either": no == 12 and script.header.target is None,
+        "est: 13": no == 13,
+        "est none": first and after[junction] == NONE,
+        "est of the target": first and after[junction] == 0,
+        "est of a number": first and 0 < after[junction] < NONE,
+        "est of 1,000,000 and more": first and SLOWEST <= after[junction] < NONE,
+        "est that is filled already": not no and not first,
+        "est that fills others too": first and sum(map(int.__ne__, before, after)) > 1,
+        "est that leaves others unasked": first and UNASKED in after,
+        "est while a road is delayed or closed": first and script.areas.live != script.chart.base,
+    }
+
+
+def go_kinds(script, turn, no):
+    (_, start, *lengths), (n, _, _, target) = (*turn.call[:2], *map(len, turn.call[2:])), script.header
+    kinds = {
+        "go: 12": no == 12,
+        "go: 12 where there is no target either": no == 12 and target is None,
+        "go: 13": no == 13,
+        "go: 13 where an area is short too": no == 13 and min(lengths) < n,
+        "go: 14 by the route area": no == 14 and lengths[0] < n,
+        "go: 14 by the log area": no == 14 and lengths[1] < n,
+    }
+    if no in (0, 15):
+        arcs = script.chart.open_roads(script.areas.live)
+        times, choices = model.search(arcs, model.least_totals(script.chart.roads, target), start, target)
+        kinds |= log_kinds(script, turn, arcs, times, choices, not no)
+        kinds |= {"go with areas of n entries": lengths == [n, n], "go with longer areas": min(lengths) > n}
+    if no == 0:
+        kinds |= route_kinds(script, arcs, times, turn.lent[0][:turn.answer[3]])
+    return kinds
+
+
+def log_kinds(script, turn, arcs, times, choices, found):
+    start, target, before, after = turn.call[1], script.header.target, script.areas, turn.areas
+    log, keys, junctions = list(times), [choice[0][0] for choice in choices], range(script.header.n)
+    waiting = [{junction: time for _, junction, time in choice} for choice in choices]
+    falls = {junction for early, late in zip(waiting, waiting[1:]) for junction in early if late.get(junction, NONE) < early[junction]}
+    heads = {head for tail, head, *_ in arcs if tail in times and tail != target}
+    closed = {road[1] for road, live in zip(script.chart.roads, before.live) if live == CLOSED and road[0] in times and road[0] != target}
+    beyond = {head for tail, head, *_ in arcs if tail == target and found}
+    fills = {junction for junction in junctions if before.estimates[junction] != after.estimates[junction]}
+    return {
+        "go: 15 with an empty log": not found and not log,
+        "go: 15 with a log": not found and log,
+        "go from the target": start == target,
+        "go that finds a route": found and start != target,
+        "go of 1,000,000 and more": found and times[target] >= SLOWEST,
+        "go that meets a closed road": closed,
+        "go that leaves the head of a closed road unasked": any(after.estimates[head] == UNASKED for head in closed),
+        "go that leaves a head behind the target unasked": any(after.estimates[head] == UNASKED for head in beyond),
+        "go that meets a junction without estimate": any(after.estimates[head] == NONE for head in heads),
+        "go where open roads do not reach all": found and len(model.least_totals([(b, a, c) for a, b, c, _ in arcs], start)) < len(junctions),
+        "go with a tie of keys": any(len(choice) > 1 and choice[0][0] == choice[1][0] for choice in choices),
+        "go with a tie, the smaller number later": any(keys[i] == keys[i + 1] and log[i] > log[i + 1] for i in range(len(log) - 1)),
+        "go where the target waits": any(target in wait for wait in waiting[:-1]),
+        "go where the target's time falls": target in falls,
+        "go where another candidate's time falls": falls - {target},
+        "go where a candidate stays unlogged": found and waiting[-1].keys() - times.keys(),
+        "go that fills above the heads": fills - heads - {start},
+        "go that meets estimates filled": any(before.estimates[head] != UNASKED for head in heads),
+        "go that leaves estimates unasked": UNASKED in after.estimates,
+        "go that clears an elapsed time": any(old != new == NONE for old, new in zip(before.elapsed, after.elapsed)),
+    }
+
+
+def route_kinds(script, arcs, times, route):
+    kinds, log = {"route of three roads and more": len(route) > 2}, list(times)
+    for tail, head, time, road in (arc for arc in arcs if arc[3] in route):
+        others = [arc for arc in arcs if arc[1] == head and arc[0] in times and arc[3] != road]
+        equal = [arc for arc in others if times[arc[0]] + arc[2] == times[head]]
+        for name, holds in {
+            "route by the first of equal parallel roads": any(arc[0] == tail for arc in equal),
+            "route by a later, faster parallel road": any(arc[0] == tail and arc[2] > time and arc[3] < road for arc in others),
+            "route by the first road, from the larger tail": any(arc[0] < tail and arc[3] > road for arc in equal),
+            "route by the first road, from the later tail": any(log.index(arc[0]) < log.index(tail) and arc[3] > road for arc in equal),
+            "route past an equal road from a later logged tail": any(arc[3] < road for arc in equal),
+            "route over a delayed road": time > script.chart.base[road],
+            "route over a road whose delay or closure ended": road in script.ended,
+        }.items():
+            kinds[name] = kinds.get(name) or holds
+    return kinds
+
+
+KINDS = {"set": set_kinds, "aim": aim_kinds, "est": est_kinds, "go": go_kinds}
