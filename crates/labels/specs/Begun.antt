@@ -26,8 +26,7 @@ winners-fresh n keys wins₀ wins e room keyless b lb =
     rw q (record {
       low = omega arith;
       high = omega arith;
-      least = λ v a c. omega (arith, keyless v (omega arith), keyless (64 * b) lb);
-      first = λ v a c. absurd (omega arith);
+      best = λ v a c. record { keys-le = omega (arith, keyless v (omega arith), keyless (64 * b) lb); numbers = λ e. a };
     })
 
 -- s is the only start, at time 0

@@ -1,15 +1,17 @@
--- What the label of a vertex says in a search over an abstract problem: of its place in the log, or of the roads that were relaxed. Definitions only.
-use mathlib.Core.Path.{_≡_}
+-- What the label of a vertex says in a search over an abstract problem: of its place in the log, or of the roads that were relaxed. Assumes nothing.
+use mathlib.Core.Path.{_≡_, refl}
 use mathlib.Core.Logic.{_⊎_}
 use mathlib.Core.Option.{none, some}
 use mathlib.Core.List.{List, [], _++_, _∷_}
 use Prim.Native.Nat.{_+_, _<_, _≤_, ℕ}
 use lib.ListN.{getD}
+use native.Mathlib.Omega.{arith}
+use Rattle.graph.specs.Total.{Total}
 use Rattle.graph.specs.Least.{IsLeast}
 use Rattle.graph.specs.Search.{Entry, Problem, back, offerVia, timeIn}
 use Rattle.graph.specs.Walk.{WellFormed}
 use Rattle.graph.specs.History.{Reached}
-use Rattle.model.specs.Word.{noneWord}
+use Rattle.model.specs.Word.{noneWord, word}
 use Rattle.labels.specs.Keys.{noKey, settledKey}
 
 -- What a program asks of a problem whose times and keys it keeps in words: one start time, 0; equal keys go by number; totals that fit.
@@ -50,3 +52,12 @@ pub data Labelled (G : Problem) (H : List Entry) (c k v : ℕ) : (time key via :
 -- every vertex's label, in three areas
 abbrev pub Labels : Problem → List Entry → (c k : ℕ) → (times keys vias : List ℕ) → Type 0
 Labels G H c k times keys vias = (v : ℕ) → v < G .size → Labelled G H c k v (getD times v 0) (getD keys v 0) (getD vias v 0)
+
+-- a word that stands for a total that fits is a number, or that of none
+pub word-some : (e : ℕ) (x : Total) → e ≡ word x → (e ≡ noneWord → ⊥) → (p : ℕ) × (x ≡ some p) × (e ≡ p)
+word-some e none z ne = absurd (ne z)
+word-some e (some p) z ne = (p, refl, z)
+
+pub word-none : (e : ℕ) (x : Total) → e ≡ word x → ((p : ℕ) → x ≡ some p → p ≤ 4095000000) → e ≡ noneWord → x ≡ none
+word-none e none z low ne = refl
+word-none e (some p) z low ne = absurd (omega (arith, low p refl))

@@ -7,7 +7,7 @@ use mathlib.Core.List.{List, [], _++_, _∷_}
 use Prim.Native.Nat.{_<_, _≤_, ℕ}
 use lib.ListN.{getD, length, set}
 use lib.Seq.{getD-set-other, getD-set-same}
-use native.Mathlib.Decide.{decLt, ℕ-discrete}
+use native.Mathlib.Decide.{ℕ-discrete}
 use native.Mathlib.Omega.{arith}
 use Rattle.graph.specs.Total.{decideOption, none-some, some-some}
 use Rattle.graph.specs.Least.{IsLeast, least-map, least-unique}
@@ -70,15 +70,12 @@ module _ {G : Problem} {H : List Entry} {c k : ℕ} (full : G .net .arcs ≤ k) 
         prior : (d : Entry) → Candidate G H d → Prior G (record { vertex = v; time = getD times v 0; key = getD keys v 0 }) d
         prior d m =
             let e = candidate-label m (labels (d .vertex) (m .below)) in
+            let o = l .best (d .vertex) (m .below) in
             record {
-              keys = omega (arith, l .least (d .vertex) (m .below), e .1);
+              keys = omega (arith, o .keys-le, e .1);
               ties = λ q. omega (arith, ok .no-ties (getD times v 0), ok .no-ties (d .time));
-              numbers = λ q r. at q (e .1) (decLt (d .vertex) v);
+              numbers = λ q r. o .numbers (omega (arith, e .1));
             }
-          where
-            at : getD keys v 0 ≡ d .key → getD keys (d .vertex) 0 ≡ d .key → Dec (d .vertex < v) → v ≤ d .vertex
-            at q e (yes lt) = absurd (omega (arith, l .first (d .vertex) lt))
-            at q e (no lt) = omega arith
 
 -- ---- logging
 module _ {G : Problem} (ok : Searchable G) (H : List Entry) (c k : ℕ) (full : G .net .arcs ≤ k) (e : Entry) (new : timeIn H (e .vertex) ≡ none) where

@@ -6,12 +6,12 @@ use mathlib.Core.List.{List}
 use Prim.Native.Nat.{_+_, _<_, _≤_, ℕ}
 use native.Mathlib.Decide.{decLt, ℕ-discrete}
 use native.Mathlib.Omega.{arith}
-use Rattle.graph.specs.Total.{Total, none-some, some-some}
+use Rattle.graph.specs.Total.{none-some, some-some}
 use Rattle.graph.specs.Least.{IsLeast, least-map, least-number}
 use Rattle.graph.specs.Search.{Entry, Problem, offerVia, timeIn}
-use Rattle.model.specs.Word.{noneWord, word}
+use Rattle.model.specs.Word.{word}
 use Rattle.labels.specs.Improved.{Improved, behind, earlier, later, lost, settled, tied}
-use Rattle.labels.specs.Labelled.{Gives, Labelled, Labels, Offers, Way, label-candidate, label-hopeless, label-logged, label-unseen}
+use Rattle.labels.specs.Labelled.{Gives, Labelled, Labels, Offers, Way, label-candidate, label-hopeless, label-logged, label-unseen, word-none, word-some}
 
 -- ---- the same label for another history, where v is logged alike and the same roads give it the same times
 module _ {G : Problem} {H L : List Entry} {c k d l v : ℕ}
@@ -60,15 +60,6 @@ labels-full {G} {H} {c} {d} {k} {l} a b times keys vias h v lv =
     (λ i t g. record { below = g .below; relaxed = λ q. omega (arith, g .below); offer = g .offer })
     (λ i t g. record { below = g .below; relaxed = λ q. omega (arith, g .below); offer = g .offer })
     refl (h v lv)
-
--- the word of an estimate is a number, or that of none
-pub with-pot : (e : ℕ) (x : Total) → e ≡ word x → (e ≡ noneWord → ⊥) → (p : ℕ) × (x ≡ some p) × (e ≡ p)
-with-pot e none z ne = absurd (ne z)
-with-pot e (some p) z ne = (p, refl, z)
-
-pub without-pot : (e : ℕ) (x : Total) → e ≡ word x → ((p : ℕ) → x ≡ some p → p ≤ 4095000000) → e ≡ noneWord → x ≡ none
-without-pot e none z low ne = refl
-without-pot e (some p) z low ne = absurd (omega (arith, low p refl))
 
 -- ---- road i of c is relaxed
 module _ {G : Problem} {H : List Entry} {c i : ℕ} (li : i < G .net .arcs) where
@@ -168,18 +159,18 @@ module _ {G : Problem} {H : List Entry} {c i : ℕ} (li : i < G .net .arcs) wher
       label-improved (later a b l) (label-hopeless h p x y) = absurd (a (e-is ∙ ap word p))
       label-improved (tied a b l m) (label-hopeless h p x y) = absurd (a (e-is ∙ ap word p))
       label-improved (behind a b l m) (label-hopeless h p x y) = absurd (a (e-is ∙ ap word p))
-      label-improved (lost z) (label-unseen h bare x y) = label-hopeless h (without-pot e (G .pot v) e-is pots z) x y
+      label-improved (lost z) (label-unseen h bare x y) = label-hopeless h (word-none e (G .pot v) e-is pots z) x y
       label-improved (settled z) (label-unseen h bare x y) = absurd (omega arith)
       label-improved (earlier a b l) (label-unseen h bare x y) =
-          let r = with-pot e (G .pot v) e-is a in
+          let r = word-some e (G .pot v) e-is a in
           rw (r .2) (over h (r .1) (λ s o. absurd (bare s o)))
       label-improved (later a b l) (label-unseen h bare x y) = absurd (omega arith)
       label-improved (tied a b l m) (label-unseen h bare x y) = absurd (omega arith)
       label-improved (behind a b l m) (label-unseen h bare x y) = absurd (omega arith)
-      label-improved (lost z) (label-candidate h p least fits first y) = absurd (none-some (without-pot e (G .pot v) e-is pots z) p)
+      label-improved (lost z) (label-candidate h p least fits first y) = absurd (none-some (word-none e (G .pot v) e-is pots z) p)
       label-improved (settled z) (label-candidate {p = f} h p least fits first y) = absurd (omega (arith, pots f p))
       label-improved (earlier a b l) (label-candidate {t} h p least fits first y) =
-          let r = with-pot e (G .pot v) e-is a in
+          let r = word-some e (G .pot v) e-is a in
           rw (r .2) (over h (r .1) (λ s o. (let k : t ≤ s = least .bound s o in omega arith)))
       label-improved (later a b l) (label-candidate h p least fits first y) = under h p least fits y (omega arith) (origin-stays (λ q. absurd (omega arith)) first)
       label-improved (tied a b l m) (label-candidate h p least fits first y) = under h p least fits y (omega arith) (origin-new l m first)
@@ -191,8 +182,8 @@ module _ {G : Problem} {H : List Entry} {c i : ℕ} (li : i < G .net .arcs) wher
       label-falls (settled z) h = omega arith
       label-falls (earlier a b l) (label-logged h s y) = absurd (b s)
       label-falls (earlier a b l) (label-hopeless h p x y) = absurd (a (e-is ∙ ap word p))
-      label-falls (earlier a b l) (label-unseen h bare x y) = let r = with-pot e (G .pot v) e-is a in omega (arith, pots (r .0) (r .1), r .2)
-      label-falls (earlier a b l) (label-candidate {p = f} h p least fits first y) = let r = with-pot e (G .pot v) e-is a in let z : r .0 ≡ f = some-some (r .1) p in omega arith
+      label-falls (earlier a b l) (label-unseen h bare x y) = let r = word-some e (G .pot v) e-is a in omega (arith, pots (r .0) (r .1), r .2)
+      label-falls (earlier a b l) (label-candidate {p = f} h p least fits first y) = let r = word-some e (G .pot v) e-is a in let z : r .0 ≡ f = some-some (r .1) p in omega arith
       label-falls (later a b l) h = omega arith
       label-falls (tied a b l m) h = omega arith
       label-falls (behind a b l m) h = omega arith

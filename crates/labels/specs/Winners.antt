@@ -5,14 +5,13 @@ use Prim.Native.Nat.{_*_, _+_, _<_, _≤_, min, ℕ}
 use lib.ListN.{getD, length, set}
 use Rattle.labels.specs.declared.Choice.{Choice}
 use Rattle.labels.specs.declared.Choice.the-variants.{At, Nothing}
-use Rattle.labels.specs.Keys.{Chosen, settledKey}
+use Rattle.labels.specs.Keys.{Before, Chosen, settledKey}
 
--- of the junctions from `from` to `to - 1`, w has the smallest key, and the first place of that key
+-- of the junctions from `from` to `to - 1`, w comes first in the order of choice
 pub record Leads (keys : List ℕ) (from to w : ℕ) : Type 0 where
   pub low : from ≤ w
   pub high : w < to
-  pub least : (v : ℕ) → from ≤ v → v < to → getD keys w 0 ≤ getD keys v 0
-  pub first : (v : ℕ) → from ≤ v → v < w → getD keys w 0 < getD keys v 0
+  pub best : (v : ℕ) → from ≤ v → v < to → Before keys w v
 
 -- where block b of n junctions ends
 abbrev pub blockEnd : (n b : ℕ) → ℕ

@@ -6,7 +6,7 @@ ghost use lib.Dec.{eqb};
 ghost use lib.ListN.{getD, length};
 ghost use Rattle.model.specs.Bytes.{listed};
 ghost use Rattle.model.specs.Calls.{first};
-ghost use Rattle.labels.specs.Keys.{kept, settledKey};
+ghost use Rattle.labels.specs.Keys.{before, kept, settledKey};
 ghost use Rattle.labels.specs.Winners.{Chooses, Entered, Leads, Settled, blockEnd};
 ghost use Rattle.labels.specs.Improved.{Improved, Stored};
 ghost use Rattle.labels.specs.Grouped.{Grouped};
@@ -122,21 +122,33 @@ pub fn reset(wins: &mut [u32])
     }
 }
 
-// The junction with the smallest key from `from` to `to - 1`, on equal keys the smaller number.
+// Does a come before b in the order of choice: by the smaller key, on equal keys by the smaller number?
+fn comes_before(keys: &[u64], a: u32, b: u32) -> bool
+    requires { ⌜ (a < length (now keys)) × (b < length (now keys)) ⌝ }
+    ensures { λ r. ⌜ r ≡ before (now (keys .entry)) a b ⌝ }
+{
+    let x = keys[a as usize];
+    let y = keys[b as usize];
+    if x < y {
+        return true;
+    }
+    if y < x {
+        return false;
+    }
+    a <= b
+}
+
+// The first in the order of choice from junction `from` to `to - 1`.
 fn winner(keys: &[u64], from: u32, to: u32) -> u32
     requires { ⌜ (from < to) × (to ≤ length (now keys)) ⌝ }
     ensures { λ w. ⌜ Leads (now (keys .entry)) from to w ⌝ }
 {
-    let a = from as usize;
-    let mut best = keys[a];
     let mut at = from;
     let mut i = from + 1;
     while i < to {
         let j = i;
         i += 1;
-        let key = keys[j as usize];
-        if key < best {
-            best = key;
+        if comes_before(keys, j, at) {
             at = j;
         }
     }
@@ -151,45 +163,34 @@ pub fn enter(keys: &[u64], wins: &mut [u32], v: Junction)
     let a = v.0 as usize;
     let b = a / 64;
     let w = wins[b];
-    let top = w as usize;
-    if keys.len() <= top {
+    if keys.len() <= w as usize {
         return;
     }
-    if keys[top] < keys[a] {
-        return;
-    }
-    if keys[a] < keys[top] {
-        wins[b] = v.0;
-        return;
-    }
-    if v.0 < w {
+    if comes_before(keys, v.0, w) {
         wins[b] = v.0;
     }
 }
 
 // The candidate with the smallest key, on equal keys the smaller junction number.
 pub fn choose(keys: &[u64], wins: &[u32], n: u32) -> Choice
-    requires { ⌜ (n ≤ 4096) × (n ≤ length (now keys)) × (n ≤ 64 * length (now wins)) ⌝ }
+    requires { ⌜ (0 < n) × (n ≤ 4096) × (n ≤ length (now keys)) × (n ≤ 64 * length (now wins)) ⌝ }
     ensures { λ r. ⌜ Chooses (now (keys .entry)) (now (wins .entry)) n r ⌝ }
 {
-    let mut best = SETTLED;
     let mut at: u32 = 0;
     let mut b: u32 = 0;
     while 64 * b < n {
         let w = wins[b as usize];
         b += 1;
         if w < n {
-            let key = keys[w as usize];
-            if key < best {
-                best = key;
+            if comes_before(keys, w, at) {
                 at = w;
             }
         }
     }
-    if best == SETTLED {
-        Choice::Nothing
-    } else {
+    if keys[at as usize] < SETTLED {
         Choice::At(Junction(at))
+    } else {
+        Choice::Nothing
     }
 }
 

@@ -26,6 +26,7 @@ use Rattle.model.specs.Ends.{filled-is, listed-same}
 use Rattle.network.specs.Bodies.{mapIn}
 use Rattle.labels.specs.Keys.{kept}
 use Rattle.labels.specs.Ways.{roadsBack, wayOf}
+use Rattle.labels.specs.Labelled.{word-none, word-some}
 use Rattle.labels.specs.Ended.{kept-times, roads-back, way-back-is}
 use Rattle.search.specs.State.{Asked, Explored, Ready, asked-head, asked-start, goIn}
 use Rattle.search.specs.Searches.{Found}
@@ -150,20 +151,6 @@ module _ {roads order ranks pairs live : List ℕ} {n m count s z : ℕ} (r : Re
           (λ a la y f. true-false (true-anyBelow (M .vertices) (λ a. asked a && fills M a v) a la (true-and (asked a) (fills M a v) (asks-of roads order live s z H (x .upto) a y) f)) q)
 
   module _ (total : ℕ) (read : total ≡ getD elapsed z 0) (route₀ : List ℕ) where
-    total-none : eqb total noneWord ≡ true → totalOf (goIn roads order live s z) ≡ none
-    total-none q = at (totalOf (goIn roads order live s z)) refl (sym (total-word total read) ∙ eqb-true total noneWord q)
-      where
-        at : (T : Total) → totalOf (goIn roads order live s z) ≡ T → word (totalOf (goIn roads order live s z)) ≡ noneWord → totalOf (goIn roads order live s z) ≡ none
-        at none p w = p
-        at (some t) p w = let h = total-fits t p in let y : t ≡ noneWord = ap word (sym p) ∙ w in absurd (omega arith)
-
-    total-some : eqb total noneWord ≡ false → (t : ℕ) × (totalOf (goIn roads order live s z) ≡ some t)
-    total-some q = at (totalOf (goIn roads order live s z)) refl
-      where
-        at : (T : Total) → totalOf (goIn roads order live s z) ≡ T → (t : ℕ) × (totalOf (goIn roads order live s z) ≡ some t)
-        at none p = absurd (eqb-false total noneWord q (total-word total read ∙ ap word p))
-        at (some t) p = (t, p)
-
     -- what does not depend on the route
     found-with : (number : ℕ) (route : List ℕ) → number ≡ length (routeOf (goIn roads order live s z)) → route ≡ goRoute (totalOf (goIn roads order live s z)) (routeOf (goIn roads order live s z)) route₀
         → Found roads order live s z e₀ route₀ log₀ e elapsed route log total c number
@@ -183,7 +170,7 @@ module _ {roads order ranks pairs live : List ℕ} {n m count s z : ℕ} (r : Re
     pub answer-lost : eqb total noneWord ≡ true → Found roads order live s z e₀ route₀ log₀ e elapsed route₀ log total c 0
     unfolding routeOf
     answer-lost q =
-        let p = total-none q in
+        let p = word-none total (totalOf (goIn roads order live s z)) (total-word total read) total-fits (eqb-true total noneWord q) in
         let w = way-lost (goIn roads order live s z) z (codes r .goals) (history (goIn roads order live s z)) (totalOf (goIn roads order live s z)) (end (codes r .ok .well-formed)) p in
         found-with 0 route₀ (ap length (sym w)) (ap (λ (T : Total). goRoute T (routeOf (goIn roads order live s z)) route₀) (sym p))
 
@@ -194,7 +181,7 @@ module _ {roads order ranks pairs live : List ℕ} {n m count s z : ℕ} (r : Re
     answer-found number route q a b =
         let k = codes r in
         let G = goIn roads order live s z in
-        let p = total-some q in
+        let p = word-some total (totalOf G) (total-word total read) (eqb-false total noneWord q) in
         let w : wayIn G (history G) ≡ back G (history G) z = way-found G z (k .goals) (history G) (totalOf G) (end (k .ok .well-formed)) (p .0) (p .1) in
         let h : timeIn (history G) z ≡ some (p .0) = total-time ∙ p .1 in
         let lz : z < G .size = rw (k .size-is) (r .target) in

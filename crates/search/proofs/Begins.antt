@@ -16,7 +16,7 @@ use Rattle.network.specs.Bodies.{mapIn}
 use Rattle.hierarchy.specs.Estimates.{Estimated, aim-estimated}
 use Rattle.labels.specs.Keys.{noKey}
 use Rattle.labels.specs.Winners.{Entered, Winners}
-use Rattle.labels.specs.Relax.{with-pot, without-pot}
+use Rattle.labels.specs.Labelled.{word-none, word-some}
 use Rattle.labels.specs.Begun.{labels-first, labels-none, winners-fresh}
 use Rattle.search.specs.State.{Asked, Begun, Filling, Ready, asked-start, goIn}
 use Rattle.search.proofs.Facts.{codes}
@@ -46,7 +46,7 @@ module _ (n count : ℕ) (order ranks pairs down : List ℕ) (s : ℕ) (e e′ t
   begun-none b roads live vias m z r a =
       let k = codes r in
       let ls : s < goIn roads order live s z .size = rw (k .size-is) (r .start) in
-      let p = without-pot v (goIn roads order live s z .pot s) (pot-word roads live m z r a) (λ p q. k .ok .pots s p ls q) (eqb-true v noneWord b) in
+      let p = word-none v (goIn roads order live s z .pot s) (pot-word roads live m z r a) (λ p q. k .ok .pots s p ls q) (eqb-true v noneWord b) in
       record {
         labels = labels-none (k .starts) z m times keys vias (λ u lu. blank u (rw (k .size-is) at lu)) (λ u lu. keyless u (rw (k .size-is) at lu)) p;
         winners = rw (r .n-is) fresh-winners;
@@ -57,7 +57,7 @@ module _ (n count : ℕ) (order ranks pairs down : List ℕ) (s : ℕ) (e e′ t
       → Begun n count order ranks pairs down s e e′ (set times s x) (set keys s y) wins′
   begun-first x y wins′ b ex ey ls lk ent roads live vias m z r a =
       let k = codes r in
-      let p = with-pot v (goIn roads order live s z .pot s) (pot-word roads live m z r a) (eqb-false v noneWord b) in
+      let p = word-some v (goIn roads order live s z .pot s) (pot-word roads live m z r a) (eqb-false v noneWord b) in
       let key-is : getD (set keys s y) s 0 ≡ y = getD-set-same keys s y 0 (omega arith) in
       let low : y ≤ 4095000000 = (let q = k .ok .pots s (p .0) (rw (k .size-is) ls) (p .1) in omega (arith, p .2)) in
       let t : length times ≡ length times₀ = ap length cleared ∙ length-replicate (length times₀) noneWord in

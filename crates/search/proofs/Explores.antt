@@ -111,7 +111,7 @@ module _ (roads order ranks pairs live down : List ℕ) (n m count z : ℕ) wher
         chosen-next =
             let k = codes r in
             next-chosen full (k .ok) times keys vias (g .held .labels) v
-            (record { inside = rw (k .size-is) (l .inside); candidate = l .candidate; least = λ u lu. l .least u (rw (k .size-is) at lu); first = l .first })
+            (record { inside = rw (k .size-is) (l .inside); candidate = l .candidate; best = λ u lu. l .best u (rw (k .size-is) at lu) })
 
         reached-more : Reached (goIn roads order live s z) (entry ∷ g .past)
         reached-more = grow (g .reached) (g .no-goal) chosen-next

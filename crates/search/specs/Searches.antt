@@ -1,16 +1,18 @@
--- What a search answers and leaves (document 01: the search log). Definitions only.
-use mathlib.Core.Path.{_≡_}
+-- What a search answers and leaves (document 01: the search log), with the laws that a caller takes from it. Assumes nothing.
+use mathlib.Core.Path.{_∙_, _≡_, ap, sym}
 use mathlib.Core.Bool.{true}
-use mathlib.Core.Option.{some}
+use mathlib.Core.Option.{none, some}
 use mathlib.Core.List.{List}
 use Prim.Native.Nat.{_<_, _≤_, ℕ}
 use lib.ListN.{length}
+use Rattle.graph.specs.Total.{Total}
 use Rattle.graph.specs.Search.{countOf, history, logOf, routeOf, timeIn, totalOf, vertices}
-use Rattle.model.specs.Word.{word}
+use Rattle.model.specs.Word.{noneWord, word}
 use Rattle.model.specs.Bytes.{listed}
 use Rattle.model.specs.Calls.{asks, filled, first, goRoute, liveOf, settable}
 use Rattle.model.specs.Good.{AimFacts}
 use Rattle.network.specs.Bodies.{Prepared, mapIn}
+use Rattle.labels.specs.Labelled.{word-none, word-some}
 use Rattle.search.specs.State.{goIn}
 
 -- Total or none, count, number of roads; estimates, elapsed, route and log as go leaves them. e₀, route₀ and log₀ are the areas before.
@@ -31,3 +33,11 @@ Searches roads order ranks pairs live down count s z e₀ route₀ log₀ e elap
     Prepared roads order ranks pairs count → AimFacts (mapIn roads order) z down e₀
     → ((i : ℕ) → i < mapIn roads order .base .arcs → settable (mapIn roads order .base .cost i) (liveOf live i) ≡ true)
     → Found roads order live s z e₀ route₀ log₀ e elapsed route log total logged number
+
+-- the word of the total tells whether there is a path
+module _ {roads order live : List ℕ} {s z : ℕ} {e₀ route₀ log₀ e elapsed route log : List ℕ} {total count number : ℕ} (f : Found roads order live s z e₀ route₀ log₀ e elapsed route log total count number) where
+  pub found-none : total ≡ noneWord → totalOf (goIn roads order live s z) ≡ none
+  found-none q = word-none total (totalOf (goIn roads order live s z)) (f .total-is) (f .fits) q
+
+  pub found-some : (total ≡ noneWord → ⊥) → totalOf (goIn roads order live s z) ≡ some total
+  found-some ne = let r = word-some total (totalOf (goIn roads order live s z)) (f .total-is) ne in r .1 ∙ ap some (sym (r .2))

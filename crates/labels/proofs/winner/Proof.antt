@@ -1,30 +1,29 @@
 use borrow.Author.Needs.{needs}
 use native.Mathlib.Omega.{arith}
-use mathlib.Core.Path.{_≡_, refl}
+use mathlib.Core.Path.{_∙_, sym}
 use Prim.Native.Nat.{_-_, _≤_}
-use lib.ListN.{getD}
 use Rattle.labels.specs.Winners.{Leads}
 use Rattle.labels.proofs.Tournament.{leads-end, leads-keep, leads-start, leads-take}
 use Rattle.labels.proofs.winner.Statement.{statement}
 use Rattle.labels.proofs.winner.Tie as tie
 
 abbrev Inv-loop : tie.InvT-loop
-Inv-loop keys from to a best₀ at₀ i₀ best at i = (from ≤ i) × (i ≤ to) × (best ≡ getD keys at 0) × Leads keys from i at
+Inv-loop keys from to at₀ i₀ at i = (from ≤ i) × (i ≤ to) × Leads keys from i at
 
 abbrev μ-loop : tie.MeasureT-loop
-μ-loop keys from to a best₀ at₀ i₀ best at i = to - i
+μ-loop keys from to at₀ i₀ at i = to - i
 
 loop-holds : tie.Need-loop-holds Inv-loop μ-loop
-loop-holds c = (search needs, search needs, refl, leads-start _ _)
+loop-holds c = (search needs, search needs, leads-start _ _)
 
 loop-again : tie.Need-loop-again Inv-loop μ-loop
-loop-again c = (search needs, search needs, refl, leads-take _ _ _ _ _ (c .before .before .before .loop .inv .3) (c .before .before .before .loop .inv .2) (c .before .before .before .loop .inv .0) (c .if1 .taken))
+loop-again c = (search needs, search needs, leads-take _ _ _ _ (c .before .before .before .loop .inv .2) (c .before .before .before .loop .inv .0) (sym (c .before .comes-before .ensures) ∙ c .if1 .taken))
 
 loop-again-2 : tie.Need-loop-again-2 Inv-loop μ-loop
-loop-again-2 c = (search needs, search needs, c .before .before .before .loop .inv .2, leads-keep _ _ _ _ _ (c .before .before .before .loop .inv .3) (c .before .before .before .loop .inv .2) (c .if1 .left))
+loop-again-2 c = (search needs, search needs, leads-keep _ _ _ _ (c .before .before .before .loop .inv .2) (sym (c .before .comes-before .ensures) ∙ c .if1 .left))
 
 returns : tie.Need-returns Inv-loop μ-loop
-returns c = leads-end _ _ _ _ _ (c .before .loop .inv .3) (c .before .loop .inv .2) _ (omega arith)
+returns c = leads-end _ _ _ _ (c .before .loop .inv .2) _ (omega arith)
 
 pub winner-spec : {M : Type 1} → statement M
 winner-spec =
@@ -33,13 +32,9 @@ winner-spec =
     Inv-loop
     μ-loop
     (λ c. search needs)
-    (λ c. search needs)
-    (λ c. search needs)
     loop-holds
     (λ c. search needs)
-    (λ c. search needs)
-    (λ c. search needs)
-    (λ c. search needs)
+    (λ c κs. search needs)
     (λ c. search needs)
     loop-again
     (λ c. search needs)
