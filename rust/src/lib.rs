@@ -26,6 +26,7 @@ pub mod order;
 pub mod random;
 pub mod router;
 pub mod search;
+pub mod text;
 pub mod time;
 pub mod traffic;
 #[allow(unsafe_code)]

@@ -55,7 +55,7 @@ impl Map {
     }
 
     /// Roads over `n` junctions in a good order.
-    fn in_good_order(n: usize, roads: Vec<Road>) -> Map {
+    pub fn in_good_order(n: usize, roads: Vec<Road>) -> Map {
         let order = order::least_degree(n, &roads);
         Map { roads, order }
     }

@@ -23,8 +23,8 @@ use std::{array, env, fs, process, thread};
 /// Grids of the towns that are measured.
 const TOWNS: [(usize, usize); 5] = [(10, 20), (20, 25), (25, 40), (40, 50), (64, 64)];
 /// How long the functions of a line are run in turn, and at least how often.
-const BUDGET: Duration = Duration::from_millis(800);
-const ROUNDS: usize = 5;
+const BUDGET: Duration = Duration::from_secs(1);
+const ROUNDS: usize = 20;
 /// Trips, and targets, in each town.
 const TRIPS: usize = 20;
 
