@@ -1,7 +1,6 @@
-//! Least totals straight from their definition, and small maps to compute them on.
+//! Least totals straight from their definition.
 
-use crate::maps::{self, Map};
-use crate::random::Random;
+use crate::maps::Map;
 use crate::time::{Time, CLOSED, NONE};
 
 /// The least totals from `start` of chains of open roads, the empty one among them.
@@ -33,30 +32,4 @@ pub fn least_within(
         }
     }
     totals.into_iter().map(|total| Time::try_from(total).unwrap_or(NONE)).collect()
-}
-
-/// A map of up to 12 junctions, with base times so short that many totals are equal.
-pub fn small_map(random: &mut Random) -> Map {
-    if random.chance(30) {
-        let (width, height) = (1 + random.below(4), 1 + random.below(3));
-        return maps::even_grid(random, width, height);
-    }
-    let n = 1 + random.below(10);
-    let m = random.below(4 * n + 1);
-    let longest = random.pick(&[1, 3, 10]);
-    maps::random(random, n, m, longest)
-}
-
-/// Live times for a map: in some all base times, else of each road its base time, one a little
-/// longer, or closed.
-pub fn live_times(random: &mut Random, map: &Map) -> Vec<Time> {
-    if random.chance(30) {
-        return map.base();
-    }
-    let live = |base| match random.below(6) {
-        0 => CLOSED,
-        1 => base + random.within(1..=4),
-        _ => base,
-    };
-    map.base().into_iter().map(live).collect()
 }

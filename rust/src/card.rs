@@ -1,5 +1,7 @@
 //! The card: a second reader and writer, from the description of the format and nothing else.
 
+use crate::calls::Refusal;
+
 /// Most junctions of a map.
 pub const MOST_JUNCTIONS: usize = 4_096;
 /// Most roads of a map.
@@ -9,48 +11,6 @@ pub const LONGEST: u32 = 1_000_000;
 
 /// Bytes of the table of contents: the number of sections and, for each, its kind, start and length.
 const TABLE: u32 = 28;
-
-/// The question that refuses a card or a map.
-#[derive(Clone, Copy, Debug, PartialEq, Eq)]
-pub enum Refusal {
-    /// 1: the card is shorter than its table.
-    Short,
-    /// 2: it has another number of sections, or other kinds.
-    Kinds,
-    /// 3: the bodies do not follow the table one after the other, up to the card's end.
-    Bounds,
-    /// 4: a body's length is out of range or no multiple of an entry's.
-    Lengths,
-    /// 5, with the first road that fails.
-    Road(u32),
-    /// 6, with the first place of the order that fails.
-    Place(u32),
-    /// 7: the lent area has another length than the card.
-    Area,
-}
-
-impl Refusal {
-    /// The question's number.
-    pub fn number(self) -> u32 {
-        match self {
-            Refusal::Short => 1,
-            Refusal::Kinds => 2,
-            Refusal::Bounds => 3,
-            Refusal::Lengths => 4,
-            Refusal::Road(_) => 5,
-            Refusal::Place(_) => 6,
-            Refusal::Area => 7,
-        }
-    }
-
-    /// The road or the place that fails, after 5 and 6.
-    pub fn place(self) -> Option<u32> {
-        match self {
-            Refusal::Road(place) | Refusal::Place(place) => Some(place),
-            _ => None,
-        }
-    }
-}
 
 /// Questions 1 to 6: the numbers of junctions and of roads, or the first refusal.
 pub fn read(card: &[u8]) -> Result<(u32, u32), Refusal> {
@@ -63,11 +23,11 @@ pub fn read(card: &[u8]) -> Result<(u32, u32), Refusal> {
     let roads_end = TABLE.checked_add(roads_len);
     let order_end = order_start.checked_add(order_len).map(|end| end as usize);
     if roads_start != TABLE || roads_end != Some(order_start) || order_end != Some(card.len()) {
-        return Err(Refusal::Bounds);
+        return Err(Refusal::Starts);
     }
     let (n, m) = (order_len / 4, roads_len / 12);
     if order_len % 4 != 0 || roads_len % 12 != 0 || !in_range(n as usize, m as usize) {
-        return Err(Refusal::Lengths);
+        return Err(Refusal::Sizes);
     }
     let (roads, order) = bodies(card, m);
     check_roads(roads.iter().map(|road| road.map(u32::from_le_bytes)), n)?;
@@ -87,13 +47,13 @@ pub fn map(card: &[u8]) -> Result<(Vec<u32>, Vec<u32>), Refusal> {
 pub fn write(roads: &[u32], order: &[u32], area: &mut [u8]) -> Result<(), Refusal> {
     let (entries, rest) = roads.as_chunks::<3>();
     if !rest.is_empty() || !in_range(order.len(), entries.len()) {
-        return Err(Refusal::Lengths);
+        return Err(Refusal::Sizes);
     }
     check_roads(entries.iter().copied(), order.len() as u32)?;
     check_order(order.iter().copied(), order.len() as u32)?;
     let (roads_len, order_len) = (4 * roads.len() as u32, 4 * order.len() as u32);
     if area.len() != (TABLE + roads_len + order_len) as usize {
-        return Err(Refusal::Area);
+        return Err(Refusal::AreaLengths);
     }
     let (table, bodies) = area.split_at_mut(TABLE as usize);
     let (roads_body, order_body) = bodies.split_at_mut(roads_len as usize);

@@ -2,7 +2,7 @@
 //!
 //! Ranks stay inside: what goes in and comes out is by junction, but for the records.
 
-use crate::maps::Map;
+use crate::maps::{Map, Road};
 use crate::time::{add, Time, NONE, UNASKED};
 
 /// A junction of higher rank, with the least base totals from the low one to it and back over
@@ -18,30 +18,22 @@ struct Pair {
 pub struct Hierarchy {
     ranks: Vec<u32>,
     order: Vec<u32>,
-    /// The pairs of each low rank, ascending.
-    rows: Vec<Vec<Pair>>,
+    rows: Rows,
 }
 
 impl Hierarchy {
     pub fn new(map: &Map) -> Hierarchy {
+        Hierarchy::within(map, usize::MAX).expect("room for any number of pairs")
+    }
+
+    /// The hierarchy, if it has no more than `room` pairs.
+    pub fn within(map: &Map, room: usize) -> Option<Hierarchy> {
         let mut ranks = vec![0; map.n()];
         for (rank, &junction) in (0..).zip(&map.order) {
             ranks[junction as usize] = rank;
         }
-        let mut rows = vec![Vec::new(); map.n()];
-        for road in &map.roads {
-            let (tail, head) = (ranks[road.tail as usize], ranks[road.head as usize]);
-            let (low, pair) = if tail < head {
-                (tail, Pair { high: head, up: road.base, down: NONE })
-            } else {
-                (head, Pair { high: tail, up: NONE, down: road.base })
-            };
-            keep(&mut rows[low as usize], 0, pair);
-        }
-        for low in 0..map.n() {
-            contract(&mut rows, low);
-        }
-        Hierarchy { ranks, order: map.order.clone(), rows }
+        let rows = contract(map, &ranks, room)?;
+        Some(Hierarchy { ranks, order: map.order.clone(), rows })
     }
 
     /// Each junction's rank.
@@ -49,13 +41,17 @@ impl Hierarchy {
         &self.ranks
     }
 
+    /// The number of kept pairs.
+    pub fn pairs(&self) -> usize {
+        self.rows.pairs.len()
+    }
+
     /// The kept pairs, ascending: rank of low, rank of high, up time, down time.
     pub fn records(&self) -> Vec<[u32; 4]> {
-        let records = |(low, row): (u32, &Vec<Pair>)| {
-            let record = |pair: &Pair| [low, pair.high, pair.up, pair.down];
-            row.iter().map(record).collect::<Vec<_>>()
+        let records = |low: usize| {
+            self.rows.of(low).iter().map(move |pair| [low as u32, pair.high, pair.up, pair.down])
         };
-        (0..).zip(&self.rows).flat_map(records).collect()
+        (0..self.order.len()).flat_map(records).collect()
     }
 
     /// Each junction's least total over chains of down times, descending in rank to the target.
@@ -63,9 +59,9 @@ impl Hierarchy {
         let mut totals = vec![NONE; self.ranks.len()];
         totals[target as usize] = 0;
         let lowest = self.ranks[target as usize] as usize;
-        for (row, &low) in self.rows.iter().zip(&self.order).skip(lowest) {
-            let below = totals[low as usize];
-            for pair in row {
+        for rank in lowest..self.order.len() {
+            let below = totals[self.order[rank] as usize];
+            for pair in self.rows.of(rank) {
                 let total = &mut totals[self.order[pair.high as usize] as usize];
                 *total = add(pair.down, below).min(*total);
             }
@@ -90,7 +86,7 @@ impl Hierarchy {
             return known;
         }
         let mut least = down[junction as usize];
-        for pair in &self.rows[self.ranks[junction as usize] as usize] {
+        for pair in self.rows.of(self.ranks[junction as usize] as usize) {
             if pair.up != NONE {
                 let above = self.estimate(down, estimates, self.order[pair.high as usize]);
                 least = add(pair.up, above).min(least);
@@ -101,34 +97,139 @@ impl Hierarchy {
     }
 }
 
-/// Joins every two pairs of a low rank by way of it.
-fn contract(rows: &mut [Vec<Pair>], low: usize) {
-    let row = std::mem::take(&mut rows[low]);
-    for (i, a) in row.iter().enumerate() {
-        let mut place = 0;
-        for b in &row[i + 1..] {
-            let pair = Pair { high: b.high, up: add(a.down, b.up), down: add(b.down, a.up) };
-            if pair.up != NONE || pair.down != NONE {
-                place = keep(&mut rows[a.high as usize], place, pair);
+/// The pairs by low rank, then high.
+#[derive(Clone, Debug)]
+struct Rows {
+    /// Where the pairs of each rank begin, and where the last ones end.
+    starts: Vec<usize>,
+    pairs: Vec<Pair>,
+}
+
+impl Rows {
+    fn of(&self, low: usize) -> &[Pair] {
+        &self.pairs[self.starts[low]..self.starts[low + 1]]
+    }
+}
+
+/// The pairs row by row, if there are no more than `room`: the times of a row come from its roads and,
+/// by way of each lower rank that has a pair with it, from that rank's pairs with higher ones.
+fn contract(map: &Map, ranks: &[u32], room: usize) -> Option<Rows> {
+    let n = map.n();
+    let roads = road_pairs(map, ranks);
+    let mut rows = Rows { starts: vec![0], pairs: Vec::new() };
+    let mut row = Row::new(n);
+    let mut fronts = Fronts::new(n);
+    for rank in 0..n {
+        for pair in roads.of(rank) {
+            row.relax(pair.high, pair.up, pair.down);
+        }
+        let mut below = fronts.first[rank];
+        while below != NOBODY {
+            let (low, place) = (below as usize, fronts.place[below as usize]);
+            below = fronts.after[low];
+            let via = rows.pairs[place];
+            let rest = &rows.pairs[place + 1..rows.starts[low + 1]];
+            for pair in rest {
+                row.relax(pair.high, add(via.down, pair.up), add(pair.down, via.up));
+            }
+            fronts.wait(low, place + 1, rest.first());
+        }
+        let start = rows.pairs.len();
+        row.empty_into(&mut rows.pairs);
+        if rows.pairs.len() > room {
+            return None;
+        }
+        rows.starts.push(rows.pairs.len());
+        fronts.wait(rank, start, rows.pairs.get(start));
+    }
+    Some(rows)
+}
+
+/// The roads as pairs of their ends, by low rank.
+fn road_pairs(map: &Map, ranks: &[u32]) -> Rows {
+    let pair = |road: &Road| {
+        let (tail, head) = (ranks[road.tail as usize], ranks[road.head as usize]);
+        if tail < head {
+            (tail as usize, Pair { high: head, up: road.base, down: NONE })
+        } else {
+            (head as usize, Pair { high: tail, up: NONE, down: road.base })
+        }
+    };
+    let mut starts = vec![0; map.n() + 1];
+    for road in &map.roads {
+        starts[pair(road).0 + 1] += 1;
+    }
+    for rank in 0..map.n() {
+        starts[rank + 1] += starts[rank];
+    }
+    let mut places = starts.clone();
+    let mut pairs = vec![Pair { high: 0, up: NONE, down: NONE }; map.m()];
+    for road in &map.roads {
+        let (low, pair) = pair(road);
+        pairs[places[low]] = pair;
+        places[low] += 1;
+    }
+    Rows { starts, pairs }
+}
+
+/// No rank, at the end of a list of ranks.
+const NOBODY: u32 = u32::MAX;
+
+/// Of each rank, the place of its first pair with a rank that is not contracted yet. Ranks whose pairs
+/// there are with the same one are listed.
+struct Fronts {
+    place: Vec<usize>,
+    /// By high rank, the first of the list.
+    first: Vec<u32>,
+    /// By low rank, the next one of the list.
+    after: Vec<u32>,
+}
+
+impl Fronts {
+    fn new(n: usize) -> Fronts {
+        Fronts { place: vec![0; n], first: vec![NOBODY; n], after: vec![NOBODY; n] }
+    }
+
+    /// Has a rank wait at its pair in a place, if there is one.
+    fn wait(&mut self, low: usize, place: usize, pair: Option<&Pair>) {
+        if let Some(pair) = pair {
+            self.place[low] = place;
+            self.after[low] = std::mem::replace(&mut self.first[pair.high as usize], low as u32);
+        }
+    }
+}
+
+/// The times between one rank and each above it.
+struct Row {
+    /// Up and down times by high rank.
+    times: Vec<[Time; 2]>,
+    /// Which of them are kept: a bit for each high rank.
+    kept: Vec<u64>,
+}
+
+impl Row {
+    fn new(n: usize) -> Row {
+        Row { times: vec![[NONE; 2]; n], kept: vec![0; n.div_ceil(64)] }
+    }
+
+    fn relax(&mut self, high: u32, up: Time, down: Time) {
+        let high = high as usize;
+        let times = &mut self.times[high];
+        *times = [up.min(times[0]), down.min(times[1])];
+        self.kept[high / 64] |= u64::from(up != NONE || down != NONE) << (high % 64);
+    }
+
+    /// Appends the kept pairs, ascending, and is empty then.
+    fn empty_into(&mut self, pairs: &mut Vec<Pair>) {
+        for (i, word) in self.kept.iter_mut().enumerate() {
+            while *word != 0 {
+                let high = 64 * i + word.trailing_zeros() as usize;
+                let [up, down] = std::mem::replace(&mut self.times[high], [NONE; 2]);
+                pairs.push(Pair { high: high as u32, up, down });
+                *word &= *word - 1;
             }
         }
     }
-    rows[low] = row;
-}
-
-/// Keeps a pair in a row, or the smaller times if it is there: at or behind `place`. Its own place.
-fn keep(row: &mut Vec<Pair>, mut place: usize, pair: Pair) -> usize {
-    while row.get(place).is_some_and(|other| other.high < pair.high) {
-        place += 1;
-    }
-    match row.get_mut(place) {
-        Some(other) if other.high == pair.high => {
-            other.up = other.up.min(pair.up);
-            other.down = other.down.min(pair.down);
-        }
-        _ => row.insert(place, pair),
-    }
-    place
 }
 
 #[cfg(test)]
@@ -164,7 +265,7 @@ mod tests {
         let mut random = Random::new(1);
         let mut kept = 0;
         for _ in 0..2_000 {
-            let map = brute::small_map(&mut random);
+            let map = maps::small(&mut random);
             let records = Hierarchy::new(&map).records();
             assert_eq!(records, pairs(&map), "{map:?}");
             assert_eq!(records.len(), order::pairs(&map));
@@ -179,7 +280,7 @@ mod tests {
         let mut random = Random::new(2);
         let (mut found, mut missing) = (0, 0);
         for _ in 0..2_000 {
-            let map = brute::small_map(&mut random);
+            let map = maps::small(&mut random);
             let hierarchy = Hierarchy::new(&map);
             let rank = |junction: u32| hierarchy.ranks[junction as usize];
             for target in 0..map.n() as u32 {
@@ -206,7 +307,7 @@ mod tests {
         let mut random = Random::new(3);
         let (mut found, mut missing) = (0, 0);
         for _ in 0..2_000 {
-            let map = brute::small_map(&mut random);
+            let map = maps::small(&mut random);
             let (graph, hierarchy) = (Graph::new(&map), Hierarchy::new(&map));
             for target in 0..map.n() as u32 {
                 let down = hierarchy.down_totals(target);
@@ -224,7 +325,7 @@ mod tests {
         let mut random = Random::new(4);
         let (mut filled, mut unasked) = (0, 0);
         for _ in 0..2_000 {
-            let map = brute::small_map(&mut random);
+            let map = maps::small(&mut random);
             let hierarchy = Hierarchy::new(&map);
             let down = hierarchy.down_totals(random.below(map.n()) as u32);
             let all = hierarchy.estimates(&down);

@@ -1,8 +1,9 @@
 //! The proved unit beside independent implementations of document 01 in plain Rust.
 //!
-//! `unit` calls the archive that `rt staticlib unit_c` builds. `card`, `hierarchy`, `search` and
-//! `dijkstra` are written from the document alone; `maps`, `order` and `damage` make what both are
-//! tried on, by fixed seeds. From the repository's root:
+//! `unit` calls the archive that `rt staticlib unit_c` builds. `card`, `hierarchy`, `search`,
+//! `dijkstra` and `machine` are written from the document alone; `router` puts them together to the unit as
+//! one would write it in plain Rust, and `both` has the two side by side. `maps`, `order`, `traffic` and
+//! `damage` make what they are tried on, by fixed seeds. From the repository's root:
 //!
 //! ```text
 //! cargo test --offline --locked --manifest-path rust/Cargo.toml --target-dir target/cargo
@@ -10,17 +11,23 @@
 //! ```
 #![deny(unsafe_code)]
 
+pub mod both;
 #[cfg(test)]
 mod brute;
+pub mod calls;
 pub mod card;
 pub mod damage;
 pub mod dijkstra;
 pub mod graph;
 pub mod hierarchy;
+pub mod machine;
 pub mod maps;
 pub mod order;
 pub mod random;
+pub mod router;
 pub mod search;
+pub mod text;
 pub mod time;
+pub mod traffic;
 #[allow(unsafe_code)]
 pub mod unit;

@@ -1,6 +1,7 @@
 //! Maps to test and to measure with.
 
-use crate::card::{self, Refusal, LONGEST, MOST_ROADS};
+use crate::calls::Refusal;
+use crate::card::{self, LONGEST, MOST_ROADS};
 use crate::order;
 use crate::random::Random;
 use crate::time::Time;
@@ -39,6 +40,12 @@ impl Map {
         (self.roads.iter().flat_map(words).collect(), self.order.clone())
     }
 
+    /// The map of two rows of words that a card can hold.
+    pub fn of_rows(roads: &[u32], order: Vec<u32>) -> Map {
+        let road = |&[tail, head, base]: &[u32; 3]| Road { tail, head, base };
+        Map { roads: roads.as_chunks().0.iter().map(road).collect(), order }
+    }
+
     /// The map's card.
     pub fn card(&self) -> Result<Vec<u8>, Refusal> {
         let (roads, order) = self.rows();
@@ -48,7 +55,7 @@ impl Map {
     }
 
     /// Roads over `n` junctions in a good order.
-    fn in_good_order(n: usize, roads: Vec<Road>) -> Map {
+    pub fn in_good_order(n: usize, roads: Vec<Road>) -> Map {
         let order = order::least_degree(n, &roads);
         Map { roads, order }
     }
@@ -73,6 +80,18 @@ pub fn random(random: &mut Random, n: usize, m: usize, longest: Time) -> Map {
     };
     let roads = (0..if n < 2 { 0 } else { m }).map(road).collect();
     Map { roads, order }
+}
+
+/// A map of up to 12 junctions, with base times so short that many totals are equal.
+pub fn small(random: &mut Random) -> Map {
+    if random.chance(30) {
+        let (width, height) = (1 + random.below(4), 1 + random.below(3));
+        return even_grid(random, width, height);
+    }
+    let n = 1 + random.below(10);
+    let m = random.below(4 * n + 1);
+    let longest = random.pick(&[1, 3, 10]);
+    self::random(random, n, m, longest)
 }
 
 /// The streets of a town, in percent of the grid's.
@@ -165,6 +184,15 @@ pub fn ring(n: usize) -> Map {
     Map { roads, order: (0..n as u32).collect() }
 }
 
+/// The same with a road past junction 0, from n - 1 to 1. The search from 2 to 0 has two candidates at
+/// last: 1 with a key of 2n - 3 roads, in the largest map the largest key of all, 8,189,000,000, and 0
+/// with one of n - 2 roads, which would be the larger one if keys had 32 bits.
+pub fn ring_with_bypass(n: usize) -> Map {
+    let mut map = ring(n);
+    map.roads.push(long(n - 1, 1));
+    map
+}
+
 /// A one-way line 0, 1 .. n - 2 with the longest base times; and from n - 3 roads back to 0 and, by
 /// way of n - 1, on to n - 2. With road n - 3, the line's last, closed, the search from 1 to n - 2 has
 /// two candidates at last: 0 with a key of 2n - 5 roads, 8,187,000,000 in the largest map, and n - 1
@@ -217,6 +245,7 @@ mod tests {
             line(MOST_JUNCTIONS),
             star(MOST_JUNCTIONS),
             ring(MOST_JUNCTIONS),
+            ring_with_bypass(MOST_JUNCTIONS),
             wide_keys(MOST_JUNCTIONS),
             wide_sums(MOST_JUNCTIONS)[0].clone(),
         ] {

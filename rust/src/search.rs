@@ -96,7 +96,7 @@ mod tests {
     use crate::maps::{self, Map, Road, Streets};
     use crate::random::Random;
     use crate::time::UNASKED;
-    use crate::{brute, card, dijkstra};
+    use crate::{brute, card, dijkstra, traffic};
 
     struct Trip {
         map: Map,
@@ -107,7 +107,7 @@ mod tests {
 
     impl Trip {
         fn random(random: &mut Random, map: Map) -> Trip {
-            let live = brute::live_times(random, &map);
+            let live = traffic::live_times(random, &map);
             let (start, target) = (random.below(map.n()) as u32, random.below(map.n()) as u32);
             Trip { map, live, start, target }
         }
@@ -230,7 +230,7 @@ mod tests {
         for i in 0..10_000 {
             let map = match i % 50 {
                 0 => maps::even_grid(&mut random, 8, 8),
-                _ => brute::small_map(&mut random),
+                _ => maps::small(&mut random),
             };
             let trip = Trip::random(&mut random, map);
             let (search, estimates) = trip.go();
@@ -254,7 +254,7 @@ mod tests {
         let mut random = Random::new(2);
         let (mut found, mut missing, mut fewer) = (0, 0, 0);
         for _ in 0..10_000 {
-            let map = brute::small_map(&mut random);
+            let map = maps::small(&mut random);
             let trip = Trip::random(&mut random, map);
             let times = brute::least(&trip.map, &trip.live, trip.start);
             let (search, _) = trip.go();
@@ -335,7 +335,7 @@ mod tests {
             let trip = Trip::random(&mut random, map);
             let total = trip.go().0.found.map_or(NONE, |(total, _)| total);
             let graph = Graph::new(&trip.map);
-            assert_eq!(total, dijkstra::between(&graph, &trip.live, trip.start, trip.target));
+            assert_eq!(total, dijkstra::between(&graph, &trip.live, trip.start, trip.target).0);
             found += (total != NONE) as usize;
         }
         assert!(found > 40, "{found} found");

@@ -2,7 +2,36 @@
 //!
 //! Nothing compares these declarations with the exports of `unit_c`: they stand in its order.
 
-use crate::card::Refusal;
+use crate::calls::{Calls, Refusal, Trip};
+use crate::time::Time;
+use std::ops::{Deref, DerefMut};
+
+/// The header that each call is handed and hands back.
+#[repr(C)]
+#[derive(Clone, Copy, Debug, Default, PartialEq, Eq)]
+pub struct Header {
+    pub n: u32,
+    pub m: u32,
+    pub pairs: u32,
+    /// 1 if there is a target, else 0.
+    pub aimed: u32,
+    /// 0 if there is none.
+    pub target: u32,
+}
+
+/// What preparing and the calls return. A word that has nothing to say is 0.
+#[repr(C)]
+#[derive(Clone, Copy, Debug)]
+struct Returned {
+    header: Header,
+    /// 0 for accepted.
+    question: u32,
+    place: u32,
+    /// A go's total, or an estimate.
+    total: u64,
+    count: u32,
+    roads: u32,
+}
 
 extern "C" {
     fn card_read(card: *const u8, len: usize, first: *mut u32, second: *mut u32) -> u32;
@@ -15,10 +44,103 @@ extern "C" {
         area_len: usize,
         place: *mut u32,
     ) -> u32;
+    fn unit_prepare(
+        card: *const u8,
+        card_len: usize,
+        ranks: *mut u32,
+        ranks_len: usize,
+        pairs: *mut u32,
+        pairs_len: usize,
+        live: *mut u32,
+        live_len: usize,
+        down: *mut u32,
+        down_len: usize,
+        estimates: *mut u32,
+        estimates_len: usize,
+        elapsed: *mut u32,
+        elapsed_len: usize,
+    ) -> Returned;
+    fn unit_set(
+        header: Header,
+        card: *const u8,
+        card_len: usize,
+        ranks: *const u32,
+        ranks_len: usize,
+        pairs: *const u32,
+        pairs_len: usize,
+        live: *mut u32,
+        live_len: usize,
+        down: *const u32,
+        down_len: usize,
+        estimates: *const u32,
+        estimates_len: usize,
+        elapsed: *const u32,
+        elapsed_len: usize,
+        road: u32,
+        time: u32,
+    ) -> Returned;
+    fn unit_aim(
+        header: Header,
+        card: *const u8,
+        card_len: usize,
+        ranks: *const u32,
+        ranks_len: usize,
+        pairs: *const u32,
+        pairs_len: usize,
+        live: *const u32,
+        live_len: usize,
+        down: *mut u32,
+        down_len: usize,
+        estimates: *mut u32,
+        estimates_len: usize,
+        elapsed: *const u32,
+        elapsed_len: usize,
+        junction: u32,
+    ) -> Returned;
+    fn unit_estimate(
+        header: Header,
+        card: *const u8,
+        card_len: usize,
+        ranks: *const u32,
+        ranks_len: usize,
+        pairs: *const u32,
+        pairs_len: usize,
+        live: *const u32,
+        live_len: usize,
+        down: *const u32,
+        down_len: usize,
+        estimates: *mut u32,
+        estimates_len: usize,
+        elapsed: *const u32,
+        elapsed_len: usize,
+        junction: u32,
+    ) -> Returned;
+    fn unit_go(
+        header: Header,
+        card: *const u8,
+        card_len: usize,
+        ranks: *const u32,
+        ranks_len: usize,
+        pairs: *const u32,
+        pairs_len: usize,
+        live: *const u32,
+        live_len: usize,
+        down: *const u32,
+        down_len: usize,
+        estimates: *mut u32,
+        estimates_len: usize,
+        elapsed: *mut u32,
+        elapsed_len: usize,
+        route: *mut u32,
+        route_len: usize,
+        log: *mut u32,
+        log_len: usize,
+        start: u32,
+    ) -> Returned;
 }
 
 /// What a word holds before a call that is to write it.
-const UNWRITTEN: u32 = 0xa5a5_a5a5;
+pub const UNWRITTEN: u32 = 0xa5a5_a5a5;
 
 /// Questions 1 to 6: the numbers of junctions and of roads, or the first refusal.
 pub fn read(card: &[u8]) -> Result<(u32, u32), Refusal> {
@@ -27,7 +149,7 @@ pub fn read(card: &[u8]) -> Result<(u32, u32), Refusal> {
     let number = unsafe { card_read(card.as_ptr(), card.len(), &mut first, &mut second) };
     match (number, first, second) {
         (0, n, m) => Ok((n, m)),
-        (number, place, 0) => Err(refusal(number, place)),
+        (number, place, 0) => Err(refusal(number, place, 0)),
         (number, place, m) => panic!("refusal {number} with the words {place} and {m}"),
     }
 }
@@ -50,20 +172,251 @@ pub fn write(roads: &[u32], order: &[u32], area: &mut [u8]) -> Result<(), Refusa
     match (number, place) {
         (0, 0) => Ok(()),
         (0, place) => panic!("accepted, with the place {place}"),
-        (number, place) => Err(refusal(number, place)),
+        (number, place) => Err(refusal(number, place, 0)),
     }
 }
 
-/// The refusal of a number and a place, which is 0 where there is none.
-fn refusal(number: u32, place: u32) -> Refusal {
-    match (number, place) {
-        (1, 0) => Refusal::Short,
-        (2, 0) => Refusal::Kinds,
-        (3, 0) => Refusal::Bounds,
-        (4, 0) => Refusal::Lengths,
-        (5, road) => Refusal::Road(road),
-        (6, place) => Refusal::Place(place),
-        (7, 0) => Refusal::Area,
-        _ => panic!("no refusal has the number {number} and the place {place}"),
+/// The refusal of a number, with a place and a count, which are 0 where there is none.
+fn refusal(number: u32, place: u32, count: u32) -> Refusal {
+    match (number, place, count) {
+        (1, 0, 0) => Refusal::Short,
+        (2, 0, 0) => Refusal::Kinds,
+        (3, 0, 0) => Refusal::Starts,
+        (4, 0, 0) => Refusal::Sizes,
+        (5, road, 0) => Refusal::Road(road),
+        (6, place, 0) => Refusal::Place(place),
+        (7, 0, 0) => Refusal::AreaLengths,
+        (8, 0, 0) => Refusal::Room,
+        (9, 0, 0) => Refusal::Lengths,
+        (10, 0, 0) => Refusal::NoRoad,
+        (11, 0, 0) => Refusal::NotAllowed,
+        (12, 0, 0) => Refusal::NoJunction,
+        (13, 0, 0) => Refusal::NoTarget,
+        (14, 0, 0) => Refusal::LentLengths,
+        (15, 0, count) => Refusal::NoPath(count),
+        _ => panic!("no refusal has the number {number}, the place {place} and the count {count}"),
+    }
+}
+
+/// An area of words, with guard words before and behind it.
+#[derive(Clone, Debug, PartialEq, Eq)]
+pub struct Area {
+    words: Vec<u32>,
+}
+
+impl Area {
+    const GUARDS: [u32; 16] = [0x6a7d_6a7d; 16];
+
+    /// An area that nothing was written to.
+    pub fn new(len: usize) -> Area {
+        Area::of(&vec![UNWRITTEN; len])
+    }
+
+    pub fn of(words: &[u32]) -> Area {
+        Area { words: [&Area::GUARDS, words, &Area::GUARDS].concat() }
+    }
+
+    /// Words that nothing was written to are added at the end, or words there taken off.
+    pub fn resize(&mut self, len: usize) {
+        let mut words = self.to_vec();
+        words.resize(len, UNWRITTEN);
+        *self = Area::of(&words);
+    }
+
+    /// Are the guard words as they were?
+    pub fn guarded(&self) -> bool {
+        self.words.starts_with(&Area::GUARDS) && self.words.ends_with(&Area::GUARDS)
+    }
+}
+
+impl Deref for Area {
+    type Target = [u32];
+
+    fn deref(&self) -> &[u32] {
+        &self.words[Area::GUARDS.len()..self.words.len() - Area::GUARDS.len()]
+    }
+}
+
+impl DerefMut for Area {
+    fn deref_mut(&mut self) -> &mut [u32] {
+        let end = self.words.len() - Area::GUARDS.len();
+        &mut self.words[Area::GUARDS.len()..end]
+    }
+}
+
+/// A unit: its card, header and areas. What calls write lies within the areas that they are lent, which
+/// is seen by guard words where debug assertions are on.
+#[derive(Clone, Debug, PartialEq, Eq)]
+pub struct Unit {
+    pub card: Vec<u8>,
+    pub header: Header,
+    pub ranks: Area,
+    pub pairs: Area,
+    pub live: Area,
+    pub down: Area,
+    pub estimates: Area,
+    pub elapsed: Area,
+}
+
+/// Calls an export. Each slice is handed on as a pointer and a length.
+macro_rules! lend {
+    ($export:ident($($first:expr)?; $($slice:expr => $pointer:ident),+; $($last:expr),*)) => {
+        // SAFETY: each pointer and length are those of one slice, which is lent to be written where the
+        // export writes; no two overlap.
+        unsafe { $export($($first,)? $($slice.$pointer(), $slice.len(),)+ $($last),*) }
+    };
+}
+
+impl Unit {
+    /// A unit that is not prepared, with areas for `n` junctions, `m` roads and `room` pairs.
+    pub fn new(card: &[u8], n: usize, m: usize, room: usize) -> Unit {
+        Unit {
+            card: card.to_vec(),
+            header: Header::default(),
+            ranks: Area::new(n),
+            pairs: Area::new(4 * room),
+            live: Area::new(m),
+            down: Area::new(n),
+            estimates: Area::new(n),
+            elapsed: Area::new(n),
+        }
+    }
+
+    /// The areas that no call alters, those that some do, and their names.
+    pub fn areas(&self) -> [(&'static str, &Area); 6] {
+        [
+            ("ranks", &self.ranks),
+            ("pairs", &self.pairs),
+            ("live times", &self.live),
+            ("down totals", &self.down),
+            ("estimates", &self.estimates),
+            ("elapsed", &self.elapsed),
+        ]
+    }
+
+    pub fn areas_mut(&mut self) -> [&mut Area; 6] {
+        [
+            &mut self.ranks,
+            &mut self.pairs,
+            &mut self.live,
+            &mut self.down,
+            &mut self.estimates,
+            &mut self.elapsed,
+        ]
+    }
+
+    pub fn prepare(&mut self) -> Result<(), Refusal> {
+        let returned = lend!(unit_prepare(
+            ;
+            self.card => as_ptr,
+            self.ranks => as_mut_ptr,
+            self.pairs => as_mut_ptr,
+            self.live => as_mut_ptr,
+            self.down => as_mut_ptr,
+            self.estimates => as_mut_ptr,
+            self.elapsed => as_mut_ptr;
+        ));
+        self.hand_back(returned)?.done()
+    }
+
+    /// Takes the header back, and an answer that refuses.
+    fn hand_back(&mut self, returned: Returned) -> Result<Returned, Refusal> {
+        debug_assert!(self.areas().iter().all(|(_, area)| area.guarded()), "guard words altered");
+        self.header = returned.header;
+        match returned {
+            Returned { question: 0, .. } => Ok(returned),
+            Returned { question, place, total: 0, count, roads: 0, .. } => {
+                Err(refusal(question, place, count))
+            }
+            _ => panic!("no refusal: {returned:?}"),
+        }
+    }
+}
+
+impl Returned {
+    fn done(self) -> Result<(), Refusal> {
+        match self {
+            Returned { place: 0, total: 0, count: 0, roads: 0, .. } => Ok(()),
+            _ => panic!("more than an acceptance: {self:?}"),
+        }
+    }
+
+    fn estimate(self) -> Result<Time, Refusal> {
+        match (self, Time::try_from(self.total)) {
+            (Returned { place: 0, count: 0, roads: 0, .. }, Ok(estimate)) => Ok(estimate),
+            _ => panic!("no estimate: {self:?}"),
+        }
+    }
+
+    fn trip(self) -> Result<Trip, Refusal> {
+        match self {
+            Returned { place: 0, total, count, roads, .. } => Ok(Trip { total, count, roads }),
+            _ => panic!("no trip: {self:?}"),
+        }
+    }
+}
+
+impl Calls for Unit {
+    fn set(&mut self, road: u32, time: Time) -> Result<(), Refusal> {
+        let returned = lend!(unit_set(
+            self.header;
+            self.card => as_ptr,
+            self.ranks => as_ptr,
+            self.pairs => as_ptr,
+            self.live => as_mut_ptr,
+            self.down => as_ptr,
+            self.estimates => as_ptr,
+            self.elapsed => as_ptr;
+            road,
+            time
+        ));
+        self.hand_back(returned)?.done()
+    }
+
+    fn aim(&mut self, junction: u32) -> Result<(), Refusal> {
+        let returned = lend!(unit_aim(
+            self.header;
+            self.card => as_ptr,
+            self.ranks => as_ptr,
+            self.pairs => as_ptr,
+            self.live => as_ptr,
+            self.down => as_mut_ptr,
+            self.estimates => as_mut_ptr,
+            self.elapsed => as_ptr;
+            junction
+        ));
+        self.hand_back(returned)?.done()
+    }
+
+    fn estimate(&mut self, junction: u32) -> Result<Time, Refusal> {
+        let returned = lend!(unit_estimate(
+            self.header;
+            self.card => as_ptr,
+            self.ranks => as_ptr,
+            self.pairs => as_ptr,
+            self.live => as_ptr,
+            self.down => as_ptr,
+            self.estimates => as_mut_ptr,
+            self.elapsed => as_ptr;
+            junction
+        ));
+        self.hand_back(returned)?.estimate()
+    }
+
+    fn go(&mut self, start: u32, route: &mut [u32], log: &mut [u32]) -> Result<Trip, Refusal> {
+        let returned = lend!(unit_go(
+            self.header;
+            self.card => as_ptr,
+            self.ranks => as_ptr,
+            self.pairs => as_ptr,
+            self.live => as_ptr,
+            self.down => as_ptr,
+            self.estimates => as_mut_ptr,
+            self.elapsed => as_mut_ptr,
+            route => as_mut_ptr,
+            log => as_mut_ptr;
+            start
+        ));
+        self.hand_back(returned)?.trip()
     }
 }

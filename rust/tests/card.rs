@@ -1,6 +1,7 @@
 //! The proved reader and writer of cards beside the plain ones, and both beside known answers.
 
-use harness::card::{self, Refusal, LONGEST, MOST_JUNCTIONS, MOST_ROADS};
+use harness::calls::Refusal;
+use harness::card::{self, LONGEST, MOST_JUNCTIONS, MOST_ROADS};
 use harness::damage::{CardDamage, Lent, MapDamage};
 use harness::maps::{self, Map, Streets};
 use harness::random::Random;
@@ -115,7 +116,7 @@ fn shorter_than_the_table() {
             assert_eq!(read(bytes), Err(Refusal::Short), "{len} bytes");
         }
     }
-    assert_eq!(read(&card[..28]), Err(Refusal::Bounds));
+    assert_eq!(read(&card[..28]), Err(Refusal::Starts));
     assert_eq!(read(&[0; 28]), Err(Refusal::Kinds));
 }
 
@@ -145,7 +146,7 @@ const KINDS: &[Case] = &[
     }),
 ];
 
-const BOUNDS: &[Case] = &[
+const STARTS: &[Case] = &[
     ("first start 0", |p| p.table[2] = 0),
     ("first start 27", |p| p.table[2] = 27),
     ("first start 29", |p| p.table[2] = 29),
@@ -200,8 +201,8 @@ const fn minus(by: u32) -> u32 {
 }
 
 #[test]
-fn kinds_and_bounds() {
-    for (cases, want) in [(KINDS, Refusal::Kinds), (BOUNDS, Refusal::Bounds)] {
+fn kinds_and_starts() {
+    for (cases, want) in [(KINDS, Refusal::Kinds), (STARTS, Refusal::Starts)] {
         for (name, spoil) in cases {
             let mut parts = Parts::of_map_p();
             spoil(&mut parts);
@@ -223,7 +224,7 @@ fn lengths_of_the_bodies() {
                 && roads <= most[0]
                 && order % 4 == 0
                 && (4..=most[1]).contains(&order);
-            assert_eq!(answer != Err(Refusal::Lengths), fits, "{roads} and {order} bytes");
+            assert_eq!(answer != Err(Refusal::Sizes), fits, "{roads} and {order} bytes");
             tally.count(&answer);
         }
     }
@@ -240,26 +241,26 @@ fn to_and_fro(n: usize, m: usize) -> (Vec<u32>, Vec<u32>) {
 #[test]
 fn ends_of_the_ranges() {
     let (n, m) = (MOST_JUNCTIONS, MOST_ROADS);
-    let lengths = Err(Refusal::Lengths);
+    let sizes = Err(Refusal::Sizes);
     for (junctions, roads, want) in [
-        (0, 0, lengths),
-        (0, 1, lengths),
+        (0, 0, sizes),
+        (0, 1, sizes),
         (1, 0, Ok((1, 0))),
         (1, 1, Err(Refusal::Road(0))),
         (1, m, Err(Refusal::Road(0))),
         (2, 0, Ok((2, 0))),
         (2, 1, Ok((2, 1))),
         (2, m, Ok((2, m as u32))),
-        (2, m + 1, lengths),
+        (2, m + 1, sizes),
         (n, 0, Ok((n as u32, 0))),
         (n, m - 1, Ok((n as u32, m as u32 - 1))),
         (n, m, Ok((n as u32, m as u32))),
-        (n, m + 1, lengths),
-        (n + 1, 0, lengths),
-        (n + 1, m, lengths),
-        (n + 1, m + 1, lengths),
-        (1 << 20, 0, lengths),
-        (2, 1 << 20, lengths),
+        (n, m + 1, sizes),
+        (n + 1, 0, sizes),
+        (n + 1, m, sizes),
+        (n + 1, m + 1, sizes),
+        (1 << 20, 0, sizes),
+        (2, 1 << 20, sizes),
     ] {
         let (roads, order) = to_and_fro(junctions, roads);
         assert_eq!(
@@ -273,7 +274,7 @@ fn ends_of_the_ranges() {
         let (mut roads, order) = to_and_fro(n, m + 2);
         roads.truncate(words);
         let fits = words % 3 == 0 && words <= 3 * m;
-        let want = if fits { Ok((n as u32, words as u32 / 3)) } else { lengths };
+        let want = if fits { Ok((n as u32, words as u32 / 3)) } else { sizes };
         assert_eq!(read_and_write(&roads, &order), want, "{words} road words");
     }
 }
@@ -447,7 +448,7 @@ fn areas_of_another_length() {
             right + 65_536,
         ] {
             let answer = write(&roads, &order, len);
-            assert_eq!(answer, Err(Refusal::Area), "{len} bytes for {right}");
+            assert_eq!(answer, Err(Refusal::AreaLengths), "{len} bytes for {right}");
             tally.count(&answer);
         }
     }
@@ -461,14 +462,14 @@ fn lengths_past_32_bits() {
     card[..28]
         .copy_from_slice(&Parts { table: [2, 1, 28, 0, 2, 28, minus(28)], bodies: vec![] }.card());
     for read in [unit::read, card::read] {
-        assert_eq!(read(&card), Err(Refusal::Bounds));
+        assert_eq!(read(&card), Err(Refusal::Starts));
     }
     drop(card);
     // 4 bytes a word make 8 bytes of roads or 4 of order, if the product wraps.
     let words = vec![0; (1 << 30) + 2];
     for write in [unit::write, card::write] {
-        assert_eq!(write(&words, &[0], &mut [0; 40]), Err(Refusal::Lengths));
-        assert_eq!(write(&[], &words[1..], &mut [0; 32]), Err(Refusal::Lengths));
+        assert_eq!(write(&words, &[0], &mut [0; 40]), Err(Refusal::Sizes));
+        assert_eq!(write(&[], &words[1..], &mut [0; 32]), Err(Refusal::Sizes));
     }
 }
 

@@ -1,0 +1,131 @@
+//! The proved unit beside the plain router: each call is made on both, and the answers, the header and
+//! every word of every area are compared.
+
+use crate::calls::{Accepted, Answer, Call, Calls, Refusal};
+use crate::machine::Reply;
+use crate::maps::Map;
+use crate::router::Router;
+use crate::unit::{Area, Header, Unit};
+use std::panic::resume_unwind;
+use std::sync::mpsc::{self, RecvTimeoutError};
+use std::thread;
+use std::time::Duration;
+
+#[derive(Clone, Debug)]
+pub struct Both {
+    pub unit: Unit,
+    pub router: Router,
+    card: Vec<u8>,
+    /// What the areas of ranks and of pairs are to hold throughout.
+    ranks: Vec<u32>,
+    pairs: Vec<u32>,
+}
+
+impl Both {
+    /// Prepares the card of a map by both, with room for so many pairs.
+    pub fn prepare(map: &Map, room: usize) -> Result<Both, Refusal> {
+        let card = map.card().expect("a map that a card can hold");
+        let unit = Unit::new(&card, map.n(), map.m(), room);
+        Both::prepare_on(unit)
+    }
+
+    /// Prepares a unit's card by both, on the unit's areas, which have their lengths.
+    pub fn prepare_on(mut unit: Unit) -> Result<Both, Refusal> {
+        let card = unit.card.clone();
+        let router = Router::new(&card, unit.pairs.len() / 4);
+        let answer = unit.prepare();
+        assert_eq!(answer.err(), router.as_ref().err().copied(), "proved (left), plain (right)");
+        assert!(unit.card == card, "preparing alters no byte of the card");
+        let router = router.inspect_err(|&refusal| {
+            assert_eq!(unit.header, Header::default());
+            let zeros = |area: &Area| area.iter().all(|&word| word == 0);
+            let zeroed = unit.areas().iter().all(|(_, area)| zeros(area));
+            assert!(refusal != Refusal::Room || zeroed, "8 fills every area with 0");
+        })?;
+        let mut pairs = router.hierarchy.records().concat();
+        pairs.resize(unit.pairs.len(), 0);
+        let both = Both { card, ranks: router.hierarchy.ranks().to_vec(), pairs, unit, router };
+        both.check();
+        Ok(both)
+    }
+
+    /// Makes a call on both, which answer and leave the same.
+    pub fn call(&mut self, call: Call) -> Reply {
+        let (mut route, mut log) = match call {
+            Call::Go { route, log, .. } => (Area::new(route), Area::new(log)),
+            _ => (Area::new(0), Area::new(0)),
+        };
+        let (mut plain_route, mut plain_log) = (route.clone(), log.clone());
+        let answer = self.unit.call(call, &mut route, &mut log);
+        let want = self.router.call(call, &mut plain_route, &mut plain_log);
+        assert_eq!(answer, want, "{call:?}: proved (left), plain (right)");
+        // The plain one writes the route and the log and nothing else.
+        same("the route area", &route, &plain_route);
+        same("the log area", &log, &plain_log);
+        assert!(route.guarded() && log.guarded(), "guard words altered");
+        self.check();
+        let (roads, count) = lengths(answer);
+        Reply { answer, route: route[..roads].to_vec(), log: log[..count].to_vec() }
+    }
+
+    /// Header, areas and card are as they are to be.
+    pub fn check(&self) {
+        let (unit, router) = (&self.unit, &self.router);
+        let header = Header {
+            n: self.ranks.len() as u32,
+            m: router.live.len() as u32,
+            pairs: router.hierarchy.pairs() as u32,
+            aimed: router.target.is_some() as u32,
+            target: router.target.unwrap_or(0),
+        };
+        assert_eq!(unit.header, header, "proved (left), plain (right)");
+        assert!(unit.card == self.card, "no call alters the card");
+        let want: [&[u32]; 6] = [
+            &self.ranks,
+            &self.pairs,
+            &router.live,
+            &router.down,
+            &router.estimates,
+            &router.elapsed,
+        ];
+        for ((name, area), want) in unit.areas().into_iter().zip(want) {
+            same(name, area, want);
+        }
+    }
+}
+
+/// The number of roads in the route area, and of junctions in the log area.
+fn lengths(answer: Answer) -> (usize, usize) {
+    match answer {
+        Ok(Accepted::Trip(trip)) => (trip.roads as usize, trip.count as usize),
+        Err(Refusal::NoPath(count)) => (0, count as usize),
+        _ => (0, 0),
+    }
+}
+
+/// Two areas are the same, word by word.
+pub fn same(name: &str, area: &[u32], want: &[u32]) {
+    if area != want {
+        assert_eq!(area.len(), want.len(), "{name}: the lengths differ");
+        let place = area.iter().zip(want).position(|(word, want)| word != want);
+        let place = place.expect("a word that differs");
+        panic!("{name}: {} in place {place}, not {}", area[place], want[place]);
+    }
+}
+
+/// Runs a test with more stack than a test's thread has, since an estimate may ask for 4,095 others, one
+/// within the other; and fails if it has not ended after two minutes.
+pub fn with_stack(test: impl FnOnce() + Send + 'static) {
+    let (sender, receiver) = mpsc::channel::<()>();
+    let test = move || {
+        let _sender = sender;
+        test()
+    };
+    let thread = thread::Builder::new().stack_size(16 << 20).spawn(test).expect("a thread");
+    // Nothing is sent: the sender is dropped when the test ends.
+    let ended = receiver.recv_timeout(Duration::from_secs(120));
+    assert_eq!(ended, Err(RecvTimeoutError::Disconnected), "the test does not end");
+    if let Err(panic) = thread.join() {
+        resume_unwind(panic);
+    }
+}

@@ -1,0 +1,129 @@
+//! The calls of the unit and what they answer, in document 01's terms.
+
+use crate::time::Time;
+
+/// The question that refuses, under the names that `crates/network` has for them.
+#[derive(Clone, Copy, Debug, PartialEq, Eq)]
+pub enum Refusal {
+    /// 1: the card is shorter than its table of contents.
+    Short,
+    /// 2: it has another number of sections, or other kinds.
+    Kinds,
+    /// 3: the bodies do not follow the table one after the other, up to the card's end.
+    Starts,
+    /// 4: a body's length is out of range or no multiple of an entry's.
+    Sizes,
+    /// 5, with the first road that fails.
+    Road(u32),
+    /// 6, with the first place of the order that fails.
+    Place(u32),
+    /// 7: a lent area has another length than its own.
+    AreaLengths,
+    /// 8: the kept pairs do not fit.
+    Room,
+    /// 9: the card or an area has another length than the header calls for.
+    Lengths,
+    /// 10: the road is not below m.
+    NoRoad,
+    /// 11: the time is not allowed.
+    NotAllowed,
+    /// 12: the junction is not below n.
+    NoJunction,
+    /// 13: there is no target.
+    NoTarget,
+    /// 14: go's route or log area has fewer than n entries.
+    LentLengths,
+    /// 15: no chain of open roads exists. With the count.
+    NoPath(u32),
+}
+
+impl Refusal {
+    /// The question's number.
+    pub fn number(self) -> u32 {
+        match self {
+            Refusal::Short => 1,
+            Refusal::Kinds => 2,
+            Refusal::Starts => 3,
+            Refusal::Sizes => 4,
+            Refusal::Road(_) => 5,
+            Refusal::Place(_) => 6,
+            Refusal::AreaLengths => 7,
+            Refusal::Room => 8,
+            Refusal::Lengths => 9,
+            Refusal::NoRoad => 10,
+            Refusal::NotAllowed => 11,
+            Refusal::NoJunction => 12,
+            Refusal::NoTarget => 13,
+            Refusal::LentLengths => 14,
+            Refusal::NoPath(_) => 15,
+        }
+    }
+
+    /// The road or the place that fails, after 5 and 6.
+    pub fn place(self) -> Option<u32> {
+        match self {
+            Refusal::Road(place) | Refusal::Place(place) => Some(place),
+            _ => None,
+        }
+    }
+}
+
+/// Go's answer. The roads themselves and the log stand in the lent areas.
+#[derive(Clone, Copy, Debug, PartialEq, Eq)]
+pub struct Trip {
+    pub total: u64,
+    /// The number of logged junctions.
+    pub count: u32,
+    /// The number of roads.
+    pub roads: u32,
+}
+
+/// A call with its arguments.
+#[derive(Clone, Copy, Debug, PartialEq, Eq)]
+pub enum Call {
+    Set {
+        road: u32,
+        time: Time,
+    },
+    Aim {
+        junction: u32,
+    },
+    Estimate {
+        junction: u32,
+    },
+    /// With the lengths of the two areas that are lent.
+    Go {
+        start: u32,
+        route: usize,
+        log: usize,
+    },
+}
+
+/// What an accepted call answers.
+#[derive(Clone, Copy, Debug, PartialEq, Eq)]
+pub enum Accepted {
+    /// Of set and aim.
+    Done,
+    Estimate(Time),
+    Trip(Trip),
+}
+
+pub type Answer = Result<Accepted, Refusal>;
+
+/// Whatever can be called as the unit is.
+pub trait Calls {
+    fn set(&mut self, road: u32, time: Time) -> Result<(), Refusal>;
+    fn aim(&mut self, junction: u32) -> Result<(), Refusal>;
+    fn estimate(&mut self, junction: u32) -> Result<Time, Refusal>;
+    fn go(&mut self, start: u32, route: &mut [u32], log: &mut [u32]) -> Result<Trip, Refusal>;
+
+    /// Makes a call. A go is lent the two areas, which have the lengths that it says.
+    fn call(&mut self, call: Call, route: &mut [u32], log: &mut [u32]) -> Answer {
+        match call {
+            Call::Set { road, time } => self.set(road, time).map(|()| Accepted::Done),
+            Call::Aim { junction } => self.aim(junction).map(|()| Accepted::Done),
+            Call::Estimate { junction } => self.estimate(junction).map(Accepted::Estimate),
+            Call::Go { start, .. } => self.go(start, route, log).map(Accepted::Trip),
+        }
+    }
+}

@@ -1,0 +1,235 @@
+//! The plain machine that document 01 compares the unit with: a live time of its own for each road, and
+//! a target. It is fed the map, each call's arguments and the lengths of go's two areas.
+
+use crate::calls::{Accepted, Answer, Call, Refusal, Trip};
+use crate::card::LONGEST;
+use crate::dijkstra;
+use crate::graph::Graph;
+use crate::maps::Map;
+use crate::time::{Time, CLOSED, NONE};
+
+#[derive(Clone, Debug)]
+pub struct Machine<'a> {
+    map: &'a Map,
+    graph: Graph,
+    live: Vec<Time>,
+    target: Option<u32>,
+}
+
+/// An answer, and what stands first in go's two areas.
+#[derive(Clone, Debug, PartialEq, Eq)]
+pub struct Reply {
+    pub answer: Answer,
+    pub route: Vec<u32>,
+    pub log: Vec<u32>,
+}
+
+impl Machine<'_> {
+    pub fn new(map: &Map) -> Machine<'_> {
+        Machine { map, graph: Graph::new(map), live: map.base(), target: None }
+    }
+
+    pub fn answer(&mut self, call: Call) -> Reply {
+        let answer = match call {
+            Call::Set { road, time } => self.set(road, time).map(|()| Accepted::Done),
+            Call::Aim { junction } => self.aim(junction).map(|()| Accepted::Done),
+            Call::Estimate { junction } => self.estimate(junction).map(Accepted::Estimate),
+            Call::Go { start, route, log } => match self.go_refusal(start, route, log) {
+                Ok(target) => return self.go(start, target),
+                Err(refusal) => Err(refusal),
+            },
+        };
+        Reply { answer, route: Vec::new(), log: Vec::new() }
+    }
+
+    fn set(&mut self, road: u32, time: Time) -> Result<(), Refusal> {
+        let road = road as usize;
+        if road >= self.map.m() {
+            return Err(Refusal::NoRoad);
+        }
+        if time != CLOSED && (time < self.map.roads[road].base || time > LONGEST) {
+            return Err(Refusal::NotAllowed);
+        }
+        self.live[road] = time;
+        Ok(())
+    }
+
+    fn aim(&mut self, junction: u32) -> Result<(), Refusal> {
+        self.ask_junction(junction)?;
+        self.target = Some(junction);
+        Ok(())
+    }
+
+    fn estimate(&self, junction: u32) -> Result<Time, Refusal> {
+        self.ask_junction(junction)?;
+        let target = self.target.ok_or(Refusal::NoTarget)?;
+        Ok(self.estimates(target)[junction as usize])
+    }
+
+    /// Question 12.
+    fn ask_junction(&self, junction: u32) -> Result<(), Refusal> {
+        if junction as usize >= self.map.n() {
+            return Err(Refusal::NoJunction);
+        }
+        Ok(())
+    }
+
+    /// Questions 12 to 14; the target if they pass.
+    fn go_refusal(&self, start: u32, route: usize, log: usize) -> Result<u32, Refusal> {
+        self.ask_junction(start)?;
+        let target = self.target.ok_or(Refusal::NoTarget)?;
+        if route < self.map.n() || log < self.map.n() {
+            return Err(Refusal::LentLengths);
+        }
+        Ok(target)
+    }
+
+    /// The estimates that the machine would answer: least base totals over roads, open or closed.
+    fn estimates(&self, target: u32) -> Vec<Time> {
+        dijkstra::to(&self.graph, &self.map.base(), target)
+    }
+
+    fn go(&self, start: u32, target: u32) -> Reply {
+        let (log, times) = self.log(start, target);
+        let count = log.len() as u32;
+        if log.last() != Some(&target) {
+            return Reply { answer: Err(Refusal::NoPath(count)), route: Vec::new(), log };
+        }
+        let route = self.route(&log, &times);
+        let trip = Trip { total: times[log.len() - 1], count, roads: route.len() as u32 };
+        Reply { answer: Ok(Accepted::Trip(trip)), route, log }
+    }
+
+    /// The search log, and the time of each entry.
+    fn log(&self, start: u32, target: u32) -> (Vec<u32>, Vec<u64>) {
+        let estimates = self.estimates(target);
+        // Candidates' times, by junction; those of logged ones are taken away.
+        let mut candidates = vec![None; self.map.n()];
+        let mut logged = vec![false; self.map.n()];
+        let (mut log, mut times) = (Vec::new(), Vec::new());
+        if estimates[start as usize] != NONE {
+            candidates[start as usize] = Some(0);
+        }
+        while log.last() != Some(&target) {
+            let key = |((junction, time), &estimate): ((u32, &Option<u64>), &Time)| {
+                let time = (*time)?;
+                Some((time + u64::from(estimate), junction, time))
+            };
+            let keys = (0..).zip(&candidates).zip(&estimates).filter_map(key);
+            let Some((_, junction, time)) = keys.min() else { break };
+            candidates[junction as usize] = None;
+            logged[junction as usize] = true;
+            log.push(junction);
+            times.push(time);
+            for arc in self.graph.out.of(junction) {
+                let (live, head) = (self.live[arc.road as usize], arc.end as usize);
+                if live != CLOSED && !logged[head] && estimates[head] != NONE {
+                    let time = time + u64::from(live);
+                    candidates[head] = Some(candidates[head].map_or(time, |old| time.min(old)));
+                }
+            }
+        }
+        (log, times)
+    }
+
+    /// Back from the log's last entry: into each junction, the smallest-numbered open road from an
+    /// earlier logged one that gives its time.
+    fn route(&self, log: &[u32], times: &[u64]) -> Vec<u32> {
+        let mut places = vec![None; self.map.n()];
+        for (place, &junction) in log.iter().enumerate() {
+            places[junction as usize] = Some(place);
+        }
+        let mut route = Vec::new();
+        let mut place = log.len() - 1;
+        while place > 0 {
+            let earlier = |road: usize| {
+                let tail = places[self.map.roads[road].tail as usize]?;
+                let gives = self.live[road] != CLOSED
+                    && self.map.roads[road].head == log[place]
+                    && tail < place
+                    && times[tail] + u64::from(self.live[road]) == times[place];
+                gives.then_some((road, tail))
+            };
+            let (road, tail) = (0..self.map.m()).find_map(earlier).expect("a road gives the time");
+            route.push(road as u32);
+            place = tail;
+        }
+        route.reverse();
+        route
+    }
+}
+
+#[cfg(test)]
+mod tests {
+    use super::*;
+    use crate::calls::Calls;
+    use crate::maps;
+    use crate::random::Random;
+    use crate::router::Router;
+
+    /// Cases P3 to P10, each from a machine of map P.
+    #[test]
+    fn cases_of_map_p() {
+        let map = maps::map_p();
+        let run = |calls: &[Call]| {
+            let mut machine = Machine::new(&map);
+            let replies: Vec<Reply> = calls.iter().map(|&call| machine.answer(call)).collect();
+            replies.into_iter().last().unwrap()
+        };
+        let aim = |junction| Call::Aim { junction };
+        let set = |road, time| Call::Set { road, time };
+        let go = |start| Call::Go { start, route: 4, log: 4 };
+        let trip = |total, route: &[u32], log: &[u32]| {
+            let (count, roads) = (log.len() as u32, route.len() as u32);
+            let answer = Ok(Accepted::Trip(Trip { total, count, roads }));
+            Reply { answer, route: route.to_vec(), log: log.to_vec() }
+        };
+        for (junction, estimate) in [(0, 20), (1, 10), (2, 10), (3, 0)] {
+            let answer = run(&[aim(3), Call::Estimate { junction }]).answer;
+            assert_eq!(answer, Ok(Accepted::Estimate(estimate)));
+        }
+        let answer = run(&[aim(1), Call::Estimate { junction: 3 }]).answer;
+        assert_eq!(answer, Ok(Accepted::Estimate(30)));
+        assert_eq!(run(&[aim(3), go(0)]), trip(20, &[0, 1], &[0, 1, 3]));
+        assert_eq!(run(&[aim(3), set(1, CLOSED), go(0)]), trip(25, &[2, 3], &[0, 1, 2, 3]));
+        assert_eq!(run(&[aim(3), set(1, 15), go(0)]), trip(25, &[0, 1], &[0, 1, 2, 3]));
+        assert_eq!(run(&[aim(3), go(3)]), trip(0, &[], &[3]));
+        assert_eq!(run(&[set(0, 9)]).answer, Err(Refusal::NotAllowed));
+        assert_eq!(run(&[set(0, 10)]).answer, Ok(Accepted::Done));
+        assert_eq!(run(&[set(0, 1_000_001)]).answer, Err(Refusal::NotAllowed));
+        let lost = run(&[aim(3), set(1, CLOSED), set(2, CLOSED), go(0)]);
+        assert_eq!((lost.answer, &lost.log[..]), (Err(Refusal::NoPath(2)), &[0, 1][..]));
+    }
+
+    #[test]
+    fn as_the_router_answers() {
+        let mut random = Random::new(1);
+        let (mut accepted, mut refused) = (0, 0);
+        for _ in 0..2_000 {
+            let map = maps::small(&mut random);
+            let n = map.n();
+            let mut machine = Machine::new(&map);
+            let mut router = Router::new(&map.card().unwrap(), usize::MAX).unwrap();
+            for _ in 0..20 {
+                let junction = random.below(n + 1) as u32;
+                let call = match random.below(4) {
+                    0 => {
+                        let time = random.pick(&[1, 3, 12, LONGEST, LONGEST + 1, CLOSED]);
+                        Call::Set { road: random.below(map.m() + 1) as u32, time }
+                    }
+                    1 => Call::Aim { junction },
+                    2 => Call::Estimate { junction },
+                    _ => Call::Go { start: junction, route: n, log: n - random.below(8) / 7 },
+                };
+                let (mut route, mut log) = (vec![NONE; n], vec![NONE; n]);
+                let log_len = if let Call::Go { log, .. } = call { log } else { n };
+                let answer = router.call(call, &mut route, &mut log[..log_len]);
+                let reply = machine.answer(call);
+                assert_eq!(answer, reply.answer);
+                assert!(route.starts_with(&reply.route) && log.starts_with(&reply.log));
+                *if answer.is_ok() { &mut accepted } else { &mut refused } += 1;
+            }
+        }
+        assert!(accepted > 15_000 && refused > 10_000, "{accepted} accepted, {refused} refused");
+    }
+}

@@ -1,0 +1,90 @@
+//! The unit as one would write it in plain Rust: the same algorithms, over structures of its own.
+
+use crate::calls::{Calls, Refusal, Trip};
+use crate::card::{self, LONGEST};
+use crate::graph::Graph;
+use crate::hierarchy::Hierarchy;
+use crate::maps::Map;
+use crate::search;
+use crate::time::{Time, CLOSED, NONE, UNASKED};
+
+#[derive(Clone, Debug)]
+pub struct Router {
+    graph: Graph,
+    pub hierarchy: Hierarchy,
+    base: Vec<Time>,
+    pub live: Vec<Time>,
+    pub target: Option<u32>,
+    pub down: Vec<Time>,
+    pub estimates: Vec<Time>,
+    pub elapsed: Vec<Time>,
+}
+
+impl Router {
+    /// Questions 1 to 6 and 8: prepares a card, with room for so many pairs.
+    pub fn new(card: &[u8], room: usize) -> Result<Router, Refusal> {
+        let (roads, order) = card::map(card)?;
+        let map = Map::of_rows(&roads, order);
+        let n = map.n();
+        Ok(Router {
+            hierarchy: Hierarchy::within(&map, room).ok_or(Refusal::Room)?,
+            graph: Graph::new(&map),
+            base: map.base(),
+            live: map.base(),
+            target: None,
+            down: vec![NONE; n],
+            estimates: vec![UNASKED; n],
+            elapsed: vec![NONE; n],
+        })
+    }
+
+    fn check_junction(&self, junction: u32) -> Result<(), Refusal> {
+        if (junction as usize) < self.graph.n() {
+            Ok(())
+        } else {
+            Err(Refusal::NoJunction)
+        }
+    }
+}
+
+impl Calls for Router {
+    fn set(&mut self, road: u32, time: Time) -> Result<(), Refusal> {
+        let base = *self.base.get(road as usize).ok_or(Refusal::NoRoad)?;
+        if time != CLOSED && !(base..=LONGEST).contains(&time) {
+            return Err(Refusal::NotAllowed);
+        }
+        self.live[road as usize] = time;
+        Ok(())
+    }
+
+    fn aim(&mut self, junction: u32) -> Result<(), Refusal> {
+        self.check_junction(junction)?;
+        self.target = Some(junction);
+        self.down = self.hierarchy.down_totals(junction);
+        self.estimates.fill(UNASKED);
+        Ok(())
+    }
+
+    fn estimate(&mut self, junction: u32) -> Result<Time, Refusal> {
+        self.check_junction(junction)?;
+        self.target.ok_or(Refusal::NoTarget)?;
+        Ok(self.hierarchy.estimate(&self.down, &mut self.estimates, junction))
+    }
+
+    fn go(&mut self, start: u32, route: &mut [u32], log: &mut [u32]) -> Result<Trip, Refusal> {
+        self.check_junction(start)?;
+        let target = self.target.ok_or(Refusal::NoTarget)?;
+        if route.len().min(log.len()) < self.graph.n() {
+            return Err(Refusal::LentLengths);
+        }
+        let search = search::search(&self.graph, &self.live, start, target, |junction| {
+            self.hierarchy.estimate(&self.down, &mut self.estimates, junction)
+        });
+        self.elapsed = search.elapsed;
+        log[..search.log.len()].copy_from_slice(&search.log);
+        let count = search.log.len() as u32;
+        let (total, roads) = search.found.ok_or(Refusal::NoPath(count))?;
+        route[..roads.len()].copy_from_slice(&roads);
+        Ok(Trip { total: total.into(), count, roads: roads.len() as u32 })
+    }
+}

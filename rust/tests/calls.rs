@@ -1,0 +1,354 @@
+//! Lists of random calls on the proved unit, beside document 01's plain machine and the plain router.
+//!
+//! A list of any seed and length by hand, from the repository's root:
+//!
+//! ```text
+//! CALLS_SEED=7 CALLS_LENGTH=1000000 cargo test --offline --manifest-path rust/Cargo.toml --target-dir target/cargo --test calls lists
+//! ```
+
+use harness::both::{with_stack, Both};
+use harness::calls::{Accepted, Answer, Call, Calls, Refusal};
+use harness::card::{LONGEST, MOST_JUNCTIONS, MOST_ROADS};
+use harness::machine::Machine;
+use harness::maps::{self, Map, Streets};
+use harness::order::{self, MOST_PAIRS};
+use harness::random::Random;
+use harness::time::{Time, CLOSED, NONE, UNASKED};
+use harness::unit::{Area, Unit};
+use std::env;
+
+/// A number from the environment.
+fn setting(name: &str, default: usize) -> usize {
+    env::var(name).map_or(default, |value| value.parse().expect("a number"))
+}
+
+/// How often each call was answered with each number, 0 for accepted, and estimates with none.
+#[derive(Debug, Default)]
+struct Tally {
+    set: [usize; 16],
+    aim: [usize; 16],
+    estimate: [usize; 16],
+    go: [usize; 16],
+    none: usize,
+}
+
+impl Tally {
+    fn count(&mut self, call: Call, answer: Answer) {
+        let met = match call {
+            Call::Set { .. } => &mut self.set,
+            Call::Aim { .. } => &mut self.aim,
+            Call::Estimate { .. } => &mut self.estimate,
+            Call::Go { .. } => &mut self.go,
+        };
+        met[answer.map_or_else(|refusal| refusal.number() as usize, |_| 0)] += 1;
+        self.none += (answer == Ok(Accepted::Estimate(NONE))) as usize;
+    }
+
+    fn calls(&self) -> usize {
+        [self.set, self.aim, self.estimate, self.go].iter().flatten().sum()
+    }
+
+    /// Each answer that a call can have was met at least so often.
+    fn at_least(&self, least: usize) {
+        let met = |met: &[usize; 16], numbers: &[usize]| numbers.iter().all(|&i| met[i] >= least);
+        assert!(
+            met(&self.set, &[0, 9, 10, 11])
+                && met(&self.aim, &[0, 9, 12])
+                && met(&self.estimate, &[0, 9, 12, 13])
+                && met(&self.go, &[0, 9, 12, 13, 14, 15])
+                && self.none >= least,
+            "too few of one kind: {self:?}"
+        );
+    }
+}
+
+/// A number below `n`, or now and then one that is not.
+fn number(random: &mut Random, n: usize) -> u32 {
+    if n == 0 || random.chance(4) {
+        let n = n as u32;
+        let word = random.word();
+        return random.pick(&[n, n + 1, n + 256, n + 65_536, u32::MAX, u32::MAX - 1, word]).max(n);
+    }
+    random.below(n) as u32
+}
+
+/// A time for a road: often an allowed one.
+fn time(random: &mut Random, base: Time) -> Time {
+    match random.below(20) {
+        0 => base - 1,
+        1 => random.pick(&[0, 1, LONGEST + 1, UNASKED, CLOSED - 2, 1 << 31]),
+        2 => random.word(),
+        3 => LONGEST,
+        4..9 => CLOSED,
+        9..13 => base,
+        _ => LONGEST.min(base + random.within(0..=base)),
+    }
+}
+
+/// A length for an area that is to have at least n entries.
+fn lent(random: &mut Random, n: usize) -> usize {
+    match random.below(40) {
+        0 => n - 1,
+        1 => random.below(n),
+        2..10 => n + random.below(40),
+        _ => n,
+    }
+}
+
+fn random_call(random: &mut Random, map: &Map) -> Call {
+    let n = map.n();
+    match random.below(100) {
+        0..40 => {
+            let road = number(random, map.m());
+            let base = map.roads.get(road as usize).map_or(1, |road| road.base);
+            Call::Set { road, time: time(random, base) }
+        }
+        40..50 => Call::Aim { junction: number(random, n) },
+        50..70 => Call::Estimate { junction: number(random, n) },
+        _ => Call::Go { start: number(random, n), route: lent(random, n), log: lent(random, n) },
+    }
+}
+
+/// Another length for one of the unit's areas, or for the card.
+fn wrong_length(random: &mut Random, unit: &mut Unit) {
+    let which = random.below(7);
+    if which == 6 {
+        let len = unit.card.len();
+        let other = random.pick(&[0, 28, len - 4, len - 1, len + 1, len + 4, 2 * len]);
+        unit.card.resize(if other == len { len + 12 } else { other }, 0);
+        return;
+    }
+    let least = 4 * unit.header.pairs as usize;
+    let area = unit.areas_mut().into_iter().nth(which).expect("six areas");
+    let len = area.len();
+    area.resize(match which {
+        1 if least > 0 && random.chance(50) => random.pick(&[0, least - 4, least - 1]),
+        1 => random.pick(&[len + 1, len + 2, len + 3, 4 * MOST_PAIRS + 4, 4 * MOST_PAIRS + 1]),
+        _ if len > 0 && random.chance(50) => random.pick(&[0, len / 2, len - 1]),
+        _ => random.pick(&[len + 1, len + 4, 2 * len + 1]),
+    });
+}
+
+/// Question 9: the call is refused, and nothing is altered.
+fn refused_lengths(unit: &mut Unit, call: Call) -> Answer {
+    let before = unit.clone();
+    let (mut route, mut log) = lent_areas(call);
+    let answer = unit.call(call, &mut route, &mut log);
+    assert_eq!(answer, Err(Refusal::Lengths), "{call:?}");
+    assert!(*unit == before, "{call:?} with wrong lengths alters the unit");
+    assert!((route, log) == lent_areas(call), "{call:?} with wrong lengths alters a lent area");
+    answer
+}
+
+fn lent_areas(call: Call) -> (Area, Area) {
+    match call {
+        Call::Go { route, log, .. } => (Area::new(route), Area::new(log)),
+        _ => (Area::new(0), Area::new(0)),
+    }
+}
+
+/// Prepares a map and makes a list of calls. Every answer, route and log is the machine's; the header
+/// and every area after every call, the plain router's. Some calls get a card or an area of a wrong
+/// length, some lists begin anew on the areas as they are.
+fn run_list(random: &mut Random, map: &Map, calls: usize, tally: &mut Tally) {
+    let pairs = order::pairs(map);
+    let room = random.pick(&[pairs, pairs + 1, pairs + 100, MOST_PAIRS]).min(MOST_PAIRS);
+    let mut both = Both::prepare(map, room).unwrap();
+    let mut machine = Machine::new(map);
+    for _ in 0..calls {
+        let call = random_call(random, map);
+        if random.chance(3) {
+            let mut unit = both.unit.clone();
+            wrong_length(random, &mut unit);
+            tally.count(call, refused_lengths(&mut unit, call));
+            continue;
+        }
+        if random.below(400) == 0 {
+            both = Both::prepare_on(both.unit).unwrap();
+            machine = Machine::new(map);
+        }
+        let reply = both.call(call);
+        assert_eq!(reply, machine.answer(call), "{call:?}: proved (left), machine (right)");
+        tally.count(call, reply.answer);
+    }
+}
+
+/// A map of up to `most` junctions whose pairs fit.
+fn random_map(random: &mut Random, most: usize) -> Map {
+    loop {
+        let n = 1 + random.below(most);
+        let side = 1 + random.below((most as f64).sqrt() as usize);
+        let map = match random.below(8) {
+            0 => maps::even_grid(random, side, n.div_ceil(side).min(most / side)),
+            1 => maps::line(n),
+            2 => maps::ring(n.max(2)),
+            3 => maps::star(n),
+            4 => maps::small(random),
+            5 => {
+                let m = (n + random.below(n)).min(MOST_ROADS);
+                let longest = random.pick(&[1, 60, LONGEST]);
+                let mut map = maps::random(random, n, m, longest);
+                map.order = order::least_degree(map.n(), &map.roads);
+                map
+            }
+            _ => {
+                let streets = random.pick(&[Streets::USUAL, Streets::DENSE]);
+                maps::town(random, side, n.div_ceil(side).min(most / side), streets)
+            }
+        };
+        if order::pairs(&map) <= MOST_PAIRS {
+            return map;
+        }
+    }
+}
+
+/// Most of the calls on maps of a few junctions, the rest on larger ones, up to the largest.
+#[test]
+fn lists() {
+    with_stack(|| {
+        let seed = setting("CALLS_SEED", 1);
+        let length = setting("CALLS_LENGTH", 200_000);
+        let mut random = Random::new(seed as u64);
+        let mut tally = Tally::default();
+        while tally.calls() < length {
+            let (most, calls) = match random.below(200) {
+                0 => (MOST_JUNCTIONS, 100),
+                1..5 => (1_000, 200),
+                5..30 => (200, 200),
+                _ => (12, 60),
+            };
+            let map = random_map(&mut random, most);
+            run_list(&mut random, &map, calls, &mut tally);
+        }
+        tally.at_least(length / 1_000);
+    });
+}
+
+#[test]
+fn lists_on_the_largest_maps() {
+    with_stack(|| {
+        let mut random = Random::new(2);
+        let n = MOST_JUNCTIONS;
+        let mut tally = Tally::default();
+        for (map, calls) in [
+            (maps::town(&mut random, 64, 64, Streets::USUAL), 1_000),
+            (maps::largest_town(&mut random), 1_000),
+            (maps::even_grid(&mut random, 60, 60), 500),
+            (maps::line(n), 50),
+            (maps::star(n), 300),
+            (maps::ring(n), 50),
+            (maps::ring_with_bypass(n), 50),
+            (maps::random(&mut random, n, 0, 1), 100),
+            (maps::random(&mut random, 2, MOST_ROADS, LONGEST), 500),
+            (maps::random(&mut random, 1, 0, 1), 500),
+        ] {
+            run_list(&mut random, &map, calls, &mut tally);
+        }
+        tally.at_least(5);
+    });
+}
+
+/// Changes to lengths, each of which question 9 refuses, by the call's header.
+fn wrong_lengths(unit: &Unit) -> Vec<(&'static str, Unit)> {
+    let mut units = Vec::new();
+    let len = unit.card.len();
+    for other in [0, 27, 28, len - 12, len - 4, len - 1, len + 1, len + 4, len + 12, 2 * len] {
+        let mut unit = unit.clone();
+        unit.card.resize(other, 0);
+        units.push(("card", unit));
+    }
+    let pairs = 4 * unit.header.pairs as usize;
+    let most = 4 * MOST_PAIRS;
+    for (which, (name, area)) in unit.areas().into_iter().enumerate() {
+        let len = area.len();
+        let others = match which {
+            1 => [0, pairs - 4, pairs - 1, pairs + 1, pairs + 2, pairs + 3, most - 1, most + 4],
+            _ => [0, len / 2, len - 1, len + 1, len + 2, len + 4, 2 * len, len + 65_536],
+        };
+        for other in others {
+            let mut unit = unit.clone();
+            unit.areas_mut()[which].resize(other);
+            units.push((name, unit));
+        }
+    }
+    units
+}
+
+/// Question 9 by each length in turn, with arguments that pass the later questions and with others,
+/// with a target and without.
+#[test]
+fn wrong_lengths_are_refused_first() {
+    let mut random = Random::new(3);
+    let mut refusals = 0;
+    for map in [
+        maps::map_p(),
+        maps::random(&mut random, 9, 20, 7),
+        maps::town(&mut random, 20, 20, Streets::USUAL),
+    ] {
+        let mut both = Both::prepare(&map, order::pairs(&map)).unwrap();
+        for _ in 0..2 {
+            for (_, mut unit) in wrong_lengths(&both.unit) {
+                let n = map.n();
+                for [road, junction, entries] in [[0, 0, n], [map.m(), n, n - 1]] {
+                    let (road, junction) = (road as u32, junction as u32);
+                    for call in [
+                        Call::Set { road, time: CLOSED },
+                        Call::Set { road, time: 0 },
+                        Call::Aim { junction },
+                        Call::Estimate { junction },
+                        Call::Go { start: junction, route: entries, log: entries },
+                    ] {
+                        refused_lengths(&mut unit, call).unwrap_err();
+                        refusals += 1;
+                    }
+                }
+            }
+            both.call(Call::Aim { junction: 1 });
+        }
+    }
+    assert_eq!(refusals, 3 * 2 * (10 + 6 * 8) * 2 * 5);
+}
+
+/// A refused preparing of a card without a body leaves a header of zeros, which that card and empty areas
+/// fit: the plain questions answer.
+#[test]
+fn after_a_refused_preparing() {
+    for room in [0, 1, MOST_PAIRS] {
+        let mut unit = Unit::new(&[0; 28], 0, 0, room);
+        assert_eq!(unit.prepare(), Err(Refusal::Kinds));
+        let before = unit.clone();
+        for argument in [0, 1, u32::MAX] {
+            assert_eq!(unit.set(argument, CLOSED), Err(Refusal::NoRoad));
+            assert_eq!(unit.aim(argument), Err(Refusal::NoJunction));
+            assert_eq!(unit.estimate(argument), Err(Refusal::NoJunction));
+            assert_eq!(unit.go(argument, &mut [], &mut []), Err(Refusal::NoJunction));
+        }
+        assert!(unit == before, "a refused call alters the unit");
+    }
+}
+
+/// Case P9, and the ends of the range of allowed times for each road.
+#[test]
+fn allowed_times() {
+    let mut both = Both::prepare(&maps::map_p(), 5).unwrap();
+    for (road, base) in (0..).zip(maps::map_p().base()) {
+        for (time, allowed) in [
+            (0, false),
+            (base - 1, false),
+            (base, true),
+            (base + 1, true),
+            (LONGEST, true),
+            (LONGEST + 1, false),
+            (1 << 31, false),
+            (CLOSED - 2, false),
+            (UNASKED, false),
+            (CLOSED, true),
+        ] {
+            let want = if allowed { Ok(Accepted::Done) } else { Err(Refusal::NotAllowed) };
+            assert_eq!(both.call(Call::Set { road, time }).answer, want, "road {road} to {time}");
+        }
+    }
+    assert_eq!(both.unit.live[..], [CLOSED; 5]);
+    let reply = both.call(Call::Set { road: 5, time: CLOSED });
+    assert_eq!(reply.answer, Err(Refusal::NoRoad));
+}

@@ -1,0 +1,316 @@
+//! Calls on states that no list of calls leaves: areas, headers and cards of right lengths and any
+//! contents. The answer is free, but the call ends, writes only in the areas that it is lent to write, and
+//! hands the header back as it was, but for the target after an aim.
+
+use harness::both::with_stack;
+use harness::calls::{Call, Calls, Refusal};
+use harness::card::{self, LONGEST, MOST_JUNCTIONS, MOST_ROADS};
+use harness::damage::CardDamage;
+use harness::maps::{self, Streets};
+use harness::order::{self, MOST_PAIRS};
+use harness::random::Random;
+use harness::time::{CLOSED, NONE, UNASKED};
+use harness::unit::{Area, Header, Unit};
+
+/// What the words of an area are taken from.
+#[derive(Clone, Copy, Debug)]
+enum Words {
+    Any,
+    /// Below n, or n itself.
+    Small,
+    /// Times and marks.
+    Times,
+    /// A row of 0, 1, 2 ..
+    Ascending,
+    Zero,
+    Unasked,
+}
+
+impl Words {
+    const ALL: [Words; 6] =
+        [Words::Any, Words::Small, Words::Times, Words::Ascending, Words::Zero, Words::Unasked];
+
+    fn word(self, random: &mut Random, place: usize, n: usize) -> u32 {
+        let times = [0, 1, LONGEST, 1 << 31, UNASKED - LONGEST, UNASKED - 1, UNASKED, NONE];
+        match self {
+            Words::Any => random.word(),
+            Words::Small => random.below(n + 1) as u32,
+            Words::Times => random.pick(&times),
+            Words::Ascending => place as u32,
+            Words::Zero => 0,
+            Words::Unasked => UNASKED,
+        }
+    }
+}
+
+fn noise(random: &mut Random, area: &mut [u32], n: usize) {
+    let words = random.pick(&Words::ALL);
+    for (place, word) in area.iter_mut().enumerate() {
+        *word = words.word(random, place, n);
+    }
+}
+
+/// Records that mostly lead upwards, with any times: long walks.
+fn records(random: &mut Random, area: &mut [u32], n: usize) {
+    let count = area.len() / 4;
+    for (i, record) in area.as_chunks_mut().0.iter_mut().enumerate() {
+        let low = i * n / count;
+        let high = low + 1 + random.below(3);
+        let times = [0, 1, LONGEST, UNASKED - 1, UNASKED, NONE];
+        *record = [low as u32, high as u32, random.pick(&times), random.pick(&times)];
+    }
+}
+
+/// A size up to `most`: small, large or the largest.
+fn size(random: &mut Random, most: usize) -> usize {
+    match random.below(20) {
+        0 => most,
+        1 => random.below(most + 1),
+        2..8 => random.below(most.min(300) + 1),
+        _ => random.below(12),
+    }
+}
+
+/// A header, areas and a card that fit each other in length alone.
+fn forge(random: &mut Random) -> Unit {
+    let [n, m, room] = [MOST_JUNCTIONS, MOST_ROADS, MOST_PAIRS].map(|most| size(random, most));
+    let bytes: Vec<u8> = match random.below(3) {
+        0 => (0..card::len(n, m)).map(|_| random.word() as u8).collect(),
+        1 => (0..card::len(n, m) / 4).flat_map(|_| number(random, n).to_le_bytes()).collect(),
+        _ => {
+            let m = if n < 2 { 0 } else { m };
+            let card = maps::random(random, n.max(1), m, LONGEST).card().expect("a map in range");
+            let mut card = card[..card::len(n, m).min(card.len())].to_vec();
+            card.resize(card::len(n, m), 0);
+            card
+        }
+    };
+    let m = (bytes.len() - card::len(n, 0)) / 12;
+    let mut unit = Unit::new(&bytes, n, m, room);
+    for area in unit.areas_mut() {
+        noise(random, area, n);
+    }
+    if random.chance(50) {
+        records(random, &mut unit.pairs, n);
+    }
+    unit.header = Header { n: n as u32, m: m as u32, ..header(random, n) };
+    unit.header.pairs = random.below(room + 1) as u32;
+    unit
+}
+
+/// A target that is there or not, and now and then words that no header has.
+fn header(random: &mut Random, n: usize) -> Header {
+    let target = number(random, n);
+    let [aimed, target] = match random.below(20) {
+        0 => [random.word(), target],
+        1 => [0, target],
+        2 | 3 => [0, 0],
+        _ => [1, target],
+    };
+    Header { aimed, target, ..Header::default() }
+}
+
+/// A number below n for the most part.
+fn number(random: &mut Random, n: usize) -> u32 {
+    match random.below(10) {
+        0 => random.word(),
+        1 => random.pick(&[n as u32, n as u32 + 1, u32::MAX]),
+        _ => random.below(n.max(1)) as u32,
+    }
+}
+
+/// A prepared and used unit, damaged in a few places.
+fn damage(random: &mut Random) -> Unit {
+    let map = match random.below(8) {
+        0 => maps::town(random, 20, 20, Streets::USUAL),
+        1 => maps::even_grid(random, 8, 8),
+        _ => maps::small(random),
+    };
+    let (n, m) = (map.n(), map.m());
+    let mut unit = Unit::new(&map.card().expect("a map in range"), n, m, order::pairs(&map) + 3);
+    unit.prepare().expect("room for the pairs");
+    unit.aim(random.below(n) as u32).expect("a junction");
+    unit.estimate(random.below(n) as u32).expect("a junction");
+    for _ in 0..=random.below(6) {
+        match random.below(9) {
+            0 => CardDamage::RoadWord.apply(random, &mut unit.card, n, m),
+            1 => CardDamage::OrderWord.apply(random, &mut unit.card, n, m),
+            2 => unit.header = Header { target: number(random, n), ..unit.header },
+            which => {
+                let area = &mut unit.areas_mut()[which - 3];
+                if !area.is_empty() {
+                    let place = random.below(area.len());
+                    area[place] = random.pick(&Words::ALL).word(random, place, n);
+                }
+            }
+        }
+    }
+    unit
+}
+
+fn call(random: &mut Random, unit: &Unit) -> Call {
+    let n = unit.header.n as usize;
+    match random.below(10) {
+        0 => {
+            let time = [LONGEST, CLOSED, random.word()];
+            Call::Set { road: number(random, unit.header.m as usize), time: random.pick(&time) }
+        }
+        1 => Call::Aim { junction: number(random, n) },
+        2..5 => Call::Estimate { junction: number(random, n) },
+        _ => {
+            let start = number(random, n);
+            Call::Go { start, route: n + random.below(3), log: n + random.below(3) }
+        }
+    }
+}
+
+/// Makes a call, and looks at what it may not alter. The number that it is refused with, 0 if it is not.
+fn free_call(unit: &mut Unit, call: Call) -> usize {
+    let before = unit.clone();
+    let (mut route, mut log) = match call {
+        Call::Go { route, log, .. } => (Area::new(route), Area::new(log)),
+        _ => (Area::new(0), Area::new(0)),
+    };
+    let answer = unit.call(call, &mut route, &mut log);
+    assert!(route.guarded() && log.guarded(), "{call:?} alters guard words");
+
+    let Header { n, m, pairs, aimed, target } = unit.header;
+    let old = before.header;
+    assert_eq!((n, m, pairs), (old.n, old.m, old.pairs), "{call:?}");
+    let proper = old.aimed == 1 || (old.aimed == 0 && old.target == 0);
+    if proper && !matches!(call, Call::Aim { .. }) {
+        assert_eq!((aimed, target), (old.aimed, old.target), "{call:?}");
+    }
+
+    let written = match call {
+        Call::Set { .. } => [false, false, true, false, false, false],
+        Call::Aim { .. } => [false, false, false, true, true, false],
+        Call::Estimate { .. } => [false, false, false, false, true, false],
+        Call::Go { .. } => [false, false, false, false, true, true],
+    };
+    assert!(unit.card == before.card, "{call:?} alters the card");
+    for (((name, area), (_, old)), written) in
+        unit.areas().into_iter().zip(before.areas()).zip(written)
+    {
+        assert!(written || area == old, "{call:?} alters {name}");
+    }
+    answer.map_or_else(|refusal| refusal.number() as usize, |_| 0)
+}
+
+fn free_calls(seed: u64, units: usize, make: impl Fn(&mut Random) -> Unit) -> [usize; 16] {
+    let mut random = Random::new(seed);
+    let mut met = [0; 16];
+    for _ in 0..units {
+        let mut unit = make(&mut random);
+        for _ in 0..=random.below(12) {
+            let call = call(&mut random, &unit);
+            met[free_call(&mut unit, call)] += 1;
+        }
+    }
+    met
+}
+
+#[test]
+fn noise_in_every_area() {
+    with_stack(|| {
+        let met = free_calls(1, 4_000, forge);
+        let enough = met[0] > 5_000 && met[12] > 500 && met[15] > 100;
+        assert!(enough, "{met:?}");
+    });
+}
+
+#[test]
+fn damaged_states() {
+    with_stack(|| {
+        let met = free_calls(2, 8_000, damage);
+        let enough = met[0] > 20_000 && met[15] > 1_000;
+        assert!(enough, "{met:?}");
+    });
+}
+
+/// Two records up from each rank, whose walks would be doubled at each if an estimate that comes out as
+/// the mark unasked were asked again.
+#[test]
+fn no_entry_is_asked_twice() {
+    with_stack(|| {
+        let n = MOST_JUNCTIONS;
+        let map = maps::line(n);
+        let mut unit = Unit::new(&map.card().expect("a map in range"), n, map.m(), 2 * n);
+        unit.prepare().expect("room for the pairs");
+        unit.aim(0).expect("a junction");
+        for (i, record) in unit.pairs.as_chunks_mut().0.iter_mut().enumerate() {
+            *record = [i as u32 / 2, i as u32 / 2 + 1 + i as u32 % 2, 0, NONE];
+        }
+        unit.header.pairs = 2 * n as u32;
+        for estimate in [UNASKED, UNASKED - 1, NONE] {
+            unit.down.fill(estimate);
+            unit.estimates.fill(UNASKED);
+            free_call(&mut unit, Call::Estimate { junction: 0 });
+            unit.estimates.fill(UNASKED);
+            free_call(&mut unit, Call::Go { start: 0, route: n, log: n });
+        }
+    });
+}
+
+/// Numbers of a header of any size: where the lengths do not fit, 9, and nothing is altered. Products of
+/// some of them wrap in 32 bits to lengths that fit.
+#[test]
+fn headers_of_any_size() {
+    let mut random = Random::new(3);
+    let map = maps::town(&mut random, 10, 20, Streets::USUAL);
+    let room = order::pairs(&map) + 10;
+    let mut prepared = Unit::new(&map.card().expect("a map in range"), map.n(), map.m(), room);
+    prepared.prepare().expect("room for the pairs");
+    prepared.aim(7).expect("a junction");
+    let right = prepared.header;
+    let mut refusals = 0;
+    for i in 0..20_000 {
+        let mut other = |old: u32| {
+            let word = random.word();
+            random.pick(&[
+                old,
+                old,
+                old,
+                old + 1,
+                old.wrapping_sub(1),
+                old + (1 << 30),
+                old + (1 << 31),
+                0,
+                4_097,
+                16_385,
+                65_537,
+                1 << 30,
+                u32::MAX,
+                word,
+            ])
+        };
+        let header = match i % 2 {
+            0 => Header { pairs: other(right.pairs), ..right },
+            _ => {
+                Header { n: other(right.n), m: other(right.m), pairs: other(right.pairs), ..right }
+            }
+        };
+        let fits = (header.n, header.m) == (right.n, right.m) && header.pairs as usize <= room;
+        let mut unit = Unit { header, ..prepared.clone() };
+        let n = map.n();
+        for call in [
+            Call::Set { road: 0, time: CLOSED },
+            Call::Aim { junction: 0 },
+            Call::Estimate { junction: 0 },
+            Call::Go { start: 0, route: n, log: n },
+        ] {
+            if fits {
+                free_call(&mut unit, call);
+                continue;
+            }
+            let (mut route, mut log) = (Area::new(n), Area::new(n));
+            let answer = unit.call(call, &mut route, &mut log);
+            assert_eq!(answer.err(), Some(Refusal::Lengths), "{header:?}");
+            refusals += 1;
+        }
+        if !fits {
+            assert!(unit == Unit { header, ..prepared.clone() }, "{header:?}: altered");
+        }
+    }
+    assert!(refusals > 20_000, "{refusals} refusals");
+}

@@ -1,0 +1,365 @@
+//! Preparing, aim and estimate of the proved unit, beside the plain router and Dijkstra searches.
+
+use harness::both::{same, with_stack, Both};
+use harness::calls::{Accepted, Call, Calls, Refusal};
+use harness::card::{self, LONGEST, MOST_JUNCTIONS};
+use harness::damage::CardDamage;
+use harness::dijkstra;
+use harness::graph::Graph;
+use harness::maps::{self, Map, Road, Streets};
+use harness::order::{self, MOST_PAIRS};
+use harness::random::Random;
+use harness::time::{Time, NONE, UNASKED};
+use harness::unit::{Header, Unit};
+
+/// The records of a map, and for each target the down totals: by searches from and to each junction over
+/// junctions that rank below it.
+fn by_searches(map: &Map, targets: &[u32]) -> (Vec<[u32; 4]>, Vec<Vec<Time>>) {
+    let (graph, base) = (Graph::new(map), map.base());
+    let mut ranks = vec![0; map.n()];
+    for (rank, &junction) in map.order.iter().enumerate() {
+        ranks[junction as usize] = rank;
+    }
+    let mut records = Vec::new();
+    let mut down = vec![vec![NONE; map.n()]; targets.len()];
+    for (low, &junction) in map.order.iter().enumerate() {
+        let below = |other: u32| ranks[other as usize] < low;
+        let ups = dijkstra::from_within(&graph, &base, junction, below);
+        let downs = dijkstra::to_within(&graph, &base, junction, below);
+        for (high, &other) in map.order.iter().enumerate().skip(low + 1) {
+            let (up, down) = (ups[other as usize], downs[other as usize]);
+            if up != NONE || down != NONE {
+                records.push([low as u32, high as u32, up, down]);
+            }
+        }
+        for (&target, down) in targets.iter().zip(&mut down) {
+            if target == junction {
+                down[junction as usize] = 0;
+            } else if below(target) {
+                down[junction as usize] = ups[target as usize];
+            }
+        }
+    }
+    (records, down)
+}
+
+/// Prepares a map with room for just its pairs, which are those that searches find. Then, for each
+/// target, aims and asks for all estimates, from the lowest rank first and then in any order.
+fn check_map(random: &mut Random, map: &Map, targets: &[u32]) {
+    let (records, down) = by_searches(map, targets);
+    assert_eq!(records.len(), order::pairs(map));
+    let mut both = Both::prepare(map, records.len()).unwrap();
+    same("pairs", &both.unit.pairs, &records.concat());
+    same("live times", &both.unit.live, &map.base());
+    let graph = Graph::new(map);
+    for (&target, down) in targets.iter().zip(&down) {
+        assert_eq!(both.call(Call::Aim { junction: target }).answer, Ok(Accepted::Done));
+        same("down totals", &both.unit.down, down);
+        let least = dijkstra::to(&graph, &map.base(), target);
+        let mut junctions = map.order.clone();
+        random.shuffle(&mut junctions[1..]);
+        for junction in junctions {
+            assert_eq!(both.unit.estimate(junction), Ok(least[junction as usize]));
+            both.router.estimate(junction).unwrap();
+        }
+        same("estimates", &both.unit.estimates, &least);
+        both.check();
+    }
+}
+
+/// Targets of the lowest, of a middling and of the highest rank, and any other.
+fn targets(random: &mut Random, map: &Map) -> [u32; 4] {
+    let any = random.below(map.n());
+    [0, map.n() / 2, map.n() - 1, any].map(|rank| map.order[rank])
+}
+
+#[test]
+fn towns() {
+    let mut random = Random::new(1);
+    let mut most = 0;
+    for (width, height, streets) in [
+        (25, 40, Streets::USUAL),
+        (40, 50, Streets::DENSE),
+        (64, 48, Streets::USUAL),
+        (64, 64, Streets::USUAL),
+    ] {
+        let map = maps::town(&mut random, width, height, streets);
+        let targets = targets(&mut random, &map);
+        check_map(&mut random, &map, &targets);
+        most = most.max(order::pairs(&map));
+    }
+    assert!(most > 35_000, "{most} pairs");
+}
+
+#[test]
+fn the_largest_town() {
+    let mut random = Random::new(2);
+    let map = maps::largest_town(&mut random);
+    let targets = targets(&mut random, &map);
+    check_map(&mut random, &map, &targets);
+    let pairs = order::pairs(&map);
+    assert!(pairs > 55_000, "{pairs} pairs");
+}
+
+#[test]
+fn small_maps() {
+    let mut random = Random::new(3);
+    for _ in 0..1_000 {
+        let map = maps::small(&mut random);
+        let targets: Vec<u32> = (0..map.n() as u32).collect();
+        check_map(&mut random, &map, &targets);
+    }
+}
+
+#[test]
+fn hostile_maps() {
+    with_stack(|| {
+        let mut random = Random::new(4);
+        let n = MOST_JUNCTIONS;
+        let mut maps = vec![
+            maps::line(n),
+            maps::star(n),
+            maps::ring(n),
+            maps::ring_with_bypass(n),
+            maps::wide_keys(n),
+        ];
+        maps.extend(maps::wide_sums(n));
+        for map in maps {
+            check_map(&mut random, &map, &[0, n as u32 - 2, n as u32 - 1]);
+        }
+    });
+}
+
+/// On the line and round the ring, the largest least total; it is in the areas.
+#[test]
+fn the_largest_least_total() {
+    with_stack(|| {
+        let n = MOST_JUNCTIONS as u32;
+        let largest = (n - 1) * LONGEST;
+        for (map, target, lowest) in [
+            (maps::line(MOST_JUNCTIONS), n - 1, 0),
+            (maps::line(MOST_JUNCTIONS), 0, n - 1),
+            (maps::ring(MOST_JUNCTIONS), 0, 1),
+        ] {
+            let mut both = Both::prepare(&map, order::pairs(&map)).unwrap();
+            both.call(Call::Aim { junction: target });
+            let reply = both.call(Call::Estimate { junction: lowest });
+            assert_eq!(reply.answer, Ok(Accepted::Estimate(largest)));
+            assert_eq!(both.unit.estimates[lowest as usize], 4_095_000_000);
+        }
+    });
+}
+
+/// A sum of two times passes 32 bits beside the least total: in a pair's time, in a down total, in an
+/// estimate.
+#[test]
+fn sums_past_32_bits() {
+    with_stack(|| {
+        let n = MOST_JUNCTIONS as u32;
+        let (a, b) = (n - 3, n - 1);
+        let least = (n - 2) * LONGEST;
+        let both = maps::wide_sums(MOST_JUNCTIONS).map(|map| {
+            let mut both = Both::prepare(&map, order::pairs(&map)).unwrap();
+            both.call(Call::Aim { junction: b });
+            let reply = both.call(Call::Estimate { junction: a });
+            assert_eq!(reply.answer, Ok(Accepted::Estimate(least)));
+            both.unit
+        });
+        assert_eq!(both[0].pairs.as_chunks().0.last(), Some(&[n - 2, n - 1, least, NONE]));
+        assert_eq!(both[1].down[a as usize], least);
+        assert_eq!(both[2].down[a as usize], NONE, "the third's is left to the estimate");
+    });
+}
+
+/// Cases P1 to P4.
+#[test]
+fn map_p() {
+    let map = maps::map_p();
+    assert_eq!(Both::prepare(&map, 4).err(), Some(Refusal::Room));
+    let mut both = Both::prepare(&map, 5).unwrap();
+    let records =
+        [[0, 2, NONE, 10], [0, 3, 10, NONE], [1, 2, NONE, 15], [1, 3, 10, NONE], [2, 3, 20, 20]];
+    assert_eq!(both.unit.pairs.as_chunks().0, records);
+    assert_eq!(both.unit.header, Header { n: 4, m: 5, pairs: 5, aimed: 0, target: 0 });
+    both.call(Call::Aim { junction: 3 });
+    for (junction, estimate) in [(0, 20), (1, 10), (2, 10), (3, 0)] {
+        let reply = both.call(Call::Estimate { junction });
+        assert_eq!(reply.answer, Ok(Accepted::Estimate(estimate)));
+    }
+    both.call(Call::Aim { junction: 1 });
+    assert_eq!(both.unit.estimates[..], [UNASKED; 4]);
+    let reply = both.call(Call::Estimate { junction: 3 });
+    assert_eq!(reply.answer, Ok(Accepted::Estimate(30)));
+}
+
+/// After each estimate, the entries of the junctions asked and of all that up times reach from them hold
+/// least base totals, and the others are unasked.
+#[test]
+fn which_entries_an_estimate_fills() {
+    let mut random = Random::new(5);
+    let (mut filled, mut untouched, mut missing) = (0, 0, 0);
+    for i in 0..600 {
+        let map = match i % 100 {
+            0 => maps::town(&mut random, 20, 20, Streets::USUAL),
+            1 => maps::even_grid(&mut random, 12, 12),
+            _ => maps::small(&mut random),
+        };
+        let target = random.below(map.n()) as u32;
+        let least = dijkstra::to(&Graph::new(&map), &map.base(), target);
+        let mut both = Both::prepare(&map, order::pairs(&map)).unwrap();
+        both.call(Call::Aim { junction: target });
+        let mut reached = vec![false; map.n()];
+        for _ in 0..4 {
+            let junction = random.below(map.n()) as u32;
+            both.call(Call::Estimate { junction });
+            // Records ascend, so one pass follows each chain upwards.
+            let rank = both.unit.ranks[junction as usize] as usize;
+            reached[rank] = true;
+            for &[low, high, up, _] in both.unit.pairs.as_chunks().0 {
+                reached[high as usize] |= reached[low as usize] && up != NONE;
+            }
+            let word = |junction: usize| match reached[both.unit.ranks[junction] as usize] {
+                true => least[junction],
+                false => UNASKED,
+            };
+            let want: Vec<Time> = (0..map.n()).map(word).collect();
+            same("estimates", &both.unit.estimates, &want);
+            untouched += want.iter().filter(|&&word| word == UNASKED).count();
+            missing += want.iter().filter(|&&word| word == NONE).count();
+            filled += want.iter().filter(|&&word| word < UNASKED).count();
+        }
+    }
+    assert!(
+        filled > 5_000 && untouched > 10_000 && missing > 1_000,
+        "{filled} filled, {untouched} untouched, {missing} without a chain"
+    );
+}
+
+/// Two-way spokes from the lowest rank, so that every two of 362 junctions are a pair, and then a line:
+/// just so many pairs in all.
+fn map_with_pairs(pairs: usize) -> Map {
+    let mut map = maps::star(362);
+    map.order.reverse();
+    let end = 362 + (pairs - 362 * 361 / 2) as u32;
+    let road = |tail| Road { tail, head: tail + 1, base: 1 };
+    map.roads.extend((362..end).map(road));
+    map.order.extend(362..=end);
+    map
+}
+
+#[test]
+fn room_for_the_pairs() {
+    let mut random = Random::new(6);
+    let mut maps: Vec<Map> = (0..200).map(|_| maps::small(&mut random)).collect();
+    maps.extend([
+        maps::town(&mut random, 10, 20, Streets::USUAL),
+        maps::town(&mut random, 64, 64, Streets::DENSE),
+        maps::line(MOST_JUNCTIONS),
+        maps::star(MOST_JUNCTIONS),
+        map_with_pairs(MOST_PAIRS - 1),
+        map_with_pairs(MOST_PAIRS),
+    ]);
+    let (mut fit, mut more) = (0, 0);
+    for map in maps {
+        let pairs = order::pairs(&map);
+        for room in [0, pairs / 2, pairs.saturating_sub(1), pairs, pairs + 1, MOST_PAIRS] {
+            let answer = Both::prepare(&map, room.min(MOST_PAIRS));
+            assert_eq!(answer.is_ok(), pairs <= room, "{pairs} pairs, room for {room}");
+            *if answer.is_ok() { &mut fit } else { &mut more } += 1;
+        }
+    }
+    assert!(fit > 500 && more > 300, "{fit} fit, {more} do not");
+}
+
+#[test]
+fn more_pairs_than_any_unit_holds() {
+    let mut random = Random::new(7);
+    let mut star = maps::star(MOST_JUNCTIONS);
+    star.order.reverse();
+    for map in [
+        map_with_pairs(MOST_PAIRS + 1),
+        star,
+        maps::random(&mut random, 1_000, 4_000, LONGEST),
+        maps::random(&mut random, MOST_JUNCTIONS, card::MOST_ROADS, LONGEST),
+    ] {
+        assert_eq!(Both::prepare(&map, MOST_PAIRS).err(), Some(Refusal::Room));
+    }
+}
+
+/// Prepares a unit that is refused by a question before 8: header of zeros, areas unaltered.
+fn refused(mut unit: Unit) -> Refusal {
+    unit.header = Header { n: 7, m: 7, pairs: 7, aimed: 1, target: 7 };
+    let before = unit.clone();
+    let refusal = unit.prepare().unwrap_err();
+    assert_eq!(unit.header, Header::default());
+    unit.header = before.header;
+    assert!(unit == before, "{refusal:?} alters an area or the card");
+    refusal
+}
+
+/// Question 7, by each area in turn.
+#[test]
+fn areas_of_another_length() {
+    let mut random = Random::new(8);
+    let mut refusals = 0;
+    for map in [
+        maps::map_p(),
+        maps::random(&mut random, 1, 0, 1),
+        maps::random(&mut random, 9, 20, 7),
+        maps::town(&mut random, 32, 32, Streets::USUAL),
+    ] {
+        let (card, room) = (map.card().unwrap(), order::pairs(&map));
+        let unit = Unit::new(&card, map.n(), map.m(), room);
+        for area in 0..6 {
+            let len = unit.areas()[area].1.len();
+            let all =
+                [len.wrapping_sub(4), len.wrapping_sub(1), len + 1, len + 2, len + 3, len + 4];
+            let most = 4 * MOST_PAIRS;
+            for other in all.into_iter().chain([0, most - 1, most, most + 1, most + 4]) {
+                let fits = match area {
+                    1 => other.is_multiple_of(4) && other <= most,
+                    _ => other == len,
+                };
+                if fits || other > 1 << 30 {
+                    continue;
+                }
+                let mut unit = unit.clone();
+                unit.areas_mut()[area].resize(other);
+                assert_eq!(refused(unit), Refusal::AreaLengths, "area {area}: {other} for {len}");
+                refusals += 1;
+            }
+        }
+    }
+    assert!(refusals > 200, "{refusals} refusals");
+}
+
+/// A card that is refused, in areas of its map's lengths and in others.
+#[test]
+fn damaged_cards() {
+    let mut random = Random::new(9);
+    let mut met = [0; 9];
+    for i in 0..20_000 {
+        let map = maps::small(&mut random);
+        let mut card = map.card().unwrap();
+        CardDamage::ALL[i % CardDamage::ALL.len()].apply(&mut random, &mut card, map.n(), map.m());
+        let mut unit = Unit::new(&card, map.n(), map.m(), 20);
+        let also = random.chance(20);
+        if also {
+            unit.elapsed.resize(map.n() + 1);
+        }
+        let number = match card::read(&card) {
+            Err(refusal) => {
+                assert_eq!(refused(unit), refusal);
+                refusal.number()
+            }
+            Ok((n, m)) if also || (n, m) != (map.n() as u32, map.m() as u32) => {
+                assert_eq!(refused(unit), Refusal::AreaLengths);
+                7
+            }
+            Ok(_) => Both::prepare_on(unit).map_or_else(|refusal| refusal.number(), |_| 0),
+        };
+        met[number as usize] += 1;
+    }
+    let enough = met.iter().zip([1_000, 500, 1_000, 1_000, 500, 1_000, 1_000, 200, 50]);
+    assert!(enough.into_iter().all(|(&met, least)| met >= least), "met {met:?}");
+}

@@ -1,0 +1,189 @@
+//! The program make-card: text to card and back.
+
+use harness::card::{LONGEST, MOST_JUNCTIONS, MOST_ROADS};
+use harness::maps::{self, Map, Streets};
+use harness::random::Random;
+use harness::text;
+use std::path::{Path, PathBuf};
+use std::process::{Command, Output};
+use std::{env, fs, process, str};
+
+/// A folder of a test's own, removed at its end.
+struct Folder(PathBuf);
+
+impl Folder {
+    fn new(name: &str) -> Folder {
+        let folder = env::temp_dir().join(format!("make-card-{}-{name}", process::id()));
+        fs::create_dir_all(&folder).unwrap();
+        Folder(folder)
+    }
+
+    fn path(&self, name: &str) -> PathBuf {
+        self.0.join(name)
+    }
+
+    /// The names of its files.
+    fn names(&self) -> Vec<String> {
+        let entries = fs::read_dir(&self.0).unwrap();
+        let mut names: Vec<_> =
+            entries.map(|entry| entry.unwrap().file_name().into_string().unwrap()).collect();
+        names.sort();
+        names
+    }
+
+    /// Makes the card `CARD` of a text in the file `text`.
+    fn make(&self, text: &[u8]) -> Output {
+        fs::write(self.path("text"), text).unwrap();
+        run(&[&self.path("text"), &self.path("CARD")])
+    }
+}
+
+impl Drop for Folder {
+    fn drop(&mut self) {
+        let _ = fs::remove_dir_all(&self.0);
+    }
+}
+
+fn run(arguments: &[&Path]) -> Output {
+    Command::new(env!("CARGO_BIN_EXE_make-card")).args(arguments).output().unwrap()
+}
+
+fn told(bytes: &[u8]) -> &str {
+    str::from_utf8(bytes).unwrap()
+}
+
+const MAP_P: &str = "\
+road 0 1 10
+road 1 3 10
+road 0 2 15
+road 2 3 10
+road 3 0 20
+order 1 2 0 3
+";
+
+#[test]
+fn map_p() {
+    let folder = Folder::new("map_p");
+    let output = folder.make(MAP_P.as_bytes());
+    let said = "4 junctions, 5 roads, 5 pairs\n\
+        fits the unit (4096 junctions, 16384 roads, 65536 pairs)\n\
+        fits the program (200 junctions, 800 roads, 4000 pairs)\n";
+    assert_eq!((told(&output.stdout), told(&output.stderr)), (said, ""));
+    assert!(output.status.success());
+    let card = fs::read(folder.path("CARD")).unwrap();
+    assert_eq!(card.len(), 104);
+    assert_eq!(card, maps::map_p().card().unwrap());
+    assert_eq!(folder.names(), ["CARD", "text"]);
+
+    let output = run(&["--text".as_ref(), &folder.path("CARD")]);
+    assert_eq!((told(&output.stdout), told(&output.stderr)), (MAP_P, ""));
+    assert!(output.status.success());
+}
+
+#[test]
+fn there_and_back() {
+    let folder = Folder::new("there_and_back");
+    let mut random = Random::new(1);
+    let mut maps: Vec<Map> = (0..20).map(|_| maps::small(&mut random)).collect();
+    maps.extend([
+        maps::town(&mut random, 30, 30, Streets::USUAL),
+        maps::random(&mut random, 300, 1_000, LONGEST),
+        maps::random(&mut random, MOST_JUNCTIONS, 0, 1),
+        maps::random(&mut random, 2, MOST_ROADS, LONGEST),
+    ]);
+    for map in maps {
+        let output = folder.make(text::print(&map).as_bytes());
+        assert!(output.status.success(), "{}", told(&output.stderr));
+        assert!(fs::read(folder.path("CARD")).unwrap() == map.card().unwrap(), "another card");
+        let output = run(&["--text".as_ref(), &folder.path("CARD")]);
+        assert_eq!(text::parse(&output.stdout), Ok(map));
+    }
+}
+
+/// Without an order, few pairs; and where a map fits.
+#[test]
+fn sizes() {
+    let folder = Folder::new("sizes");
+    let mut random = Random::new(2);
+    let said = |map: &Map| {
+        let mut lines = text::print(map);
+        lines.truncate(lines.find("order").unwrap_or(lines.len()));
+        let output = folder.make(lines.as_bytes());
+        assert!(output.status.success(), "{}", told(&output.stderr));
+        told(&output.stdout).replace(" (", "\n").lines().map(str::to_string).collect::<Vec<_>>()
+    };
+    for (width, height, unit, program) in [
+        (10, 20, "fits", "fits"),
+        (20, 20, "fits", "does not fit"),
+        (64, 64, "fits", "does not fit"),
+    ] {
+        let lines = said(&maps::town(&mut random, width, height, Streets::USUAL));
+        assert!(lines[0].starts_with(&format!("{} junctions, ", width * height)), "{lines:?}");
+        assert_eq!(lines[1], format!("{unit} the unit"));
+        assert_eq!(lines[3], format!("{program} the program"));
+    }
+    let lines = said(&maps::random(&mut random, 2_000, 16_000, LONGEST));
+    assert_eq!(
+        (&lines[1][..], &lines[3][..]),
+        ("does not fit the unit", "does not fit the program")
+    );
+}
+
+/// A text that is no map: a message with the line, and the card that was there stays.
+#[test]
+fn faults() {
+    let folder = Folder::new("faults");
+    fs::write(folder.path("CARD"), "old").unwrap();
+    for (text, message) in [
+        (&b"road 0 1 10\nroad 0 1\n"[..], "line 2: a road has 3 numbers: TAIL HEAD SECONDS, not 2"),
+        (b"road 0 1 0\n", "line 1: 0 seconds are not from 1 to 1000000"),
+        (b"", "no road and no order, so no junction"),
+        (b"road 0 1 10\n\xff\n", "line 2: this is no text in UTF-8"),
+    ] {
+        let output = folder.make(text);
+        let want = format!("make-card: {}: {message}\n", folder.path("text").display());
+        assert_eq!((told(&output.stderr), told(&output.stdout)), (&want[..], ""));
+        assert_eq!(output.status.code(), Some(1));
+        assert_eq!(fs::read(folder.path("CARD")).unwrap(), b"old");
+        assert_eq!(folder.names(), ["CARD", "text"]);
+    }
+}
+
+#[test]
+fn files_that_are_not_there() {
+    let folder = Folder::new("files");
+    fs::write(folder.path("text"), MAP_P).unwrap();
+    let [text, lost, deep] = ["text", "lost", "lost/CARD"].map(|name| folder.path(name));
+    for arguments in [[&lost, &deep], [&text, &deep], [&PathBuf::from("--text"), &lost]] {
+        let output = run(&arguments.map(PathBuf::as_path));
+        assert_eq!(output.status.code(), Some(1));
+        assert!(told(&output.stderr).starts_with("make-card: "), "{}", told(&output.stderr));
+        assert_eq!(folder.names(), ["text"]);
+    }
+    for arguments in [&[][..], &[text.as_path()], &["--help".as_ref()], &[&text, &text, &text]] {
+        let output = run(arguments);
+        assert_eq!(output.status.code(), Some(2));
+        assert!(told(&output.stderr).starts_with("make-card TEXT CARD"));
+    }
+}
+
+/// A card that the proved reader refuses.
+#[test]
+fn refused_cards() {
+    let folder = Folder::new("refused");
+    let card = maps::map_p().card().unwrap();
+    let mut bad_road = card.clone();
+    bad_road[28 + 12 + 4] = 9;
+    let mut bad_place = card.clone();
+    bad_place[88 + 12] = 1;
+    for (bytes, told_of) in
+        [(&card[..27], "1"), (&card[..103], "3"), (&bad_road, "5 1"), (&bad_place, "6 3")]
+    {
+        fs::write(folder.path("CARD"), bytes).unwrap();
+        let output = run(&["--text".as_ref(), &folder.path("CARD")]);
+        let path = folder.path("CARD");
+        let want = format!("make-card: {}: refused by question {told_of}\n", path.display());
+        assert_eq!((told(&output.stderr), told(&output.stdout)), (&want[..], ""));
+        assert_eq!(output.status.code(), Some(1));
+    }
+}

@@ -1,0 +1,337 @@
+//! Go of the proved unit, beside the plain router, A* with least base totals from Dijkstra's algorithm,
+//! and Dijkstra's algorithm itself.
+
+use harness::both::{same, with_stack, Both};
+use harness::calls::{Accepted, Call, Refusal, Trip};
+use harness::card::{LONGEST, MOST_JUNCTIONS};
+use harness::dijkstra;
+use harness::graph::Graph;
+use harness::machine::Reply;
+use harness::maps::{self, Map, Road, Streets};
+use harness::order;
+use harness::random::Random;
+use harness::search::{search, Search};
+use harness::time::{Time, CLOSED, NONE, UNASKED};
+use harness::traffic;
+
+/// A prepared unit that is aimed and has heard live times.
+struct Journey {
+    map: Map,
+    graph: Graph,
+    live: Vec<Time>,
+    target: u32,
+    both: Both,
+}
+
+impl Journey {
+    fn new(map: Map, live: Vec<Time>, target: u32) -> Journey {
+        let mut both = Both::prepare(&map, order::pairs(&map)).unwrap();
+        for ((road, &time), base) in (0..).zip(&live).zip(map.base()) {
+            if time != base {
+                assert_eq!(both.call(Call::Set { road, time }).answer, Ok(Accepted::Done));
+            }
+        }
+        assert_eq!(both.call(Call::Aim { junction: target }).answer, Ok(Accepted::Done));
+        Journey { graph: Graph::new(&map), map, live, target, both }
+    }
+
+    /// Goes from a start, and compares what is answered and left with searches of their own.
+    fn go(&mut self, start: u32, spare: usize) -> Search {
+        let before = self.both.unit.estimates.to_vec();
+        let (n, base) = (self.map.n(), self.map.base());
+        let reply = self.both.call(Call::Go { start, route: n + spare, log: n + spare / 2 });
+
+        let least = dijkstra::to(&self.graph, &base, self.target);
+        let want = search(&self.graph, &self.live, start, self.target, |at| least[at as usize]);
+        self.check_reply(&reply, &want);
+        same("elapsed", &self.both.unit.elapsed, &want.elapsed);
+        let total = dijkstra::from(&self.graph, &self.live, start)[self.target as usize];
+        assert_eq!(want.found.as_ref().map_or(NONE, |found| found.0), total);
+
+        let filled = self.filled(start, &want.log);
+        let word = |junction: usize| {
+            if filled[self.both.unit.ranks[junction] as usize] {
+                least[junction]
+            } else {
+                before[junction]
+            }
+        };
+        let estimates: Vec<Time> = (0..n).map(word).collect();
+        same("estimates", &self.both.unit.estimates, &estimates);
+        want
+    }
+
+    fn check_reply(&self, reply: &Reply, want: &Search) {
+        assert_eq!(reply.log, want.log);
+        let count = want.log.len() as u32;
+        match &want.found {
+            Some((total, route)) => {
+                assert_eq!(reply.route, *route);
+                let trip = Trip { total: (*total).into(), count, roads: route.len() as u32 };
+                assert_eq!(reply.answer, Ok(Accepted::Trip(trip)));
+            }
+            None => assert_eq!(reply.answer, Err(Refusal::NoPath(count))),
+        }
+    }
+
+    /// Which estimates a go fills, by rank: the start's, those of heads of open roads from logged
+    /// junctions other than the target, and those above them.
+    fn filled(&self, start: u32, log: &[u32]) -> Vec<bool> {
+        let unit = &self.both.unit;
+        let rank = |junction: u32| unit.ranks[junction as usize] as usize;
+        let mut filled = vec![false; self.map.n()];
+        filled[rank(start)] = true;
+        for &junction in log.iter().filter(|&&junction| junction != self.target) {
+            for arc in self.graph.out.of(junction) {
+                filled[rank(arc.end)] |= self.live[arc.road as usize] != CLOSED;
+            }
+        }
+        // Records ascend, so one pass follows each chain upwards.
+        for &[low, high, up, _] in unit.pairs.as_chunks().0 {
+            filled[high as usize] |= filled[low as usize] && up != NONE;
+        }
+        filled
+    }
+}
+
+/// How often what is worth meeting was met.
+#[derive(Debug, Default)]
+struct Tally {
+    found: usize,
+    missing: usize,
+    /// Logs without an entry.
+    empty: usize,
+    /// Trips that take longer than at base times.
+    delayed: usize,
+    unasked: usize,
+    /// Junctions logged right after one with the same key,
+    ties: usize,
+    /// and of them, those with a smaller number: they became candidates just then.
+    falling: usize,
+}
+
+impl Tally {
+    /// Makes three trips on a map, to one target.
+    fn trips(&mut self, random: &mut Random, map: Map, live: Vec<Time>) {
+        let target = random.below(map.n()) as u32;
+        let mut journey = Journey::new(map, live, target);
+        let base = dijkstra::to(&journey.graph, &journey.map.base(), target);
+        for _ in 0..3 {
+            let start = random.below(journey.map.n()) as u32;
+            let search = journey.go(start, random.below(20));
+            match &search.found {
+                Some((total, _)) => {
+                    self.found += 1;
+                    self.delayed += (*total > base[start as usize]) as usize;
+                }
+                None => self.missing += 1,
+            }
+            self.empty += search.log.is_empty() as usize;
+            let key = |&junction: &u32| {
+                u64::from(search.elapsed[junction as usize]) + u64::from(base[junction as usize])
+            };
+            for two in search.log.windows(2).filter(|two| key(&two[0]) == key(&two[1])) {
+                self.ties += 1;
+                self.falling += (two[1] < two[0]) as usize;
+            }
+        }
+        let estimates = journey.both.unit.estimates.iter();
+        self.unasked += estimates.filter(|&&word| word == UNASKED).count();
+    }
+}
+
+#[test]
+fn small_maps() {
+    let mut random = Random::new(1);
+    let mut tally = Tally::default();
+    for _ in 0..6_000 {
+        let map = maps::small(&mut random);
+        let live = traffic::live_times(&mut random, &map);
+        tally.trips(&mut random, map, live);
+    }
+    let Tally { found, missing, empty, delayed, unasked, ties, falling } = tally;
+    assert!(
+        found > 10_000
+            && missing > 3_000
+            && empty > 2_000
+            && delayed > 500
+            && unasked > 5_000
+            && ties > 10_000
+            && falling > 500,
+        "{tally:?}"
+    );
+}
+
+#[test]
+fn towns() {
+    let mut random = Random::new(2);
+    let mut tally = Tally::default();
+    for i in 0..60 {
+        let (width, height) = (1 + random.below(30), 1 + random.below(30));
+        let map = match i {
+            0 => maps::town(&mut random, 64, 64, Streets::USUAL),
+            1 => maps::largest_town(&mut random),
+            _ if i % 3 == 0 => maps::even_grid(&mut random, width, height),
+            _ => maps::town(&mut random, width, height, Streets::USUAL),
+        };
+        let percent = random.pick(&[0, 1, 5, 20, 50]);
+        let mut live = map.base();
+        for (road, time) in traffic::changes(&mut random, &map, percent) {
+            live[road as usize] = time;
+        }
+        tally.trips(&mut random, map, live);
+    }
+    let Tally { found, missing, delayed, unasked, ties, .. } = tally;
+    assert!(
+        found > 100 && missing > 10 && delayed > 20 && unasked > 1_000 && ties > 1_000,
+        "{tally:?}"
+    );
+}
+
+/// All times equal: nearly every choice is one among equal keys.
+#[test]
+fn ties() {
+    let mut random = Random::new(3);
+    let mut tally = Tally::default();
+    for i in 0..600 {
+        let n = 2 + random.below(if i < 10 { 120 } else { 30 });
+        let mut map = maps::random(&mut random, n, 2 * n, 1);
+        map.order = order::least_degree(n, &map.roads);
+        let live = map.base();
+        tally.trips(&mut random, map, live);
+    }
+    assert!(tally.ties > 2_000 && tally.falling > 500 && tally.found > 300, "{tally:?}");
+}
+
+/// Into 1, road 0 gives the time too, but comes from 2, which is logged later.
+#[test]
+fn a_route_by_earlier_ones_only() {
+    let road = |(tail, head, base)| Road { tail, head, base };
+    let roads = [(2, 1, 1), (0, 1, 2), (0, 2, 1), (1, 3, 1)].map(road).to_vec();
+    let map = Map { roads, order: vec![0, 1, 2, 3] };
+    let search = Journey::new(map.clone(), map.base(), 3).go(0, 0);
+    assert_eq!(search.log, [0, 1, 2, 3]);
+    assert_eq!(search.found, Some((3, vec![1, 3])));
+}
+
+/// The largest key of all stands beside the target's, which is smaller, but not in 32 bits.
+#[test]
+fn the_largest_key() {
+    with_stack(|| {
+        let n = MOST_JUNCTIONS as u32;
+        let map = maps::ring_with_bypass(MOST_JUNCTIONS);
+        let mut journey = Journey::new(map.clone(), map.base(), 0);
+        let search = journey.go(2, 3);
+        assert_eq!(search.found.map(|found| found.0), Some((n - 2) * LONGEST));
+        assert_eq!(search.log.len() as u32, n - 1);
+        assert_eq!(search.elapsed[1], NONE, "the junction with the largest key is not logged");
+
+        // With the target's only road closed, it is: time 4,094,000,000 and estimate 4,095,000,000.
+        let mut live = map.base();
+        live[n as usize - 1] = CLOSED;
+        let mut journey = Journey::new(map, live, 0);
+        let search = journey.go(2, 3);
+        assert_eq!((search.found, search.log.last()), (None, Some(&1)));
+        let unit = &journey.both.unit;
+        let key = u64::from(unit.elapsed[1]) + u64::from(unit.estimates[1]);
+        assert_eq!(key, 8_189_000_000);
+    });
+}
+
+#[test]
+fn keys_past_32_bits_before_a_detour() {
+    with_stack(|| {
+        let n = MOST_JUNCTIONS as u32;
+        let map = maps::wide_keys(MOST_JUNCTIONS);
+        let mut live = map.base();
+        live[n as usize - 3] = CLOSED;
+        let search = Journey::new(map, live, n - 2).go(1, 0);
+        assert_eq!(search.elapsed[0], NONE, "the junction with the larger key is not logged");
+        assert_eq!(search.found.map(|found| found.0), Some((n - 2) * LONGEST));
+    });
+}
+
+/// The longest routes: n - 1 roads, in areas of just n entries.
+#[test]
+fn the_longest_routes() {
+    with_stack(|| {
+        let n = MOST_JUNCTIONS as u32;
+        for (map, start, target) in [
+            (maps::line(MOST_JUNCTIONS), 0, n - 1),
+            (maps::line(MOST_JUNCTIONS), n - 1, 0),
+            (maps::ring(MOST_JUNCTIONS), 1, 0),
+        ] {
+            let search = Journey::new(map.clone(), map.base(), target).go(start, 0);
+            let (total, route) = search.found.unwrap();
+            assert_eq!((total, route.len() as u32), (4_095_000_000, n - 1));
+            assert_eq!(search.log.len() as u32, n);
+        }
+    });
+}
+
+/// No chain: the count and the log, and the route area untouched (the plain router leaves it so).
+#[test]
+fn no_chain() {
+    let mut random = Random::new(4);
+    let mut counts = Vec::new();
+    for map in [
+        maps::map_p(),
+        maps::town(&mut random, 20, 30, Streets::USUAL),
+        maps::even_grid(&mut random, 9, 9),
+        maps::line(300),
+        maps::ring(300),
+    ] {
+        let target = map.roads[random.below(map.m())].head;
+        // Every road to the target is closed; then every road from the start as well.
+        let mut live = map.base();
+        for (road, live) in map.roads.iter().zip(&mut live) {
+            if road.head == target {
+                *live = CLOSED;
+            }
+        }
+        let start = (target + 1) % map.n() as u32;
+        for _ in 0..2 {
+            let search = Journey::new(map.clone(), live.clone(), target).go(start, 5);
+            assert_eq!(search.found, None);
+            counts.push(search.log.len());
+            for (road, live) in map.roads.iter().zip(&mut live) {
+                if road.tail == start {
+                    *live = CLOSED;
+                }
+            }
+        }
+    }
+    assert!(counts.iter().max() > Some(&250) && counts.contains(&1), "{counts:?}");
+}
+
+/// A start without an estimate: nothing is logged, and only the start and those above it are filled.
+#[test]
+fn no_estimate() {
+    let road = |(tail, head)| Road { tail, head, base: 5 };
+    let roads = [(0, 1), (1, 2), (3, 2)].map(road).to_vec();
+    let map = Map { roads, order: vec![2, 1, 0, 3] };
+    let mut journey = Journey::new(map.clone(), map.base(), 0);
+    let search = journey.go(2, 4);
+    assert_eq!((search.found, search.log.len()), (None, 0));
+    assert_eq!(journey.both.unit.elapsed[..], [NONE; 4]);
+    assert_eq!(journey.both.unit.estimates[..], [UNASKED, UNASKED, NONE, UNASKED]);
+}
+
+/// The cases of map P that make a trip.
+#[test]
+fn trips_of_map_p() {
+    let trip = |changes: &[(u32, Time)], start, target| {
+        let map = maps::map_p();
+        let mut live = map.base();
+        for &(road, time) in changes {
+            live[road as usize] = time;
+        }
+        let search = Journey::new(map, live, target).go(start, 0);
+        (search.found, search.log)
+    };
+    assert_eq!(trip(&[], 0, 3), (Some((20, vec![0, 1])), vec![0, 1, 3]));
+    assert_eq!(trip(&[(1, CLOSED)], 0, 3), (Some((25, vec![2, 3])), vec![0, 1, 2, 3]));
+    assert_eq!(trip(&[(1, 15)], 0, 3), (Some((25, vec![0, 1])), vec![0, 1, 2, 3]));
+    assert_eq!(trip(&[], 3, 3), (Some((0, vec![])), vec![3]));
+    assert_eq!(trip(&[(1, CLOSED), (2, CLOSED)], 0, 3), (None, vec![0, 1]));
+}
