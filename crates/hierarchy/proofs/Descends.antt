@@ -6,21 +6,21 @@ use Prim.Native.Nat.{_*_, _+_, _<_, _≤_, min, suc, zero, ℕ}
 use borrow.Author.Tests.{eq-eqb, ne-eqb}
 use lib.Dec.{eqb}
 use lib.ListN.{getD, getD-replicate, length, length-replicate, replicate, set, take}
-use lib.Seq.{ext-getD, getD-set-other, getD-set-same, take-all}
+use lib.Seq.{ext-getD, getD-set-other, getD-set-same, set-getD, take-all}
 use native.Mathlib.Decide.{ℕ-discrete}
 use native.Mathlib.Nat.{not-suc-le-zero}
 use native.Mathlib.Numerals.{add-one}
 use native.Mathlib.Omega.{arith}
-use Rattle.graph.specs.Total.{Total, _⊓_, _⊕_, cond-no, cond-yes}
+use Rattle.graph.specs.Total.{Total, _⊓_, _⊕_, cond-no, cond-yes, ⊕-none}
 use Rattle.graph.specs.Records.{Pair}
 use Rattle.graph.specs.Folds.{hand, hand-all, pass, pass-append, seed}
 use Rattle.graph.specs.Ranks.{rank-below, vertex-of-rank}
 use Rattle.graph.specs.Map.{Map, downTotalOf, pairsOf, rank, weights}
 use Rattle.model.specs.Bytes.{wordAt}
-use Rattle.model.specs.Word.{noneWord, ofWord, ofWord-word, word}
+use Rattle.model.specs.Word.{noneWord, ofWord, ofWord-none, ofWord-word, word}
 use Rattle.model.specs.Ends.{listed-is}
 use Rattle.model.specs.Use.{pairIn}
-use Rattle.network.specs.Width.{Fits, fit, fit-is, fit-min, fit-ofWord, fit-out, fits, fits-in, fits-out}
+use Rattle.network.specs.Width.{Fits, fit, fit-is, fit-min, fit-ofWord, fit-out, fit-word, fits, fits-in, fits-out}
 use Rattle.network.specs.Bodies.{mapIn}
 use Rattle.hierarchy.specs.Walks.{Holds, downIn, highIn, lowIn}
 use Rattle.hierarchy.specs.Downs.{Descended, Descending, Handed, higherIn, lowerIn}
@@ -129,6 +129,7 @@ module _ {M : Map} {n : ℕ} {order pairs : List ℕ} {count : ℕ} (o : Holds M
 
     z-is : z ≡ set d (higherIn order pairs k) (min (getD d (higherIn order pairs k) 0) (word (fit (ofWord (downIn pairs k) ⊕ ofWord (getD d (lowerIn order pairs k) 0)))))
     z-is = s .exact (omega (arith, low-below, o .vertices-are)) (omega (arith, high-below, o .vertices-are)) (omega (arith, lower-below, o .vertices-are)) (omega (arith, higher-below, o .vertices-are))
+        (rw (old (higherIn order pairs k) higher-below) (fit-word (made t k (rank M (higherIn order pairs k)))))
 
     time-is : ofWord (downIn pairs k) ≡ pairIn (pairsOf M) k .downTime
     time-is = ap ofWord (o .records k l .downs) ∙ ofWord-word (pairIn (pairsOf M) k .downTime) (λ u q. let b = down-time-small o k u l q in omega arith)
@@ -191,16 +192,27 @@ module _ (n : ℕ) (order pairs : List ℕ) (count t : ℕ) where
 -- a rank or a junction that is none: nothing is handed
 module _ (n : ℕ) (order pairs : List ℕ) (i : ℕ) (d : List ℕ) where
   pub no-low : (low : ℕ) → low ≡ lowIn pairs i → n ≤ low → Handed n order pairs i d d
-  no-low low e h = record { exact = λ a b c f. absurd (omega arith) }
+  no-low low e h = record { exact = λ a b c f w. absurd (omega arith) }
 
   pub no-high : (high : ℕ) → high ≡ highIn pairs i → n ≤ high → Handed n order pairs i d d
-  no-high high e h = record { exact = λ a b c f. absurd (omega arith) }
+  no-high high e h = record { exact = λ a b c f w. absurd (omega arith) }
 
   pub no-lower : (low a : ℕ) → low ≡ lowIn pairs i → a ≡ wordAt order (4 * low) → n ≤ a → Handed n order pairs i d d
-  no-lower low x e g h = let k : x ≡ lowerIn order pairs i = g ∙ ap (λ (y : ℕ). wordAt order (4 * y)) e in record { exact = λ a b c f. absurd (omega (arith, k, h, c)) }
+  no-lower low x e g h = let k : x ≡ lowerIn order pairs i = g ∙ ap (λ (y : ℕ). wordAt order (4 * y)) e in record { exact = λ a b c f w. absurd (omega (arith, k, h, c)) }
 
   pub no-higher : (high a : ℕ) → high ≡ highIn pairs i → a ≡ wordAt order (4 * high) → n ≤ a → Handed n order pairs i d d
-  no-higher high x e g h = let k : x ≡ higherIn order pairs i = g ∙ ap (λ (y : ℕ). wordAt order (4 * y)) e in record { exact = λ a b c f. absurd (omega (arith, k, h, f)) }
+  no-higher high x e g h = let k : x ≡ higherIn order pairs i = g ∙ ap (λ (y : ℕ). wordAt order (4 * y)) e in record { exact = λ a b c f w. absurd (omega (arith, k, h, f)) }
+
+  -- a lower junction without a total has nothing to hand down
+  pub no-rest : (low a rest : ℕ) → low ≡ lowIn pairs i → a ≡ wordAt order (4 * low) → rest ≡ getD d a 0 → rest ≡ noneWord → Handed n order pairs i d d
+  no-rest low a rest el ea er en =
+      let x : a ≡ lowerIn order pairs i = ea ∙ ap (λ (y : ℕ). wordAt order (4 * y)) el in
+      let q : getD d (lowerIn order pairs i) 0 ≡ noneWord = sym (er ∙ ap (λ (j : ℕ). getD d j 0) x) ∙ en in
+      record { exact = λ _ _ _ _ w. sym (ap (set d (higherIn order pairs i)) (kept q w) ∙ set-getD d (higherIn order pairs i) 0) }
+    where
+      kept : getD d (lowerIn order pairs i) 0 ≡ noneWord → getD d (higherIn order pairs i) 0 ≤ noneWord
+          → min (getD d (higherIn order pairs i) 0) (word (fit (ofWord (downIn pairs i) ⊕ ofWord (getD d (lowerIn order pairs i) 0)))) ≡ getD d (higherIn order pairs i) 0
+      kept q w = rw (q, ofWord-none, ⊕-none) (omega arith)
 
   -- a is the lower junction, b the higher one; best, time and rest are read as times, v is stored
   pub handed : (low high a b best time rest least v : ℕ) → low ≡ lowIn pairs i → high ≡ highIn pairs i → a ≡ wordAt order (4 * low) → b ≡ wordAt order (4 * high)
@@ -209,7 +221,7 @@ module _ (n : ℕ) (order pairs : List ℕ) (i : ℕ) (d : List ℕ) where
       let x : a ≡ lowerIn order pairs i = ea ∙ ap (λ (y : ℕ). wordAt order (4 * y)) el in
       let y : b ≡ higherIn order pairs i = eb ∙ ap (λ (y : ℕ). wordAt order (4 * y)) eh in
       record {
-        exact = λ _ _ _ _.
+        exact = λ _ _ _ _ _.
             ap₂ (set d) y
             (f ∙ s ∙ ap₂ min (p ∙ ap (λ (j : ℕ). getD d j 0) y) (ap₂ (λ (j k : ℕ). word (fit (ofWord j ⊕ ofWord k))) q (r ∙ ap (λ (j : ℕ). getD d j 0) x)));
       }

@@ -1,12 +1,12 @@
 -- What one record and the pass over all records leave of the down totals. Definitions only.
 use mathlib.Core.Path.{_≡_}
 use mathlib.Core.List.{List}
-use Prim.Native.Nat.{_*_, _<_, min, ℕ}
+use Prim.Native.Nat.{_*_, _<_, _≤_, min, ℕ}
 use lib.ListN.{getD, set, take}
 use Rattle.graph.specs.Total.{_⊕_}
 use Rattle.graph.specs.Folds.{hand, pass, seed}
 use Rattle.graph.specs.Map.{Map, downTotalOf, pairsOf, rank}
-use Rattle.model.specs.Word.{ofWord, word}
+use Rattle.model.specs.Word.{noneWord, ofWord, word}
 use Rattle.model.specs.Bytes.{listed, wordAt}
 use Rattle.network.specs.Width.{fit}
 use Rattle.network.specs.Bodies.{Prepared, mapIn}
@@ -27,8 +27,8 @@ higherIn order pairs i = wordAt order (4 * highIn pairs i)
 
 -- Record i hands the total of its lower junction down to its higher one; d before, z after.
 pub record Handed (n : ℕ) (order pairs : List ℕ) (i : ℕ) (d z : List ℕ) : Type 0 where
-  -- where its ranks are ranks and the order has junctions there
-  pub exact : lowIn pairs i < n → highIn pairs i < n → lowerIn order pairs i < n → higherIn order pairs i < n
+  -- where its ranks are ranks, the order has junctions there, and the higher one's total is a word
+  pub exact : lowIn pairs i < n → highIn pairs i < n → lowerIn order pairs i < n → higherIn order pairs i < n → getD d (higherIn order pairs i) 0 ≤ noneWord
       → z ≡ set d (higherIn order pairs i) (min (getD d (higherIn order pairs i) 0) (word (fit (ofWord (downIn pairs i) ⊕ ofWord (getD d (lowerIn order pairs i) 0)))))
 
 -- the totals d once the records below k have handed theirs down

@@ -70,22 +70,25 @@ fn hand_down(n: u32, order: &[u8], pairs: &[u32], down: &mut [u32], i: u32)
     if n <= low.0 {
         return;
     }
-    let high = high_of(pairs, i);
-    if n <= high.0 {
-        return;
-    }
     let lower = network::junction_of(order, low);
     if n <= lower.0 {
+        return;
+    }
+    let rest = Time::of_word(down[lower.0 as usize]);
+    if rest.is_none() {
+        return;
+    }
+    let high = high_of(pairs, i);
+    if n <= high.0 {
         return;
     }
     let higher = network::junction_of(order, high);
     if n <= higher.0 {
         return;
     }
-    let l = lower.0 as usize;
     let h = higher.0 as usize;
     let best = Time::of_word(down[h]);
-    let least = best.or_sum(down_of(pairs, i), Time::of_word(down[l]));
+    let least = best.or_sum(down_of(pairs, i), rest);
     down[h] = least.word();
 }
 
