@@ -4,8 +4,9 @@
 use crate::calls::{Accepted, Answer, Call, Calls, Refusal};
 use crate::machine::Reply;
 use crate::maps::Map;
+use crate::random::setting;
 use crate::router::Router;
-use crate::unit::{Area, Header, Unit};
+use crate::unit::{lent_areas, Area, Header, Unit};
 use std::panic::resume_unwind;
 use std::sync::mpsc::{self, RecvTimeoutError};
 use std::thread;
@@ -36,6 +37,7 @@ impl Both {
         let answer = unit.prepare();
         assert_eq!(answer.err(), router.as_ref().err().copied(), "proved (left), plain (right)");
         assert!(unit.card == card, "preparing alters no byte of the card");
+        assert!(unit.guarded(), "preparing alters guard words");
         let router = router.inspect_err(|&refusal| {
             assert_eq!(unit.header, Header::default());
             let zeros = |area: &Area| area.iter().all(|&word| word == 0);
@@ -51,10 +53,7 @@ impl Both {
 
     /// Makes a call on both, which answer and leave the same.
     pub fn call(&mut self, call: Call) -> Reply {
-        let (mut route, mut log) = match call {
-            Call::Go { route, log, .. } => (Area::new(route), Area::new(log)),
-            _ => (Area::new(0), Area::new(0)),
-        };
+        let (mut route, mut log) = lent_areas(call);
         let (mut plain_route, mut plain_log) = (route.clone(), log.clone());
         let answer = self.unit.call(call, &mut route, &mut log);
         let want = self.router.call(call, &mut plain_route, &mut plain_log);
@@ -62,7 +61,7 @@ impl Both {
         // The plain one writes the route and the log and nothing else.
         same("the route area", &route, &plain_route);
         same("the log area", &log, &plain_log);
-        assert!(route.guarded() && log.guarded(), "guard words altered");
+        assert!(route.guarded() && log.guarded(), "no call alters guard words");
         self.check();
         let (roads, count) = lengths(answer);
         Reply { answer, route: route[..roads].to_vec(), log: log[..count].to_vec() }
@@ -80,6 +79,7 @@ impl Both {
         };
         assert_eq!(unit.header, header, "proved (left), plain (right)");
         assert!(unit.card == self.card, "no call alters the card");
+        assert!(unit.guarded(), "no call alters guard words");
         let want: [&[u32]; 6] = [
             &self.ranks,
             &self.pairs,
@@ -114,7 +114,8 @@ pub fn same(name: &str, area: &[u32], want: &[u32]) {
 }
 
 /// Runs a test with more stack than a test's thread has, since an estimate may ask for 4,095 others, one
-/// within the other; and fails if it has not ended after two minutes.
+/// within the other; and fails if it has not ended after two minutes, or as many seconds as `CALLS_SECONDS`
+/// says.
 pub fn with_stack(test: impl FnOnce() + Send + 'static) {
     let (sender, receiver) = mpsc::channel::<()>();
     let test = move || {
@@ -123,7 +124,8 @@ pub fn with_stack(test: impl FnOnce() + Send + 'static) {
     };
     let thread = thread::Builder::new().stack_size(16 << 20).spawn(test).expect("a thread");
     // Nothing is sent: the sender is dropped when the test ends.
-    let ended = receiver.recv_timeout(Duration::from_secs(120));
+    let limit = Duration::from_secs(setting("CALLS_SECONDS", 120) as u64);
+    let ended = receiver.recv_timeout(limit);
     assert_eq!(ended, Err(RecvTimeoutError::Disconnected), "the test does not end");
     if let Err(panic) = thread.join() {
         resume_unwind(panic);

@@ -1,5 +1,6 @@
 //! Random numbers by xorshift64*: a fixed seed gives a fixed run.
 
+use std::env;
 use std::ops::RangeInclusive;
 
 pub struct Random(u64);
@@ -43,4 +44,9 @@ impl Random {
             row.swap(i, self.below(i + 1));
         }
     }
+}
+
+/// A number that the environment may give in place of the fixed one: a seed, or the length of a run.
+pub fn setting(name: &str, fixed: usize) -> usize {
+    env::var(name).map_or(fixed, |value| value.parse().expect("a number"))
 }

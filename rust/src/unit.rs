@@ -2,7 +2,7 @@
 //!
 //! Nothing compares these declarations with the exports of `unit_c`: they stand in its order.
 
-use crate::calls::{Calls, Refusal, Trip};
+use crate::calls::{Call, Calls, Refusal, Trip};
 use crate::time::Time;
 use std::ops::{Deref, DerefMut};
 
@@ -44,99 +44,83 @@ extern "C" {
         area_len: usize,
         place: *mut u32,
     ) -> u32;
+}
+
+/// Declares exports that take a header or none, slices, and words. Each slice is a pointer and a length.
+macro_rules! exports {
+    ($(
+        fn $export:ident($($header:ident)?; $($slice:ident: $access:tt $word:ty),+; $($last:ident),*);
+    )+) => {
+        extern "C" {
+            $(
+                fn $export(
+                    $($header: Header,)?
+                    $($slice: *$access $word, _: usize,)+
+                    $($last: u32),*
+                ) -> Returned;
+            )+
+        }
+    };
+}
+
+exports! {
     fn unit_prepare(
-        card: *const u8,
-        card_len: usize,
-        ranks: *mut u32,
-        ranks_len: usize,
-        pairs: *mut u32,
-        pairs_len: usize,
-        live: *mut u32,
-        live_len: usize,
-        down: *mut u32,
-        down_len: usize,
-        estimates: *mut u32,
-        estimates_len: usize,
-        elapsed: *mut u32,
-        elapsed_len: usize,
-    ) -> Returned;
+        ;
+        card: const u8,
+        ranks: mut u32,
+        pairs: mut u32,
+        live: mut u32,
+        down: mut u32,
+        estimates: mut u32,
+        elapsed: mut u32;
+    );
     fn unit_set(
-        header: Header,
-        card: *const u8,
-        card_len: usize,
-        ranks: *const u32,
-        ranks_len: usize,
-        pairs: *const u32,
-        pairs_len: usize,
-        live: *mut u32,
-        live_len: usize,
-        down: *const u32,
-        down_len: usize,
-        estimates: *const u32,
-        estimates_len: usize,
-        elapsed: *const u32,
-        elapsed_len: usize,
-        road: u32,
-        time: u32,
-    ) -> Returned;
+        header;
+        card: const u8,
+        ranks: const u32,
+        pairs: const u32,
+        live: mut u32,
+        down: const u32,
+        estimates: const u32,
+        elapsed: const u32;
+        road,
+        time
+    );
     fn unit_aim(
-        header: Header,
-        card: *const u8,
-        card_len: usize,
-        ranks: *const u32,
-        ranks_len: usize,
-        pairs: *const u32,
-        pairs_len: usize,
-        live: *const u32,
-        live_len: usize,
-        down: *mut u32,
-        down_len: usize,
-        estimates: *mut u32,
-        estimates_len: usize,
-        elapsed: *const u32,
-        elapsed_len: usize,
-        junction: u32,
-    ) -> Returned;
+        header;
+        card: const u8,
+        ranks: const u32,
+        pairs: const u32,
+        live: const u32,
+        down: mut u32,
+        estimates: mut u32,
+        elapsed: const u32;
+        junction
+    );
     fn unit_estimate(
-        header: Header,
-        card: *const u8,
-        card_len: usize,
-        ranks: *const u32,
-        ranks_len: usize,
-        pairs: *const u32,
-        pairs_len: usize,
-        live: *const u32,
-        live_len: usize,
-        down: *const u32,
-        down_len: usize,
-        estimates: *mut u32,
-        estimates_len: usize,
-        elapsed: *const u32,
-        elapsed_len: usize,
-        junction: u32,
-    ) -> Returned;
+        header;
+        card: const u8,
+        ranks: const u32,
+        pairs: const u32,
+        live: const u32,
+        down: const u32,
+        estimates: mut u32,
+        elapsed: const u32;
+        junction
+    );
     fn unit_go(
-        header: Header,
-        card: *const u8,
-        card_len: usize,
-        ranks: *const u32,
-        ranks_len: usize,
-        pairs: *const u32,
-        pairs_len: usize,
-        live: *const u32,
-        live_len: usize,
-        down: *const u32,
-        down_len: usize,
-        estimates: *mut u32,
-        estimates_len: usize,
-        elapsed: *mut u32,
-        elapsed_len: usize,
-        route: *mut u32,
-        route_len: usize,
-        log: *mut u32,
-        log_len: usize,
-        start: u32,
-    ) -> Returned;
+        header;
+        card: const u8,
+        ranks: const u32,
+        pairs: const u32,
+        live: const u32,
+        down: const u32,
+        estimates: mut u32,
+        elapsed: mut u32,
+        route: mut u32,
+        log: mut u32;
+        start
+    );
 }
 
 /// What a word holds before a call that is to write it.
@@ -229,6 +213,14 @@ impl Area {
     }
 }
 
+/// The two areas that a call is lent to write a route and a log; empty ones if it is no go.
+pub fn lent_areas(call: Call) -> (Area, Area) {
+    match call {
+        Call::Go { route, log, .. } => (Area::new(route), Area::new(log)),
+        _ => (Area::new(0), Area::new(0)),
+    }
+}
+
 impl Deref for Area {
     type Target = [u32];
 
@@ -244,8 +236,7 @@ impl DerefMut for Area {
     }
 }
 
-/// A unit: its card, header and areas. What calls write lies within the areas that they are lent, which
-/// is seen by guard words where debug assertions are on.
+/// A unit: its card, its header and its areas.
 #[derive(Clone, Debug, PartialEq, Eq)]
 pub struct Unit {
     pub card: Vec<u8>,
@@ -282,7 +273,7 @@ impl Unit {
         }
     }
 
-    /// The areas that no call alters, those that some do, and their names.
+    /// The six areas and their names.
     pub fn areas(&self) -> [(&'static str, &Area); 6] {
         [
             ("ranks", &self.ranks),
@@ -305,6 +296,11 @@ impl Unit {
         ]
     }
 
+    /// Are the guard words of all areas as they were?
+    pub fn guarded(&self) -> bool {
+        self.areas().iter().all(|(_, area)| area.guarded())
+    }
+
     pub fn prepare(&mut self) -> Result<(), Refusal> {
         let returned = lend!(unit_prepare(
             ;
@@ -321,7 +317,6 @@ impl Unit {
 
     /// Takes the header back, and an answer that refuses.
     fn hand_back(&mut self, returned: Returned) -> Result<Returned, Refusal> {
-        debug_assert!(self.areas().iter().all(|(_, area)| area.guarded()), "guard words altered");
         self.header = returned.header;
         match returned {
             Returned { question: 0, .. } => Ok(returned),

@@ -1,9 +1,9 @@
 //! Lists of random calls on the proved unit, beside document 01's plain machine and the plain router.
 //!
-//! A list of any seed and length by hand, from the repository's root:
+//! With another seed and as many calls as you like, from the repository's root:
 //!
 //! ```text
-//! CALLS_SEED=7 CALLS_LENGTH=1000000 cargo test --offline --manifest-path rust/Cargo.toml --target-dir target/cargo --test calls lists
+//! CALLS_SEED=7 CALLS_LENGTH=1000000 CALLS_SECONDS=3600 cargo test --release --offline --manifest-path rust/Cargo.toml --target-dir target/cargo --test calls --test forged
 //! ```
 
 use harness::both::{with_stack, Both};
@@ -12,15 +12,9 @@ use harness::card::{LONGEST, MOST_JUNCTIONS, MOST_ROADS};
 use harness::machine::Machine;
 use harness::maps::{self, Map, Streets};
 use harness::order::{self, MOST_PAIRS};
-use harness::random::Random;
+use harness::random::{setting, Random};
 use harness::time::{Time, CLOSED, NONE, UNASKED};
-use harness::unit::{Area, Unit};
-use std::env;
-
-/// A number from the environment.
-fn setting(name: &str, default: usize) -> usize {
-    env::var(name).map_or(default, |value| value.parse().expect("a number"))
-}
+use harness::unit::{lent_areas, Unit};
 
 /// How often each call was answered with each number, 0 for accepted, and estimates with none.
 #[derive(Debug, Default)]
@@ -138,13 +132,6 @@ fn refused_lengths(unit: &mut Unit, call: Call) -> Answer {
     assert!(*unit == before, "{call:?} with wrong lengths alters the unit");
     assert!((route, log) == lent_areas(call), "{call:?} with wrong lengths alters a lent area");
     answer
-}
-
-fn lent_areas(call: Call) -> (Area, Area) {
-    match call {
-        Call::Go { route, log, .. } => (Area::new(route), Area::new(log)),
-        _ => (Area::new(0), Area::new(0)),
-    }
 }
 
 /// Prepares a map and makes a list of calls. Every answer, route and log is the machine's; the header

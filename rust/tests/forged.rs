@@ -8,9 +8,9 @@ use harness::card::{self, LONGEST, MOST_JUNCTIONS, MOST_ROADS};
 use harness::damage::CardDamage;
 use harness::maps::{self, Streets};
 use harness::order::{self, MOST_PAIRS};
-use harness::random::Random;
+use harness::random::{setting, Random};
 use harness::time::{CLOSED, NONE, UNASKED};
-use harness::unit::{Area, Header, Unit};
+use harness::unit::{lent_areas, Header, Unit};
 
 /// What the words of an area are taken from.
 #[derive(Clone, Copy, Debug)]
@@ -167,12 +167,10 @@ fn call(random: &mut Random, unit: &Unit) -> Call {
 /// Makes a call, and looks at what it may not alter. The number that it is refused with, 0 if it is not.
 fn free_call(unit: &mut Unit, call: Call) -> usize {
     let before = unit.clone();
-    let (mut route, mut log) = match call {
-        Call::Go { route, log, .. } => (Area::new(route), Area::new(log)),
-        _ => (Area::new(0), Area::new(0)),
-    };
+    let (mut route, mut log) = lent_areas(call);
     let answer = unit.call(call, &mut route, &mut log);
-    assert!(route.guarded() && log.guarded(), "{call:?} alters guard words");
+    let guarded = unit.guarded() && route.guarded() && log.guarded();
+    assert!(guarded, "{call:?} alters guard words");
 
     let Header { n, m, pairs, aimed, target } = unit.header;
     let old = before.header;
@@ -197,10 +195,11 @@ fn free_call(unit: &mut Unit, call: Call) -> usize {
     answer.map_or_else(|refusal| refusal.number() as usize, |_| 0)
 }
 
-fn free_calls(seed: u64, units: usize, make: impl Fn(&mut Random) -> Unit) -> [usize; 16] {
-    let mut random = Random::new(seed);
+/// Makes calls on one unit after another. How often they were refused with each number, 0 for accepted.
+fn free_calls(seed: usize, calls: usize, make: impl Fn(&mut Random) -> Unit) -> [usize; 16] {
+    let mut random = Random::new((setting("CALLS_SEED", 0) + seed) as u64);
     let mut met = [0; 16];
-    for _ in 0..units {
+    while met.iter().sum::<usize>() < calls {
         let mut unit = make(&mut random);
         for _ in 0..=random.below(12) {
             let call = call(&mut random, &unit);
@@ -213,8 +212,9 @@ fn free_calls(seed: u64, units: usize, make: impl Fn(&mut Random) -> Unit) -> [u
 #[test]
 fn noise_in_every_area() {
     with_stack(|| {
-        let met = free_calls(1, 4_000, forge);
-        let enough = met[0] > 5_000 && met[12] > 500 && met[15] > 100;
+        let calls = setting("CALLS_LENGTH", 30_000);
+        let met = free_calls(1, calls, forge);
+        let enough = met[0] > calls / 4 && met[12] > calls / 20 && met[15] > calls / 100;
         assert!(enough, "{met:?}");
     });
 }
@@ -222,8 +222,9 @@ fn noise_in_every_area() {
 #[test]
 fn damaged_states() {
     with_stack(|| {
-        let met = free_calls(2, 8_000, damage);
-        let enough = met[0] > 20_000 && met[15] > 1_000;
+        let calls = setting("CALLS_LENGTH", 60_000);
+        let met = free_calls(2, calls, damage);
+        let enough = met[0] > calls / 3 && met[15] > calls / 50;
         assert!(enough, "{met:?}");
     });
 }
@@ -303,7 +304,7 @@ fn headers_of_any_size() {
                 free_call(&mut unit, call);
                 continue;
             }
-            let (mut route, mut log) = (Area::new(n), Area::new(n));
+            let (mut route, mut log) = lent_areas(call);
             let answer = unit.call(call, &mut route, &mut log);
             assert_eq!(answer.err(), Some(Refusal::Lengths), "{header:?}");
             refusals += 1;
