@@ -35,7 +35,3 @@ starts-known card a l o e r ea el eo ee h = rw (← ea, ← el, ← eo, ← ee) 
 pub part-known : (card : List ℕ) (entry s l : ℕ) → s ≡ wordAt card (entry + 4) → l ≡ wordAt card (entry + 8)
     → take (s + l - s) (drop s card) ≡ take (wordAt card (entry + 8)) (drop (wordAt card (entry + 4)) card)
 part-known card entry s l es el = rw (← es, ← el, add-sub-cancel-left)
-
--- a part by its start and length
-pub part-from : (card : List ℕ) (s l : ℕ) → take (s + l - s) (drop s card) ≡ take l (drop s card)
-part-from card s l = rw add-sub-cancel-left

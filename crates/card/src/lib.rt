@@ -6,12 +6,11 @@ ghost use Rattle.model.specs.Bytes.{wordAt};
 ghost use Rattle.model.specs.Card.{cardOf, kindsOk, startsOk};
 ghost use Rattle.model.specs.Contracts.{ReadContract, WriteContract};
 ghost use Rattle.card.specs.Answers.{readingIn, rowsOf, writingIn};
-ghost use Rattle.card.specs.Parts.{orderIn, roadsIn};
 use network::Refusal;
 
-pub mod body;
-pub mod questions;
-pub mod row;
+mod body;
+mod questions;
+mod row;
 
 // What reading answers: n and m, or a refusal.
 pub enum Reading {
@@ -92,25 +91,6 @@ pub fn read(card: &[u8]) -> Reading
         Verdict::Failed(q) => Reading::Unreadable(q),
         Verdict::Passed => Reading::Read((order.len() / 4) as u32, (roads.len() / 12) as u32),
     }
-}
-
-// The roads of a card that was accepted with m roads.
-pub fn roads_of(card: &[u8], m: u32) -> &[u8]
-    requires { ⌜ 28 + 12 * m ≤ length (now card) ⌝ }
-    ensures { λ r. ⌜ now r ≡ roadsIn (now (card .entry)) m ⌝ }
-{
-    let end = 28 + 12 * (m as usize);
-    &card[28..end]
-}
-
-// The order of a card that was accepted with n junctions and m roads.
-pub fn order_of(card: &[u8], n: u32, m: u32) -> &[u8]
-    requires { ⌜ 28 + 12 * m + 4 * n ≤ length (now card) ⌝ }
-    ensures { λ r. ⌜ now r ≡ orderIn (now (card .entry)) n m ⌝ }
-{
-    let start = 28 + 12 * (m as usize);
-    let end = start + 4 * (n as usize);
-    &card[start..end]
 }
 
 // Writes the table of contents and the two bodies.

@@ -13,6 +13,7 @@ ghost use Rattle.model.specs.State.{Lent, lengthsFit, noneLent, question9, zero
 ghost use Rattle.model.specs.Calls.{goAnswer, settable};
 ghost use Rattle.model.specs.Machine.{plain};
 ghost use Rattle.model.specs.Contracts.{AimContract, EstimateContract, GoContract, PrepareContract, SetContract, after, areasOf, before};
+ghost use Rattle.card.specs.Parts.{orderIn, roadsIn};
 ghost use Rattle.unit.specs.Preparing.{Accepts, roomed};
 ghost use Rattle.unit.specs.Calls.{Called, callIn};
 ghost use Rattle.unit.specs.Script.{ReplayContract, Turned, answerWords, spelled};
@@ -71,7 +72,7 @@ fn lengths_fit(
     estimates: usize,
     elapsed: usize,
 ) -> bool
-    requires { ⌜ p ≤ 4294967295 ⌝ }
+    requires { ⌜ p < 4294967296 ⌝ }
     ensures { λ r. ⌜ r ≡ lengthsFit n m p ranks pairs live down estimates elapsed ⌝ }
 {
     if ranks != n {
@@ -126,6 +127,25 @@ fn fits(
         return false;
     }
     lengths_fit(n, m, p, ranks, pairs, live, down, estimates, elapsed)
+}
+
+// The roads of a card that was accepted with m roads.
+fn roads_of(card: &[u8], m: u32) -> &[u8]
+    requires { ⌜ 28 + 12 * m ≤ length (now card) ⌝ }
+    ensures { λ r. ⌜ now r ≡ roadsIn (now (card .entry)) m ⌝ }
+{
+    let end = 28 + 12 * (m as usize);
+    &card[28..end]
+}
+
+// The order of a card that was accepted with n junctions and m roads.
+fn order_of(card: &[u8], n: u32, m: u32) -> &[u8]
+    requires { ⌜ 28 + 12 * m + 4 * n ≤ length (now card) ⌝ }
+    ensures { λ r. ⌜ now r ≡ orderIn (now (card .entry)) n m ⌝ }
+{
+    let start = 28 + 12 * (m as usize);
+    let end = start + 4 * (n as usize);
+    &card[start..end]
 }
 
 // Question 11.
@@ -219,8 +239,8 @@ fn prepare_areas(
     ensures { λ r. ⌜ after (answeredIn r) (areasOf (now (ranks .exit)) (now (pairs .exit)) (now (live .exit)) (now (down .exit)) (now (estimates .exit)) (now (elapsed .exit))) noneLent
         ≡ roomed (mapOn (now (card .entry))) (areasOf (now (ranks .entry)) (now (pairs .entry)) (now (live .entry)) (now (down .entry)) (now (estimates .entry)) (now (elapsed .entry))) ⌝ }
 {
-    let roads = card::roads_of(card, m);
-    let order = card::order_of(card, n, m);
+    let roads = roads_of(card, m);
+    let order = order_of(card, n, m);
     contraction::fill_ranks(order, ranks);
     match contraction::contract(roads, order, ranks, pairs) {
         Contracted::Overflow => {
@@ -348,7 +368,7 @@ impl Header {
             };
         }
         let i = road as usize;
-        let base = network::base_of(card::roads_of(card, m), i);
+        let base = network::base_of(roads_of(card, m), i);
         if !allowed(base, time) {
             return Answered {
                 header: self,
@@ -404,7 +424,7 @@ impl Header {
                 answer: Answer::Refused(Refusal::NoJunction),
             };
         }
-        hierarchy::down_totals(n, p, card::order_of(card, n, m), pairs, down, j);
+        hierarchy::down_totals(n, p, order_of(card, n, m), pairs, down, j);
         hierarchy::fill(estimates, Time::UNASKED);
         Answered {
             header: Header {
@@ -469,7 +489,7 @@ impl Header {
                 let t = hierarchy::estimate(
                     n,
                     p,
-                    card::order_of(card, n, m),
+                    order_of(card, n, m),
                     ranks,
                     pairs,
                     down,
@@ -548,8 +568,8 @@ impl Header {
                         answer: Answer::Refused(Refusal::LentLengths),
                     };
                 }
-                let roads = card::roads_of(card, m);
-                let order = card::order_of(card, n, m);
+                let roads = roads_of(card, m);
+                let order = order_of(card, n, m);
                 let found = search::search(
                     n,
                     m,

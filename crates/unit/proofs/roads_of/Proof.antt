@@ -1,8 +1,8 @@
 use Prim.Native.Nat.{_*_}
-use Rattle.card.proofs.Table.{part-from}
+use Rattle.unit.proofs.Bodies.{part-from}
 use borrow.Author.Needs.{needs}
-use Rattle.card.proofs.roads_of.Statement.{statement}
-use Rattle.card.proofs.roads_of.Tie as tie
+use Rattle.unit.proofs.roads_of.Statement.{statement}
+use Rattle.unit.proofs.roads_of.Tie as tie
 
 returns : tie.Need-returns
 returns c = part-from (c .before .args .card .now) 28 (12 * c .before .args .m)
