@@ -11,7 +11,7 @@ use lib.Dec.{eqb}
 use native.Mathlib.Decide.{ℕ-discrete}
 use native.Mathlib.Nat.{not-suc-le-zero}
 use native.Mathlib.Omega.{arith}
-use Rattle.graph.specs.Total.{Total, _⊕_, cond-no, cond-same, cond-yes}
+use Rattle.graph.specs.Total.{Total, _⊕_, cond-no, cond-same, cond-yes, true-false}
 use Rattle.graph.specs.Least.{minBelow, minBelow-cong, minBelow-none, minBelow-only}
 use Rattle.graph.specs.Lists.{Ordered, ordered-cons, ordered-nil}
 use Rattle.graph.specs.Path.{EndsBelow, Weights}
@@ -137,14 +137,28 @@ module _ (w : Weights) where
 abbrev pub recordOf : Map → (low high : ℕ) → Pair
 recordOf M low high = record { low = rank M low; high = rank M high; upTime = upOf M low high; downTime = downOf M low high }
 
--- p is the record of two junctions, low the one of smaller rank, and "either time exists"
+-- "either time exists"
+abbrev pub Timed : (upTime downTime : Total) → Type 0
+Timed x y = ((t : ℕ) × (x ≡ some t)) ⊎ ((t : ℕ) × (y ≡ some t))
+
+exists-timed : (x y : Total) → exists x y ≡ true → Timed x y
+exists-timed none none e = absurd (true-false e refl)
+exists-timed none (some d) e = inr (d, refl)
+exists-timed (some u) y e = inl (u, refl)
+
+timed-exists : (x y : Total) → Timed x y → exists x y ≡ true
+timed-exists x y (inl h) = rw (h .1)
+timed-exists none y (inr h) = rw (h .1)
+timed-exists (some u) y (inr h) = refl
+
+-- p is the record of two junctions whose pair is kept, low the one of smaller rank
 pub record KeptPair (M : Map) (p : Pair) : Type 0 where
   pub low : ℕ
   pub high : ℕ
   pub low-below : low < M .vertices
   pub high-below : high < M .vertices
   pub ranked : rank M low < rank M high
-  pub timed : exists (upOf M low high) (downOf M low high) ≡ true
+  pub timed : Timed (upOf M low high) (downOf M low high)
   pub is : p ≡ recordOf M low high
 
 -- every kept pair stands in l, nothing else does, and l ascends, so that none stands twice
@@ -159,7 +173,7 @@ pairsOf-kept {M} ok = record { all = all; only = only; ascending = rows-ordered 
     all : (p : Pair) → KeptPair M p → List·Memᴰ p (pairsOf M)
     all p k =
         Memᴰ·cast (k .is)
-        (rows-pair (weights M) (rank M (k .low)) (rank M (k .high)) (M .vertices) (M .vertices) (rank-below (ok .orders) (k .low) (k .low-below)) (rank-below (ok .orders) (k .high) (k .high-below)) (k .timed))
+        (rows-pair (weights M) (rank M (k .low)) (rank M (k .high)) (M .vertices) (M .vertices) (rank-below (ok .orders) (k .low) (k .low-below)) (rank-below (ok .orders) (k .high) (k .high-below)) (timed-exists (upOf M (k .low) (k .high)) (downOf M (k .low) (k .high)) (k .timed)))
 
     only : (p : Pair) → List·Memᴰ p (pairsOf M) → KeptPair M p
     only p m =
@@ -172,7 +186,7 @@ pairsOf-kept {M} ok = record { all = all; only = only; ascending = rows-ordered 
           low-below = ok .orders .below (r .l) (r .lows);
           high-below = ok .orders .below (r .h) (r .highs);
           ranked = rw (a, b) (r .less);
-          timed = rw (a, b) (r .timed);
+          timed = rw (a, b) (exists-timed (up (weights M) (r .l) (r .h)) (down (weights M) (r .l) (r .h)) (r .timed));
           is = rw (a, b) (r .is);
         }
 
