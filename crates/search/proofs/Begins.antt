@@ -14,8 +14,8 @@ use Rattle.model.specs.Bytes.{listed}
 use Rattle.model.specs.Good.{AimFacts}
 use Rattle.network.specs.Bodies.{mapIn}
 use Rattle.hierarchy.specs.Estimates.{Estimated, aim-estimated}
-use Rattle.labels.specs.Keys.{noKey}
-use Rattle.labels.specs.Winners.{Entered, Winners}
+use Rattle.keys.specs.Keys.{noKey}
+use Rattle.keys.specs.Winners.{Entered, Winners}
 use Rattle.labels.specs.Labelled.{word-none, word-some}
 use Rattle.labels.specs.Begun.{labels-first, labels-none, winners-fresh}
 use Rattle.search.specs.State.{Asked, Begun, Filling, Ready, asked-start, goIn}

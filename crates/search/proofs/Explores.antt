@@ -20,10 +20,10 @@ use Rattle.graph.specs.Steps.{complete-history}
 use Rattle.model.specs.Calls.{first}
 use Rattle.model.specs.Ends.{first-snoc}
 use Rattle.network.specs.declared.Junction.{Junction}
-use Rattle.labels.specs.declared.Choice.{Choice}
-use Rattle.labels.specs.declared.Choice.the-variants.{At, Nothing}
-use Rattle.labels.specs.Keys.{Chosen, LeastKey, settledKey}
-use Rattle.labels.specs.Winners.{Chooses, Inside, Settled, Winners}
+use Rattle.keys.specs.declared.Choice.{Choice}
+use Rattle.keys.specs.declared.Choice.the-variants.{At, Nothing}
+use Rattle.keys.specs.Keys.{Chosen, LeastKey, settledKey}
+use Rattle.keys.specs.Winners.{Chooses, Inside, Settled, Winners}
 use Rattle.labels.specs.Labelled.{Labelled, Labels, label-candidate, label-hopeless, label-logged, label-unseen}
 use Rattle.labels.specs.Relax.{labels-full}
 use Rattle.labels.specs.Log.{labels-log, next-chosen, next-none}

@@ -6,7 +6,7 @@ use lib.ListN.{getD}
 use native.Mathlib.Omega.{arith}
 use Rattle.graph.specs.Search.{Entry}
 use Rattle.model.specs.Bytes.{wordAt}
-use Rattle.labels.specs.Grouped.{FirstFrom, Grouped}
+use Rattle.ways.specs.Grouped.{FirstFrom, Grouped}
 use Rattle.labels.specs.Relax.{labels-skip}
 use Rattle.search.specs.State.{Held, Ready, Relaxed, goIn}
 use Rattle.search.proofs.Facts.{codes}

@@ -21,7 +21,7 @@ use Rattle.network.specs.Bodies.{mapIn}
 use Rattle.hierarchy.specs.Estimates.{Estimated, aim-estimated}
 use Rattle.labels.specs.Improved.{Stored}
 use Rattle.labels.specs.Labelled.{Labelled, Labels}
-use Rattle.labels.specs.Winners.{Entered}
+use Rattle.keys.specs.Winners.{Entered}
 use Rattle.labels.specs.Relax.{label-falls, label-improved, label-passed}
 use Rattle.search.specs.State.{Asked, Relaxed, asked-head, goIn}
 use Rattle.search.proofs.Facts.{codes}

@@ -10,8 +10,8 @@ use Rattle.model.specs.Word.{noneWord}
 use Rattle.model.specs.Bytes.{listed}
 use Rattle.model.specs.Calls.{first}
 use Rattle.network.specs.Bodies.{map-facts}
-use Rattle.labels.specs.Keys.{kept}
-use Rattle.labels.specs.Ways.{roadsBack, wayOf}
+use Rattle.keys.specs.Keys.{kept}
+use Rattle.ways.specs.Ways.{roadsBack, wayOf}
 use Rattle.search.specs.State.{Begun, Explores, Ready}
 use Rattle.search.specs.Searches.{Searches}
 use Rattle.search.proofs.Answers.{answer-found, answer-lost}

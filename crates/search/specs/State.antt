@@ -11,7 +11,7 @@ use Rattle.graph.specs.Map.{Map, fills}
 use Rattle.model.specs.Calls.{first, liveOf, searchOf, settable}
 use Rattle.model.specs.Good.{AimFacts, Filled}
 use Rattle.network.specs.Bodies.{Prepared, mapIn}
-use Rattle.labels.specs.Winners.{Winners}
+use Rattle.keys.specs.Winners.{Winners}
 use Rattle.labels.specs.Labelled.{Labels}
 
 -- lengths of what is lent: n junctions, m roads, count pairs
