@@ -1,9 +1,9 @@
-use Rattle.hierarchy.proofs.Tests.{answer-none, answer-other}
+use Rattle.records.specs.Tests.{answer-none, answer-other}
 use borrow.Author.Needs.{needs}
 use borrow.Author.Tests.{eqb-false, eqb-true}
 use mathlib.Core.Path.{_∙_, sym}
-use Rattle.hierarchy.proofs.answer_of.Statement.{statement}
-use Rattle.hierarchy.proofs.answer_of.Tie as tie
+use Rattle.records.proofs.answer_of.Statement.{statement}
+use Rattle.records.proofs.answer_of.Tie as tie
 
 returns : tie.Need-returns
 returns c = answer-none _ (eqb-true _ _ (sym (c .before .is-unasked .ensures) ∙ c .if1 .taken))

@@ -9,7 +9,7 @@ use native.Mathlib.Decide.{ℕ-discrete}
 use native.Mathlib.Omega.{arith}
 use Rattle.graph.specs.Total.{and-true}
 use Rattle.model.specs.Word.{noneWord, unasked}
-use Rattle.hierarchy.specs.Walks.{Ascending, answer, leads, lowIn}
+use Rattle.records.specs.Words.{Ascending, answer, leads, lowIn}
 
 -- ---- a record that leads up
 

@@ -1,7 +1,7 @@
-use Rattle.hierarchy.proofs.Tests.{leads-by, leads-down, leads-other, leads-out}
+use Rattle.records.specs.Tests.{leads-by, leads-down, leads-other, leads-out}
 use borrow.Author.Needs.{needs}
-use Rattle.hierarchy.proofs.leads_up.Statement.{statement}
-use Rattle.hierarchy.proofs.leads_up.Tie as tie
+use Rattle.records.proofs.leads_up.Statement.{statement}
+use Rattle.records.proofs.leads_up.Tie as tie
 
 returns : tie.Need-returns
 returns c = leads-other _ _ _ _ _ (c .if1 .taken)

@@ -1,10 +1,10 @@
-use Rattle.hierarchy.proofs.Tests.{bisect-high, bisect-low}
-use Rattle.hierarchy.specs.Walks.{Ascending, lowIn}
+use Rattle.records.specs.Tests.{bisect-high, bisect-low}
+use Rattle.records.specs.Words.{Ascending, lowIn}
 use borrow.Author.Needs.{needs}
 use native.Mathlib.Omega.{arith}
 use Prim.Native.Nat.{ℕ, _-_, _≤_, _<_}
-use Rattle.hierarchy.proofs.first_of.Statement.{statement}
-use Rattle.hierarchy.proofs.first_of.Tie as tie
+use Rattle.records.proofs.first_of.Statement.{statement}
+use Rattle.records.proofs.first_of.Tie as tie
 
 abbrev Inv-loop : tie.InvT-loop
 Inv-loop pairs count r lo₀ hi₀ lo hi = (lo ≤ hi) × (hi ≤ count) × (Ascending pairs count → (i : ℕ) → i < lo → lowIn pairs i < r .0) × (Ascending pairs count → (i : ℕ) → hi ≤ i → i < count → r .0 ≤ lowIn pairs i)
