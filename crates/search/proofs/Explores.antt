@@ -27,9 +27,9 @@ use Rattle.keys.specs.Winners.{Chooses, Inside, Settled, Winners}
 use Rattle.labels.specs.Labelled.{Labelled, Labels, label-candidate, label-hopeless, label-logged, label-unseen}
 use Rattle.labels.specs.Relax.{labels-full}
 use Rattle.labels.specs.Log.{labels-log, next-chosen, next-none}
-use Rattle.search.specs.State.{Explored, Explores, Held, Logged, Ready, Relaxed, goIn}
-use Rattle.search.proofs.Facts.{codes}
-use Rattle.search.proofs.Fills.{asked-full, asked-log, asked-log-back, filling-same}
+use Rattle.relaxing.specs.State.{Explored, Explores, Held, Logged, Ready, Relaxed, goIn}
+use Rattle.relaxing.specs.Facts.{codes}
+use Rattle.relaxing.specs.Fills.{asked-full, asked-log, asked-log-back, filling-same}
 
 -- the log with one entry more
 log-more : (H : List Entry) (E : Entry) → vertices (reverse (E ∷ H)) ≡ vertices (reverse H) ++ (E .vertex ∷ [])

@@ -12,7 +12,7 @@ use Rattle.model.specs.Calls.{first}
 use Rattle.network.specs.Bodies.{map-facts}
 use Rattle.keys.specs.Keys.{kept}
 use Rattle.ways.specs.Ways.{roadsBack, wayOf}
-use Rattle.search.specs.State.{Begun, Explores, Ready}
+use Rattle.relaxing.specs.State.{Begun, Explores, Ready}
 use Rattle.search.specs.Searches.{Searches}
 use Rattle.search.proofs.Answers.{answer-found, answer-lost}
 

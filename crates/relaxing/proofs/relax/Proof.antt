@@ -3,9 +3,9 @@ use native.Mathlib.Omega.{arith}
 use mathlib.Core.Path.{_≡_, refl}
 use Prim.Native.Nat.{_-_}
 use lib.ListN.{length}
-use Rattle.search.proofs.Relaxes.{Standing, next-from, standing-end, standing-start, standing-turn}
-use Rattle.search.proofs.relax.Statement.{statement}
-use Rattle.search.proofs.relax.Tie as tie
+use Rattle.relaxing.proofs.Relaxes.{Standing, next-from, standing-end, standing-start, standing-turn}
+use Rattle.relaxing.proofs.relax.Statement.{statement}
+use Rattle.relaxing.proofs.relax.Tie as tie
 
 abbrev Inv-loop : tie.InvT-loop
 Inv-loop n m count roads order ranks pairs live down estimates₀ elapsed₀ keys₀ vias₀ wins₀ firsts nexts a from i₀ estimates elapsed keys vias wins i = (length estimates ≡ length estimates₀) × (length elapsed ≡ length elapsed₀) × (length keys ≡ length keys₀) × (length vias ≡ length vias₀) × (length wins ≡ length wins₀) × Standing roads order ranks pairs live down n m count a (from .0) i estimates₀ elapsed₀ keys₀ vias₀ wins₀ estimates elapsed keys vias wins

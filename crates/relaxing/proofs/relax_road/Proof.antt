@@ -1,9 +1,9 @@
 use native.Mathlib.Omega.{arith}
 use mathlib.Core.Path.{_∙_, sym}
-use Rattle.search.proofs.Roads.{road-closed, road-far, road-open}
+use Rattle.relaxing.proofs.Roads.{road-closed, road-far, road-open}
 use borrow.Author.Needs.{needs}
-use Rattle.search.proofs.relax_road.Statement.{statement}
-use Rattle.search.proofs.relax_road.Tie as tie
+use Rattle.relaxing.proofs.relax_road.Statement.{statement}
+use Rattle.relaxing.proofs.relax_road.Tie as tie
 
 returns : tie.Need-returns
 returns c =

@@ -15,7 +15,7 @@ use Rattle.graph.specs.Map.{Map, estimateOf, fills}
 use Rattle.model.specs.Word.{word}
 use Rattle.model.specs.Calls.{filled}
 use Rattle.model.specs.Good.{AimFacts, Filled, filled-length, filled-no, filled-yes}
-use Rattle.search.specs.State.{Asked, Filling, asked-head, asked-start}
+use Rattle.relaxing.specs.State.{Asked, Filling, asked-head, asked-start}
 
 module _ {M : Map} {z : ℕ} {A B : ℕ → Type 0} {down e₀ : List ℕ} where
   -- the same junctions by another description

@@ -20,7 +20,7 @@ use Rattle.model.specs.Good.{settable-most, settable-slower}
 use Rattle.network.specs.Bodies.{head-in, map-facts, mapIn, tail-in}
 use Rattle.labels.specs.Labelled.{Searchable}
 use Rattle.labels.specs.Begun.{StartsAt}
-use Rattle.search.specs.State.{Ready, goIn}
+use Rattle.relaxing.specs.State.{Ready, goIn}
 
 -- the problem by the words of the code
 pub record Codes (roads order live : List ℕ) (n m s z : ℕ) : Type 0 where

@@ -8,9 +8,9 @@ use Rattle.graph.specs.Search.{Entry}
 use Rattle.model.specs.Bytes.{wordAt}
 use Rattle.ways.specs.Grouped.{FirstFrom, Grouped}
 use Rattle.labels.specs.Relax.{labels-skip}
-use Rattle.search.specs.State.{Held, Ready, Relaxed, goIn}
-use Rattle.search.proofs.Facts.{codes}
-use Rattle.search.proofs.Fills.{asked-skip, asked-skip-back, filling-same}
+use Rattle.relaxing.specs.State.{Held, Ready, Relaxed, goIn}
+use Rattle.relaxing.specs.Facts.{codes}
+use Rattle.relaxing.specs.Fills.{asked-skip, asked-skip-back, filling-same}
 
 module _ (roads order ranks pairs live down : List ℕ) (n m count u t : ℕ) where
   -- the loop stands at road i: it is the next of u's, or m

@@ -23,9 +23,9 @@ use Rattle.labels.specs.Improved.{Stored}
 use Rattle.labels.specs.Labelled.{Labelled, Labels}
 use Rattle.keys.specs.Winners.{Entered}
 use Rattle.labels.specs.Relax.{label-falls, label-improved, label-passed}
-use Rattle.search.specs.State.{Asked, Relaxed, asked-head, goIn}
-use Rattle.search.proofs.Facts.{codes}
-use Rattle.search.proofs.Fills.{asked-closed, asked-on, asked-open, filling-more, filling-same}
+use Rattle.relaxing.specs.State.{Asked, Relaxed, asked-head, goIn}
+use Rattle.relaxing.specs.Facts.{codes}
+use Rattle.relaxing.specs.Fills.{asked-closed, asked-on, asked-open, filling-more, filling-same}
 
 -- a closed road gives nothing, nor does one that leads elsewhere
 via-closed : (G : Problem) (H : List Entry) (v i : ℕ) → G .net .cost i ≡ none → offerVia (G .net) H v i ≡ none
