@@ -5,6 +5,7 @@ ghost use lib.ListN.{getD, length};
 ghost use Rattle.keys.specs.Keys.{noKey};
 ghost use Rattle.ways.specs.Grouped.{Grouped};
 ghost use Rattle.relaxing.specs.State.{Begun, Explores, Sized};
+ghost use Rattle.search.specs.Logs.{Logs};
 ghost use Rattle.search.specs.Searches.{Searches};
 use hierarchy::estimate;
 use hierarchy::fill;
@@ -114,15 +115,8 @@ fn explore(
     c
 }
 
-// The answer of a search: the total or none, the number of logged junctions (document 01: count), and of the route's roads.
-pub struct Searched {
-    pub total: Time,
-    pub count: u32,
-    pub roads: u32,
-}
-
-// The search of a go from the start to the target that was aimed at last.
-pub fn search(
+// Logs from the start on, until the target is logged or no candidate is left; answered with the number of logged junctions. Elapsed holds their times, `vias` the roads that gave them.
+fn log_all(
     n: u32,
     m: u32,
     count: u32,
@@ -134,16 +128,15 @@ pub fn search(
     down: &[u32],
     estimates: &mut [u32],
     elapsed: &mut [u32],
-    route: &mut [u32],
+    vias: &mut [u32],
     log: &mut [u32],
     start: Junction,
     target: Junction,
-) -> Searched
-    requires { ⌜ (start .0 < n) × (target .0 < n) × (n ≤ length (now route)) × (n ≤ length (now log)) × Sized n m count (length (now roads)) (length (now order)) (length (now ranks)) (length (now pairs)) (length (now live)) (length (now down)) (length (now estimates)) (length (now elapsed)) ⌝ }
-    ensures { λ r. ⌜ Searches (now (roads .entry)) (now (order .entry)) (now (ranks .entry)) (now (pairs .entry)) (now (live .entry)) (now (down .entry)) count (start .0) (target .0) (now (estimates .entry)) (now (route .entry)) (now (log .entry)) (now (estimates .exit)) (now (elapsed .exit)) (now (route .exit)) (now (log .exit)) (r .total .0) (r .count) (r .roads) ⌝ }
+) -> u32
+    requires { ⌜ (start .0 < n) × (target .0 < n) × (n ≤ length (now vias)) × (n ≤ length (now log)) × Sized n m count (length (now roads)) (length (now order)) (length (now ranks)) (length (now pairs)) (length (now live)) (length (now down)) (length (now estimates)) (length (now elapsed)) ⌝ }
+    ensures { λ c. ⌜ Logs (now (roads .entry)) (now (order .entry)) (now (ranks .entry)) (now (pairs .entry)) (now (live .entry)) (now (down .entry)) n m count (start .0) (target .0) (now (estimates .entry)) (now (log .entry)) (now (estimates .exit)) (now (elapsed .exit)) (now (vias .exit)) (now (log .exit)) c ⌝ }
 {
     let mut keys = [NO_KEY; 4096];
-    let mut vias = [0u32; 4096];
     let mut wins = [0u32; 64];
     let mut firsts = [m; 4096];
     let mut nexts = [0u32; 16384];
@@ -174,7 +167,7 @@ pub fn search(
         estimates,
         elapsed,
         &mut keys,
-        &mut vias,
+        vias,
         &mut wins,
         &firsts,
         &nexts,
@@ -182,6 +175,55 @@ pub fn search(
         target,
     );
     finish(elapsed, &keys);
+    logged
+}
+
+// The answer of a search: the total or none, the number of logged junctions (document 01: count), and of the route's roads.
+pub struct Searched {
+    pub total: Time,
+    pub count: u32,
+    pub roads: u32,
+}
+
+// The search of a go from the start to the target that was aimed at last.
+pub fn search(
+    n: u32,
+    m: u32,
+    count: u32,
+    roads: &[u8],
+    order: &[u8],
+    ranks: &[u32],
+    pairs: &[u32],
+    live: &[u32],
+    down: &[u32],
+    estimates: &mut [u32],
+    elapsed: &mut [u32],
+    route: &mut [u32],
+    log: &mut [u32],
+    start: Junction,
+    target: Junction,
+) -> Searched
+    requires { ⌜ (start .0 < n) × (target .0 < n) × (n ≤ length (now route)) × (n ≤ length (now log)) × Sized n m count (length (now roads)) (length (now order)) (length (now ranks)) (length (now pairs)) (length (now live)) (length (now down)) (length (now estimates)) (length (now elapsed)) ⌝ }
+    ensures { λ r. ⌜ Searches (now (roads .entry)) (now (order .entry)) (now (ranks .entry)) (now (pairs .entry)) (now (live .entry)) (now (down .entry)) count (start .0) (target .0) (now (estimates .entry)) (now (route .entry)) (now (log .entry)) (now (estimates .exit)) (now (elapsed .exit)) (now (route .exit)) (now (log .exit)) (r .total .0) (r .count) (r .roads) ⌝ }
+{
+    let mut vias = [0u32; 4096];
+    let logged = log_all(
+        n,
+        m,
+        count,
+        roads,
+        order,
+        ranks,
+        pairs,
+        live,
+        down,
+        estimates,
+        elapsed,
+        &mut vias,
+        log,
+        start,
+        target,
+    );
     let z = target.0 as usize;
     let total = Time::of_word(elapsed[z]);
     if total.is_none() {
