@@ -27,8 +27,9 @@ use Rattle.model.specs.Good.{AimFacts, Filled, filled-no, filled-yes}
 use Rattle.model.specs.Use.{pairIn}
 use Rattle.network.specs.Width.{fit, fit-is, fit-min}
 use Rattle.hierarchy.specs.Estimates.{aim-filled}
-use Rattle.hierarchy.specs.Walks.{Climbed, Holds, Risen, Starts, Walked, above, answer, estimateAt, highIn, leads, lowIn, over, upIn}
-use Rattle.hierarchy.proofs.Tests.{Leads, answer-asked, answer-other, leads-facts}
+use Rattle.hierarchy.specs.Walks.{Climbed, Holds, Risen, Walked, above, estimateAt, over}
+use Rattle.records.specs.Words.{Starts, answer, highIn, leads, lowIn, upIn}
+use Rattle.records.specs.Tests.{Leads, answer-asked, answer-other, leads-facts}
 use Rattle.hierarchy.proofs.Facts.{Ranked, above-closed, above-here, above-link, ascending, climbs, down-small, estimate-small, idle, order-rank, over-all, over-here, over-idle, over-other, placed, ranked, up-small}
 
 -- the pair of record i

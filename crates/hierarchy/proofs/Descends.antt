@@ -22,7 +22,8 @@ use Rattle.model.specs.Ends.{listed-is}
 use Rattle.model.specs.Use.{pairIn}
 use Rattle.network.specs.Width.{Fits, fit, fit-is, fit-min, fit-ofWord, fit-out, fit-word, fits, fits-in, fits-out}
 use Rattle.network.specs.Bodies.{mapIn}
-use Rattle.hierarchy.specs.Walks.{Holds, downIn, highIn, lowIn}
+use Rattle.hierarchy.specs.Walks.{Holds}
+use Rattle.records.specs.Words.{downIn, highIn, lowIn}
 use Rattle.hierarchy.specs.Downs.{Descended, Descending, Handed, higherIn, lowerIn}
 use Rattle.hierarchy.proofs.Facts.{Ranked, down-small, down-time-small, order-rank, ranked}
 use Rattle.hierarchy.proofs.Prepares.{prepared-holds}

@@ -23,8 +23,9 @@ use Rattle.model.specs.Word.{noneWord, unasked, word}
 use Rattle.model.specs.Good.{UpClosed}
 use Rattle.model.specs.Use.{pairIn, pairIn-mem}
 use Rattle.network.specs.Width.{fit, fit-is}
-use Rattle.hierarchy.specs.Walks.{Ascending, Holds, above, estimateAt, highIn, leads, lowIn, over, upIn}
-use Rattle.hierarchy.proofs.Tests.{leads-by}
+use Rattle.hierarchy.specs.Walks.{Holds, above, estimateAt, over}
+use Rattle.records.specs.Words.{Ascending, highIn, leads, lowIn, upIn}
+use Rattle.records.specs.Tests.{leads-by}
 use Rattle.hierarchy.proofs.Places.{ascend-places, minOver-places, place-of}
 
 -- ---- reached through up times

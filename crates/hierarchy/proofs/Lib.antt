@@ -1,4 +1,3 @@
-pub mod Tests
 pub mod Places
 pub mod Facts
 pub mod Climbs

@@ -1,4 +1,4 @@
--- The records by their words, and what the walk over the records of a rank answers and leaves. Definitions only.
+-- What the walk over the records of a rank answers and leaves. Definitions only.
 use mathlib.Core.Path.{_≡_}
 use mathlib.Core.Bool.{Bool, _&&_, cond, false, not, true}
 use mathlib.Core.Option.{none, some}
@@ -19,38 +19,6 @@ use Rattle.model.specs.Calls.{filled}
 use Rattle.model.specs.Good.{AimFacts}
 use Rattle.model.specs.Use.{RecordAt, pairIn}
 use Rattle.network.specs.Width.{fit}
-
--- ---- the four words of record i
-
-abbrev pub lowIn : List ℕ → ℕ → ℕ
-lowIn pairs i = getD pairs (4 * i) 0
-
-abbrev pub highIn : List ℕ → ℕ → ℕ
-highIn pairs i = getD pairs (4 * i + 1) 0
-
-abbrev pub upIn : List ℕ → ℕ → ℕ
-upIn pairs i = getD pairs (4 * i + 2) 0
-
-abbrev pub downIn : List ℕ → ℕ → ℕ
-downIn pairs i = getD pairs (4 * i + 3) 0
-
--- a record leads up from rank r to a higher one of the n ranks
-unfoldable pub leads : (n r low high up : ℕ) → Bool
-leads n r low high up = eqb low r && (ltb r high && (ltb high n && not (eqb up noneWord)))
-
--- what a walk that found x answers: never unasked
-unfoldable pub answer : ℕ → ℕ
-answer x = cond (eqb x unasked) noneWord x
-
--- the records ascend by low
-abbrev pub Ascending : List ℕ → ℕ → Type 0
-Ascending pairs count = (i k : ℕ) → i ≤ k → k < count → lowIn pairs i ≤ lowIn pairs k
-
--- s is the place of the first record whose low is not below r, if the records ascend; the number of records, if there is none
-pub record Starts (pairs : List ℕ) (count r s : ℕ) : Type 0 where
-  pub bound : s ≤ count
-  pub before : Ascending pairs count → (i : ℕ) → i < s → lowIn pairs i < r
-  pub onward : Ascending pairs count → (i : ℕ) → s ≤ i → i < count → r ≤ lowIn pairs i
 
 -- ---- a map of n junctions, as the order and the records hold it
 

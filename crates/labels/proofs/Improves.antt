@@ -4,7 +4,7 @@ use mathlib.Core.List.{List}
 use Prim.Native.Nat.{_+_, _<_, ℕ}
 use lib.ListN.{getD, set}
 use Rattle.model.specs.Word.{noneWord}
-use Rattle.labels.specs.Keys.{settledKey}
+use Rattle.keys.specs.Keys.{settledKey}
 use Rattle.labels.specs.Improved.{Improved, Stored, earlier}
 
 -- the key x is the sum of the offer and the estimate

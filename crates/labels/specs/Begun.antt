@@ -15,8 +15,8 @@ use Rattle.graph.specs.Search.{Problem, offerVia, timeIn}
 use Rattle.model.specs.Word.{noneWord}
 use Rattle.model.specs.Bytes.{listed}
 use Rattle.model.specs.Laws.{listed-at}
-use Rattle.labels.specs.Keys.{noKey}
-use Rattle.labels.specs.Winners.{Winners}
+use Rattle.keys.specs.Keys.{noKey}
+use Rattle.keys.specs.Winners.{Winners}
 use Rattle.labels.specs.Labelled.{Gives, Labelled, Labels, Offers, label-candidate, label-hopeless, label-unseen}
 
 -- where no junction is a candidate, every block's first junction wins

@@ -11,10 +11,10 @@ use Rattle.graph.specs.Total.{none-some}
 use Rattle.graph.specs.Search.{Entry, Problem, back, timeIn}
 use Rattle.model.specs.Word.{word}
 use Rattle.model.specs.Bytes.{wordAt}
-use Rattle.labels.specs.Keys.{kept, settledKey}
+use Rattle.keys.specs.Keys.{kept, settledKey}
 use Rattle.labels.specs.Labelled.{Labelled, Labels, Searchable, Way, label-candidate, label-hopeless, label-logged, label-unseen, way-begins, way-through}
 use Rattle.labels.specs.Begun.{StartsAt}
-use Rattle.labels.specs.Ways.{roadsBack, stepBack, wayOf}
+use Rattle.ways.specs.Ways.{roadsBack, stepBack, wayOf}
 
 module _ {G : Problem} (ok : Searchable G) {H : List Entry} {c k : ℕ} (times keys vias : List ℕ) (labels : Labels G H c k times keys vias) where
   -- document 01: elapsed holds logged junctions' times, otherwise none

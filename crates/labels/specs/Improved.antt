@@ -4,7 +4,7 @@ use mathlib.Core.List.{List}
 use Prim.Native.Nat.{_+_, _<_, _≤_, ℕ}
 use lib.ListN.{getD, set}
 use Rattle.model.specs.Word.{noneWord}
-use Rattle.labels.specs.Keys.{settledKey}
+use Rattle.keys.specs.Keys.{settledKey}
 
 -- Road i offers the time w to a junction of estimate e, whose label is (t, q, j). Without an estimate, or once logged, it stays. A smaller time takes the label over;
 -- of the roads that give one time the smallest number stays.

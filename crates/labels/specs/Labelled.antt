@@ -12,7 +12,7 @@ use Rattle.graph.specs.Search.{Entry, Problem, back, offerVia, timeIn}
 use Rattle.graph.specs.Walk.{WellFormed}
 use Rattle.graph.specs.History.{Reached}
 use Rattle.model.specs.Word.{noneWord, word}
-use Rattle.labels.specs.Keys.{noKey, settledKey}
+use Rattle.keys.specs.Keys.{noKey, settledKey}
 
 -- What a program asks of a problem whose times and keys it keeps in words: one start time, 0; equal keys go by number; totals that fit.
 pub record Searchable (G : Problem) : Type 0 where

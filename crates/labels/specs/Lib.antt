@@ -1,9 +1,5 @@
 -- definitions
-pub mod Keys
-pub mod Winners
 pub mod Improved
-pub mod Grouped
-pub mod Ways
 pub mod Labelled
 -- laws, which the proofs of a search over labels cite
 pub mod Relax

@@ -16,7 +16,7 @@ use Rattle.graph.specs.Search.{Entry, Problem, back, firstVia, is, offerVia, of
 use Rattle.graph.specs.Walk.{Offer, byArc, byStart, offerVia-some, offered-least, some-offerVia, timeIn-here, timeIn-there}
 use Rattle.graph.specs.Choice.{Candidate, NextIs, Prior, chosen, finished}
 use Rattle.graph.specs.Back.{back-start, back-there, back-via, firstVia-least}
-use Rattle.labels.specs.Keys.{LeastKey, settledKey}
+use Rattle.keys.specs.Keys.{LeastKey, settledKey}
 use Rattle.labels.specs.Labelled.{Gives, Labelled, Labels, Offers, Searchable, Way, label-candidate, label-hopeless, label-logged, label-unseen, way-begins, way-through}
 use Rattle.labels.specs.Relax.{label-same}
 

@@ -24,13 +24,13 @@ use Rattle.model.specs.Laws.{listed-at, true-and}
 use Rattle.model.specs.Calls.{asks, filled, first, goAsks, goFills, goRoute, liveOf}
 use Rattle.model.specs.Ends.{filled-is, listed-same}
 use Rattle.network.specs.Bodies.{mapIn}
-use Rattle.labels.specs.Keys.{kept}
-use Rattle.labels.specs.Ways.{roadsBack, wayOf}
+use Rattle.keys.specs.Keys.{kept}
+use Rattle.ways.specs.Ways.{roadsBack, wayOf}
 use Rattle.labels.specs.Labelled.{word-none, word-some}
 use Rattle.labels.specs.Ended.{kept-times, roads-back, way-back-is}
-use Rattle.search.specs.State.{Asked, Explored, Ready, asked-head, asked-start, goIn}
+use Rattle.relaxing.specs.State.{Asked, Explored, Ready, asked-head, asked-start, goIn}
 use Rattle.search.specs.Searches.{Found}
-use Rattle.search.proofs.Facts.{codes}
+use Rattle.relaxing.specs.Facts.{codes}
 
 -- ---- who was asked: the definition's test
 module _ (roads order live : List ℕ) (s z : ℕ) (H : List Entry) (k : ℕ) where

@@ -14,13 +14,13 @@ use Rattle.model.specs.Bytes.{listed}
 use Rattle.model.specs.Good.{AimFacts}
 use Rattle.network.specs.Bodies.{mapIn}
 use Rattle.hierarchy.specs.Estimates.{Estimated, aim-estimated}
-use Rattle.labels.specs.Keys.{noKey}
-use Rattle.labels.specs.Winners.{Entered, Winners}
+use Rattle.keys.specs.Keys.{noKey}
+use Rattle.keys.specs.Winners.{Entered, Winners}
 use Rattle.labels.specs.Labelled.{word-none, word-some}
 use Rattle.labels.specs.Begun.{labels-first, labels-none, winners-fresh}
-use Rattle.search.specs.State.{Asked, Begun, Filling, Ready, asked-start, goIn}
-use Rattle.search.proofs.Facts.{codes}
-use Rattle.search.proofs.Fills.{asked-first, filling-more, filling-none}
+use Rattle.relaxing.specs.State.{Asked, Begun, Filling, Ready, asked-start, goIn}
+use Rattle.relaxing.specs.Facts.{codes}
+use Rattle.relaxing.specs.Fills.{asked-first, filling-more, filling-none}
 
 module _ (n count : ℕ) (order ranks pairs down : List ℕ) (s : ℕ) (e e′ times₀ times keys : List ℕ)
     (sized : length e ≡ n) (timed : length times₀ ≡ n)

@@ -20,16 +20,16 @@ use Rattle.graph.specs.Steps.{complete-history}
 use Rattle.model.specs.Calls.{first}
 use Rattle.model.specs.Ends.{first-snoc}
 use Rattle.network.specs.declared.Junction.{Junction}
-use Rattle.labels.specs.declared.Choice.{Choice}
-use Rattle.labels.specs.declared.Choice.the-variants.{At, Nothing}
-use Rattle.labels.specs.Keys.{Chosen, LeastKey, settledKey}
-use Rattle.labels.specs.Winners.{Chooses, Inside, Settled, Winners}
+use Rattle.keys.specs.declared.Choice.{Choice}
+use Rattle.keys.specs.declared.Choice.the-variants.{At, Nothing}
+use Rattle.keys.specs.Keys.{Chosen, LeastKey, settledKey}
+use Rattle.keys.specs.Winners.{Chooses, Inside, Settled, Winners}
 use Rattle.labels.specs.Labelled.{Labelled, Labels, label-candidate, label-hopeless, label-logged, label-unseen}
 use Rattle.labels.specs.Relax.{labels-full}
 use Rattle.labels.specs.Log.{labels-log, next-chosen, next-none}
-use Rattle.search.specs.State.{Explored, Explores, Held, Logged, Ready, Relaxed, goIn}
-use Rattle.search.proofs.Facts.{codes}
-use Rattle.search.proofs.Fills.{asked-full, asked-log, asked-log-back, filling-same}
+use Rattle.relaxing.specs.State.{Explored, Explores, Held, Logged, Ready, Relaxed, goIn}
+use Rattle.relaxing.specs.Facts.{codes}
+use Rattle.relaxing.specs.Fills.{asked-full, asked-log, asked-log-back, filling-same}
 
 -- the log with one entry more
 log-more : (H : List Entry) (E : Entry) → vertices (reverse (E ∷ H)) ≡ vertices (reverse H) ++ (E .vertex ∷ [])

@@ -1,7 +1,3 @@
-pub mod Facts
-pub mod Fills
-pub mod Roads
-pub mod Relaxes
 pub mod Begins
 pub mod Explores
 pub mod Answers

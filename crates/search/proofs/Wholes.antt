@@ -8,11 +8,12 @@ use lib.ListN.{getD, getD-replicate, length, replicate}
 use native.Mathlib.Omega.{arith}
 use Rattle.model.specs.Word.{noneWord}
 use Rattle.model.specs.Bytes.{listed}
-use Rattle.model.specs.Calls.{first}
-use Rattle.network.specs.Bodies.{map-facts}
-use Rattle.labels.specs.Keys.{kept}
-use Rattle.labels.specs.Ways.{roadsBack, wayOf}
-use Rattle.search.specs.State.{Begun, Explores, Ready}
+use Rattle.model.specs.Calls.{first, liveOf, settable}
+use Rattle.network.specs.Bodies.{Prepared, map-facts, mapIn}
+use Rattle.keys.specs.Keys.{kept}
+use Rattle.ways.specs.Ways.{roadsBack, wayOf}
+use Rattle.relaxing.specs.State.{Begun, Explores, Ready}
+use Rattle.search.specs.Logs.{Logs}
 use Rattle.search.specs.Searches.{Searches}
 use Rattle.search.proofs.Answers.{answer-found, answer-lost}
 
@@ -20,20 +21,25 @@ use Rattle.search.proofs.Answers.{answer-found, answer-lost}
 pub all-same : (k a n v : ℕ) → n ≤ k → v < n → getD (replicate k a) v 0 ≡ a
 all-same k a n v le l = getD-replicate k v a 0 (omega arith)
 
-module _ (roads order ranks pairs live down : List ℕ) (n m count s z : ℕ) (e₀ route₀ log₀ e₁ times₁ keys₁ vias₁ wins₁ e times keys vias wins log : List ℕ) (c : ℕ) (elapsed : List ℕ) (total : ℕ)
+-- the parts of the log, one after the other
+pub logs-over : (roads order ranks pairs live down : List ℕ) (n m count s z : ℕ) (e₀ log₀ e₁ times₁ keys₁ vias₁ wins₁ e times keys vias wins log : List ℕ) (c : ℕ) (elapsed : List ℕ)
+    → Begun n count order ranks pairs down s e₀ e₁ times₁ keys₁ wins₁
+    → Explores roads order ranks pairs live down n m count z e₁ times₁ keys₁ vias₁ wins₁ log₀ e times keys vias wins log c
+    → elapsed ≡ listed (length times) (kept keys times) → length times ≡ n
+    → Logs roads order ranks pairs live down n m count s z e₀ log₀ e elapsed vias log c
+logs-over roads order ranks pairs live down n m count s z e₀ log₀ e₁ times₁ keys₁ vias₁ wins₁ e times keys vias wins log c elapsed begun explores finished timed r a =
+    record { times = times; keys = keys; wins = wins; explored = explores s e₀ r (begun roads live vias₁ m z r a); elapsed-is = finished; timed = timed }
+
+module _ (roads order ranks pairs live down : List ℕ) (n m count s z : ℕ) (e₀ route₀ log₀ e elapsed vias log : List ℕ) (c total : ℕ)
     (roads-are : length roads ≡ 12 * m) (order-is : length order ≡ 4 * n) (ls : s < n) (lz : z < n)
-    (begun : Begun n count order ranks pairs down s e₀ e₁ times₁ keys₁ wins₁)
-    (explores : Explores roads order ranks pairs live down n m count z e₁ times₁ keys₁ vias₁ wins₁ log₀ e times keys vias wins log c)
-    (finished : elapsed ≡ listed (length times) (kept keys times)) (timed : length times ≡ n) (read : total ≡ getD elapsed z 0) where
+    (logs : Logs roads order ranks pairs live down n m count s z e₀ log₀ e elapsed vias log c) (read : total ≡ getD elapsed z 0) where
+  ready : Prepared roads order ranks pairs count → ((i : ℕ) → i < mapIn roads order .base .arcs → settable (mapIn roads order .base .cost i) (liveOf live i) ≡ true)
+      → Ready roads order ranks pairs live n m count s z
+  ready p t = let f = map-facts (p .sound) in record { prepared = p; times = t; n-is = omega (arith, f .order-is); m-is = omega (arith, f .roads-are); start = ls; target = lz }
+
   pub searches-lost : eqb total noneWord ≡ true → Searches roads order ranks pairs live down count s z e₀ route₀ log₀ e elapsed route₀ log total c 0
-  searches-lost q p a t =
-      let f = map-facts (p .sound) in
-      let r : Ready roads order ranks pairs live n m count s z = record { prepared = p; times = t; n-is = omega (arith, f .order-is); m-is = omega (arith, f .roads-are); start = ls; target = lz } in
-      answer-lost r (explores s e₀ r (begun roads live vias₁ m z r a)) elapsed finished timed total read route₀ q
+  searches-lost q p a t = let r = ready p t in let o = logs r a in answer-lost r (o .explored) elapsed (o .elapsed-is) (o .timed) total read route₀ q
 
   pub searches-found : (number : ℕ) (route : List ℕ) → eqb total noneWord ≡ false → number ≡ roadsBack roads vias n m s n z → route ≡ first (wayOf roads vias n m number z) route₀
       → Searches roads order ranks pairs live down count s z e₀ route₀ log₀ e elapsed route log total c number
-  searches-found number route q w y p a t =
-      let f = map-facts (p .sound) in
-      let r : Ready roads order ranks pairs live n m count s z = record { prepared = p; times = t; n-is = omega (arith, f .order-is); m-is = omega (arith, f .roads-are); start = ls; target = lz } in
-      answer-found r (explores s e₀ r (begun roads live vias₁ m z r a)) elapsed finished timed total read route₀ number route q w y
+  searches-found number route q w y p a t = let r = ready p t in let o = logs r a in answer-found r (o .explored) elapsed (o .elapsed-is) (o .timed) total read route₀ number route q w y

@@ -1,2 +1,2 @@
-pub mod State
 pub mod Searches
+pub mod Logs

@@ -13,7 +13,7 @@ use Rattle.model.specs.Calls.{asks, filled, first, goRoute, liveOf, settable}
 use Rattle.model.specs.Good.{AimFacts}
 use Rattle.network.specs.Bodies.{Prepared, mapIn}
 use Rattle.labels.specs.Labelled.{word-none, word-some}
-use Rattle.search.specs.State.{goIn}
+use Rattle.relaxing.specs.State.{goIn}
 
 -- Total or none, count, number of roads; estimates, elapsed, route and log as go leaves them. e₀, route₀ and log₀ are the areas before.
 pub record Found (roads order live : List ℕ) (s z : ℕ) (e₀ route₀ log₀ e elapsed route log : List ℕ) (total count number : ℕ) : Type 0 where

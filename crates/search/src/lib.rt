@@ -2,115 +2,27 @@
 ghost use mathlib.Core.Path.{_≡_};
 ghost use Prim.Native.Nat.{ℕ, _*_, _+_, _<_, _≤_};
 ghost use lib.ListN.{getD, length};
-ghost use Rattle.model.specs.Bytes.{wordAt};
-ghost use Rattle.labels.specs.Keys.{noKey};
-ghost use Rattle.labels.specs.Grouped.{Grouped};
-ghost use Rattle.search.specs.State.{Begun, Explores, Relaxed, Sized};
+ghost use Rattle.keys.specs.Keys.{noKey};
+ghost use Rattle.ways.specs.Grouped.{Grouped};
+ghost use Rattle.relaxing.specs.State.{Begun, Explores, Sized};
+ghost use Rattle.search.specs.Logs.{Logs};
 ghost use Rattle.search.specs.Searches.{Searches};
 use hierarchy::estimate;
 use hierarchy::fill;
-use labels::Choice;
-use labels::NO_KEY;
-use labels::choose;
-use labels::cost_of;
-use labels::enter;
-use labels::finish;
-use labels::group;
-use labels::improve;
-use labels::is_logged;
-use labels::key_of;
-use labels::reset;
-use labels::settle;
-use labels::way_back;
+use keys::Choice;
+use keys::NO_KEY;
+use keys::choose;
+use keys::enter;
+use keys::finish;
+use keys::is_logged;
+use keys::key_of;
+use keys::reset;
+use keys::settle;
 use network::Junction;
 use network::Time;
-use network::head_of;
-
-// Relaxes road i, whose tail has the time `from`: if it is open, its head's estimate is asked, and the head's label improved.
-fn relax_road(
-    n: u32,
-    m: u32,
-    count: u32,
-    roads: &[u8],
-    order: &[u8],
-    ranks: &[u32],
-    pairs: &[u32],
-    live: &[u32],
-    down: &[u32],
-    estimates: &mut [u32],
-    elapsed: &mut [u32],
-    keys: &mut [u64],
-    vias: &mut [u32],
-    wins: &mut [u32],
-    i: u32,
-    from: Time,
-)
-    requires { ⌜ (i < m) × (n ≤ length (now keys)) × (n ≤ length (now vias)) × (n ≤ 64 * length (now wins)) × Sized n m count (length (now roads)) (length (now order)) (length (now ranks)) (length (now pairs)) (length (now live)) (length (now down)) (length (now estimates)) (length (now elapsed)) ⌝ }
-    ensures { λ _. ⌜ Relaxed (now (roads .entry)) (now (order .entry)) (now (ranks .entry)) (now (pairs .entry)) (now (live .entry)) (now (down .entry)) n m count (wordAt (now (roads .entry)) (12 * i)) (from .0) i (i + 1) (now (estimates .entry)) (now (elapsed .entry)) (now (keys .entry)) (now (vias .entry)) (now (wins .entry)) (now (estimates .exit)) (now (elapsed .exit)) (now (keys .exit)) (now (vias .exit)) (now (wins .exit)) ⌝ }
-{
-    let cost = cost_of(live, i);
-    if cost.is_none() {
-        return;
-    }
-    let head = head_of(roads, i as usize);
-    if n <= head.0 {
-        return;
-    }
-    let to_go = estimate(n, count, order, ranks, pairs, down, estimates, head);
-    let offer = Time::NONE.or_sum(from, cost);
-    improve(elapsed, keys, vias, head, offer, to_go, i);
-    enter(keys, wins, head);
-}
-
-// Relaxes the roads of the logged junction u.
-fn relax(
-    n: u32,
-    m: u32,
-    count: u32,
-    roads: &[u8],
-    order: &[u8],
-    ranks: &[u32],
-    pairs: &[u32],
-    live: &[u32],
-    down: &[u32],
-    estimates: &mut [u32],
-    elapsed: &mut [u32],
-    keys: &mut [u64],
-    vias: &mut [u32],
-    wins: &mut [u32],
-    firsts: &[u32],
-    nexts: &[u32],
-    u: Junction,
-)
-    requires { ⌜ (u .0 < n) × (n ≤ length (now keys)) × (n ≤ length (now vias)) × (n ≤ 64 * length (now wins)) × (n ≤ length (now firsts)) × (m ≤ length (now nexts)) × Grouped (now roads) n m (now firsts) (now nexts) × Sized n m count (length (now roads)) (length (now order)) (length (now ranks)) (length (now pairs)) (length (now live)) (length (now down)) (length (now estimates)) (length (now elapsed)) ⌝ }
-    ensures { λ _. ⌜ Relaxed (now (roads .entry)) (now (order .entry)) (now (ranks .entry)) (now (pairs .entry)) (now (live .entry)) (now (down .entry)) n m count (u .0) (getD (now (elapsed .entry)) (u .0) 0) 0 m (now (estimates .entry)) (now (elapsed .entry)) (now (keys .entry)) (now (vias .entry)) (now (wins .entry)) (now (estimates .exit)) (now (elapsed .exit)) (now (keys .exit)) (now (vias .exit)) (now (wins .exit)) ⌝ }
-{
-    let a = u.0 as usize;
-    let from = Time::of_word(elapsed[a]);
-    let mut i = firsts[a];
-    while i < m {
-        relax_road(
-            n,
-            m,
-            count,
-            roads,
-            order,
-            ranks,
-            pairs,
-            live,
-            down,
-            estimates,
-            elapsed,
-            keys,
-            vias,
-            wins,
-            i,
-            from,
-        );
-        let k = i as usize;
-        i = nexts[k];
-    }
-}
+use relaxing::relax;
+use ways::group;
+use ways::way_back;
 
 // Clears the times, and makes the start the first candidate, with time 0, if it has an estimate.
 fn begin(
@@ -203,15 +115,8 @@ fn explore(
     c
 }
 
-// The answer of a search: the total or none, the number of logged junctions (document 01: count), and of the route's roads.
-pub struct Searched {
-    pub total: Time,
-    pub count: u32,
-    pub roads: u32,
-}
-
-// The search of a go from the start to the target that was aimed at last.
-pub fn search(
+// Logs from the start on, until the target is logged or no candidate is left; answered with the number of logged junctions. Elapsed holds their times, `vias` the roads that gave them.
+fn log_all(
     n: u32,
     m: u32,
     count: u32,
@@ -223,16 +128,15 @@ pub fn search(
     down: &[u32],
     estimates: &mut [u32],
     elapsed: &mut [u32],
-    route: &mut [u32],
+    vias: &mut [u32],
     log: &mut [u32],
     start: Junction,
     target: Junction,
-) -> Searched
-    requires { ⌜ (start .0 < n) × (target .0 < n) × (n ≤ length (now route)) × (n ≤ length (now log)) × Sized n m count (length (now roads)) (length (now order)) (length (now ranks)) (length (now pairs)) (length (now live)) (length (now down)) (length (now estimates)) (length (now elapsed)) ⌝ }
-    ensures { λ r. ⌜ Searches (now (roads .entry)) (now (order .entry)) (now (ranks .entry)) (now (pairs .entry)) (now (live .entry)) (now (down .entry)) count (start .0) (target .0) (now (estimates .entry)) (now (route .entry)) (now (log .entry)) (now (estimates .exit)) (now (elapsed .exit)) (now (route .exit)) (now (log .exit)) (r .total .0) (r .count) (r .roads) ⌝ }
+) -> u32
+    requires { ⌜ (start .0 < n) × (target .0 < n) × (n ≤ length (now vias)) × (n ≤ length (now log)) × Sized n m count (length (now roads)) (length (now order)) (length (now ranks)) (length (now pairs)) (length (now live)) (length (now down)) (length (now estimates)) (length (now elapsed)) ⌝ }
+    ensures { λ c. ⌜ Logs (now (roads .entry)) (now (order .entry)) (now (ranks .entry)) (now (pairs .entry)) (now (live .entry)) (now (down .entry)) n m count (start .0) (target .0) (now (estimates .entry)) (now (log .entry)) (now (estimates .exit)) (now (elapsed .exit)) (now (vias .exit)) (now (log .exit)) c ⌝ }
 {
     let mut keys = [NO_KEY; 4096];
-    let mut vias = [0u32; 4096];
     let mut wins = [0u32; 64];
     let mut firsts = [m; 4096];
     let mut nexts = [0u32; 16384];
@@ -263,7 +167,7 @@ pub fn search(
         estimates,
         elapsed,
         &mut keys,
-        &mut vias,
+        vias,
         &mut wins,
         &firsts,
         &nexts,
@@ -271,6 +175,55 @@ pub fn search(
         target,
     );
     finish(elapsed, &keys);
+    logged
+}
+
+// The answer of a search: the total or none, the number of logged junctions (document 01: count), and of the route's roads.
+pub struct Searched {
+    pub total: Time,
+    pub count: u32,
+    pub roads: u32,
+}
+
+// The search of a go from the start to the target that was aimed at last.
+pub fn search(
+    n: u32,
+    m: u32,
+    count: u32,
+    roads: &[u8],
+    order: &[u8],
+    ranks: &[u32],
+    pairs: &[u32],
+    live: &[u32],
+    down: &[u32],
+    estimates: &mut [u32],
+    elapsed: &mut [u32],
+    route: &mut [u32],
+    log: &mut [u32],
+    start: Junction,
+    target: Junction,
+) -> Searched
+    requires { ⌜ (start .0 < n) × (target .0 < n) × (n ≤ length (now route)) × (n ≤ length (now log)) × Sized n m count (length (now roads)) (length (now order)) (length (now ranks)) (length (now pairs)) (length (now live)) (length (now down)) (length (now estimates)) (length (now elapsed)) ⌝ }
+    ensures { λ r. ⌜ Searches (now (roads .entry)) (now (order .entry)) (now (ranks .entry)) (now (pairs .entry)) (now (live .entry)) (now (down .entry)) count (start .0) (target .0) (now (estimates .entry)) (now (route .entry)) (now (log .entry)) (now (estimates .exit)) (now (elapsed .exit)) (now (route .exit)) (now (log .exit)) (r .total .0) (r .count) (r .roads) ⌝ }
+{
+    let mut vias = [0u32; 4096];
+    let logged = log_all(
+        n,
+        m,
+        count,
+        roads,
+        order,
+        ranks,
+        pairs,
+        live,
+        down,
+        estimates,
+        elapsed,
+        &mut vias,
+        log,
+        start,
+        target,
+    );
     let z = target.0 as usize;
     let total = Time::of_word(elapsed[z]);
     if total.is_none() {

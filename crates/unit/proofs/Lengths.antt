@@ -15,7 +15,7 @@ use Rattle.model.specs.Word.{noneWord, ofWord, ofWord-none}
 use Rattle.model.specs.Bytes.{wordAt}
 use Rattle.model.specs.State.{Areas, State, fitting, lengthsFit, lengthsOk, question9}
 use Rattle.model.specs.Calls.{goAnswer, settable}
-use Rattle.search.specs.State.{Sized}
+use Rattle.relaxing.specs.State.{Sized}
 use Rattle.model.specs.Good.{LengthFacts, lengths-facts}
 
 module _ (n m p ranks pairs live down estimates elapsed : ℕ) where

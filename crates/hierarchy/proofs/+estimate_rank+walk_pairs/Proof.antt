@@ -1,5 +1,5 @@
 use Rattle.hierarchy.proofs.Climbs.{astray, computed, known, walk-end, walk-skip, walk-start, walk-stop, walk-take}
-use Rattle.hierarchy.proofs.Tests.{leads-facts, leads-read}
+use Rattle.records.specs.Tests.{leads-facts, leads-read}
 use Rattle.hierarchy.specs.Walks.{Walked}
 use mathlib.Core.Path.{_∙_, _≡_, sym}
 use borrow.Author.Tests.{eqb-false, eqb-true, not-false, not-true}
@@ -15,12 +15,12 @@ use Rattle.hierarchy.proofs.+estimate_rank+walk_pairs.Lts-estimate_rank
 use Rattle.hierarchy.proofs.walk_pairs.Reads as walk-pairs
 use Rattle.hierarchy.proofs.walk_pairs.Kinds as walk-pairs-kinds
 use Rattle.hierarchy.proofs.+estimate_rank+walk_pairs.Lts-walk_pairs as walk-pairs-lts
-use Rattle.hierarchy.proofs.answer_of.Reads as answer-of-reads
-use Rattle.hierarchy.proofs.first_of.Reads as first-of-reads
-use Rattle.hierarchy.proofs.high_of.Reads as high-of-reads
-use Rattle.hierarchy.proofs.leads_up.Reads as leads-up-reads
-use Rattle.hierarchy.proofs.low_of.Reads as low-of-reads
-use Rattle.hierarchy.proofs.up_of.Reads as up-of-reads
+use Rattle.records.proofs.answer_of.Reads as answer-of-reads
+use Rattle.records.proofs.first_of.Reads as first-of-reads
+use Rattle.records.proofs.high_of.Reads as high-of-reads
+use Rattle.records.proofs.leads_up.Reads as leads-up-reads
+use Rattle.records.proofs.low_of.Reads as low-of-reads
+use Rattle.records.proofs.up_of.Reads as up-of-reads
 use Rattle.network.proofs.Time.is_unasked.Reads as is-unasked-reads
 use Rattle.network.proofs.Time.of_word.Reads as of-word-reads
 use Rattle.network.proofs.Time.or_sum.Reads as or-sum-reads

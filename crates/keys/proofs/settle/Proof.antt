@@ -1,0 +1,36 @@
+use native.Mathlib.Omega.{arith}
+use lib.ListN.{length-set}
+use Rattle.keys.proofs.Tournament.{settled-with}
+use borrow.Author.Needs.{needs}
+use Rattle.keys.proofs.settle.Statement.{statement}
+use Rattle.keys.proofs.settle.Tie as tie
+
+winner-requires : tie.Need-winner-requires
+winner-requires c κs =
+    let start = c .before .before .before .before .before .before .before in
+    (omega (arith, c .before .block-end .ensures, start .pre .0), simp length-set (omega (arith, c .before .block-end .ensures, start .pre .2)))
+
+returns : tie.Need-returns
+returns c =
+    let start = c .before .before .before .before .before .before .before .before in
+    settled-with _ _ _ _ _ _ _ _ (start .pre .0) (start .pre .3) (c .before .before .block-end .ensures) (c .winner .ensures)
+
+pub settle-spec : {M : Type 1} → statement M
+settle-spec =
+    tie.close
+    (tie.spec
+    (λ c. search needs)
+    (λ c. search needs)
+    (λ c. search needs)
+    (λ c. search needs)
+    (λ c κs. search needs)
+    (λ c. search needs)
+    winner-requires
+    (λ c. search needs)
+    (λ c. search needs)
+    (λ c. search needs)
+    (λ c. search needs)
+    (λ c. search needs)
+    (λ c. search needs)
+    (λ c. search needs)
+    returns)

@@ -1,0 +1,89 @@
+// The records of the pairs: their four words, the first one of a rank, and which lead up.
+ghost use mathlib.Core.Path.{_≡_};
+ghost use Prim.Native.Nat.{_*_, _+_, _<_, _≤_};
+ghost use lib.ListN.{length};
+ghost use Rattle.records.specs.Words.{Starts, answer, downIn, highIn, leads, lowIn, upIn};
+use network::Rank;
+use network::Time;
+
+// ---- the four words of record i
+
+// The rank of its lower junction.
+pub fn low_of(pairs: &[u32], i: u32) -> Rank
+    requires { ⌜ 4 * i + 4 ≤ length (now pairs) ⌝ }
+    ensures { λ r. ⌜ r .0 ≡ lowIn (now (pairs .entry)) i ⌝ }
+{
+    let k = i as usize;
+    Rank(pairs[4 * k])
+}
+
+// The rank of its higher junction.
+pub fn high_of(pairs: &[u32], i: u32) -> Rank
+    requires { ⌜ 4 * i + 4 ≤ length (now pairs) ⌝ }
+    ensures { λ r. ⌜ r .0 ≡ highIn (now (pairs .entry)) i ⌝ }
+{
+    let k = i as usize;
+    Rank(pairs[4 * k + 1])
+}
+
+// The time from the lower to the higher.
+pub fn up_of(pairs: &[u32], i: u32) -> Time
+    requires { ⌜ 4 * i + 4 ≤ length (now pairs) ⌝ }
+    ensures { λ t. ⌜ t .0 ≡ upIn (now (pairs .entry)) i ⌝ }
+{
+    let k = i as usize;
+    Time::of_word(pairs[4 * k + 2])
+}
+
+// The time from the higher to the lower.
+pub fn down_of(pairs: &[u32], i: u32) -> Time
+    requires { ⌜ 4 * i + 4 ≤ length (now pairs) ⌝ }
+    ensures { λ t. ⌜ t .0 ≡ downIn (now (pairs .entry)) i ⌝ }
+{
+    let k = i as usize;
+    Time::of_word(pairs[4 * k + 3])
+}
+
+// ---- the records of a rank
+
+// The place of the first record whose low is not below r, by bisection.
+pub fn first_of(pairs: &[u32], count: u32, r: Rank) -> u32
+    requires { ⌜ (4 * count ≤ length (now pairs)) × (count ≤ 65536) ⌝ }
+    ensures { λ s. ⌜ Starts (now (pairs .entry)) count (r .0) s ⌝ }
+{
+    let mut lo: u32 = 0;
+    let mut hi: u32 = count;
+    while lo < hi {
+        let mid = lo + (hi - lo) / 2;
+        let low = low_of(pairs, mid);
+        if low.0 < r.0 {
+            lo = mid + 1;
+        } else {
+            hi = mid;
+        }
+    }
+    lo
+}
+
+// Does a record lead up from rank r to a higher one?
+pub fn leads_up(n: u32, r: Rank, low: Rank, high: Rank, up: Time) -> bool
+    ensures { λ x. ⌜ x ≡ leads n (r .0) (low .0) (high .0) (up .0) ⌝ }
+{
+    if low.0 != r.0 {
+        return false;
+    }
+    if high.0 <= r.0 {
+        return false;
+    }
+    if n <= high.0 {
+        return false;
+    }
+    !up.is_none()
+}
+
+// The answer of a walk: the mark unasked, which only forged areas give, becomes none, so that no entry is asked again and again.
+pub fn answer_of(t: Time) -> Time
+    ensures { λ v. ⌜ v .0 ≡ answer (t .0) ⌝ }
+{
+    if t.is_unasked() { Time::NONE } else { t }
+}
