@@ -1,11 +1,13 @@
 // The row of a rank r: its times with the ranks above it, in two areas by rank, and marks at the blocks of 32 ranks where they are relaxed.
 //
-// A row begins with the roads between r and the ranks above it, which are linked by the lower of their ranks.
+// A row begins with the roads between r and the ranks above it, which are linked by the lower of their ranks. It ends as records.
 ghost use mathlib.Core.Path.{_≡_};
 ghost use mathlib.Core.Option.{none};
+ghost use mathlib.Core.List.{[], _++_, _∷_};
 ghost use Prim.Native.Nat.{_*_, _+_, _<_, _≤_, _/_, min, ℕ};
-ghost use lib.ListN.{getD, length, set};
+ghost use lib.ListN.{drop, getD, length, set, take};
 ghost use Rattle.graph.specs.Total.{_⊕_};
+ghost use Rattle.graph.specs.Records.{exists};
 ghost use Rattle.model.specs.Word.{noneWord, ofWord, word};
 ghost use Rattle.network.specs.Width.{fit};
 ghost use Rattle.rows.specs.Links.{Grouped, Linked, Ranked, netIn, rowOf};
@@ -15,6 +17,13 @@ use network::Time;
 
 // The number of ranks in a block.
 const BLOCK: usize = 32;
+
+// The words of a record: the rank of its low, of its high, its up time and its down time.
+const HIGH: usize = 1;
+
+const UP: usize = 2;
+
+const DOWN: usize = 3;
 
 pub fn least(a: u32, b: u32) -> u32
     ensures { λ r. ⌜ r ≡ min a b ⌝ }
@@ -132,4 +141,28 @@ pub fn relax_roads(
         relax_road(roads, ranks, i, ups, downs, touched);
         c = next[i];
     }
+}
+
+// ---- the records of a row
+
+// A pair is kept when either time exists.
+pub fn is_kept(up: Time, down: Time) -> bool
+    ensures { λ r. ⌜ r ≡ exists (ofWord (up .0)) (ofWord (down .0)) ⌝ }
+{
+    if up.is_none() {
+        return !down.is_none();
+    }
+    true
+}
+
+// Writes record k.
+pub fn put_record(pairs: &mut [u32], k: u32, low: Rank, high: Rank, up: Time, down: Time)
+    requires { ⌜ 4 * k + 4 ≤ length (now pairs) ⌝ }
+    ensures { λ _. ⌜ now (pairs .exit) ≡ take (4 * k) (now (pairs .entry)) ++ (low .0 ∷ high .0 ∷ up .0 ∷ down .0 ∷ []) ++ drop (4 * k + 4) (now (pairs .entry)) ⌝ }
+{
+    let i = 4 * (k as usize);
+    pairs[i] = low.0;
+    pairs[i + HIGH] = high.0;
+    pairs[i + UP] = up.0;
+    pairs[i + DOWN] = down.0;
 }
