@@ -1,6 +1,3 @@
 pub mod Places
-pub mod Entries
-pub mod Roads
 pub mod Stored
-pub mod Passes
 pub mod Whole

@@ -1,60 +1,24 @@
--- The records in the area: read, appended, and the zeros after them. Assumes nothing.
+-- The records in the area, appended, and the zeros after them. Assumes nothing.
 use mathlib.Core.Path.{_∙_, _≡_, ap, ap₂, refl, sym}
-use mathlib.Core.Bool.{Bool, cond, false, not, true}
-use mathlib.Core.Option.{none, some}
+use mathlib.Core.Bool.{Bool, false, true}
 use mathlib.Core.List.{List, [], _++_, _∷_, append-assoc, append-nil}
-use Prim.Native.Nat.{_*_, _+_, _-_, _<_, _≤_, suc, zero, ℕ}
-use borrow.Author.Tests.{le-ltb, lt-ltb}
-use lib.Dec.{eqb, ltb}
-use lib.ListN.{drop, getD, length, length-append, replicate, replicate-append-replicate, set, take}
-use lib.Seq.{getD-take, length-take-le, sets-eq, take-at, take-length, take-suc-set}
-use native.Mathlib.Nat.{not-suc-le-zero}
+use Prim.Native.Nat.{_*_, _+_, _-_, _/_, _<_, _≤_, min, suc, zero, ℕ}
+use lib.ListN.{getD, length, length-append, replicate, replicate-append-replicate, set, take}
+use lib.Seq.{getD-set-other, getD-set-same, length-take-le, take-at, take-length, take-suc-set}
+use native.Mathlib.Decide.{decLt, ℕ-discrete}
 use native.Mathlib.Numerals.{add-one}
 use native.Mathlib.Omega.{arith}
 use Rattle.graph.specs.Path.{Weights}
 use Rattle.graph.specs.Pairs.{down, up}
 use Rattle.graph.specs.Records.{Pair, begins-length, exists, pairOf, row, row-begins, row-blank, row-kept, row-low, rows}
-use Rattle.model.specs.Word.{noneWord, ofWord, word}
+use Rattle.model.specs.Word.{noneWord, ofWord, ofWord-none, word}
 use Rattle.model.specs.State.{words}
-use Rattle.model.specs.Use.{RecordAt}
 use Rattle.network.specs.Width.{fit, fit-is, fit-ofWord}
-use Rattle.contraction.specs.Rows.{Holds, RowTimes}
-use Rattle.contraction.specs.Contraction.{Appended}
+use Rattle.fronts.specs.Fronts.{Holds}
+use Rattle.contraction.specs.Contraction.{Appended, RowAppended, RowTimes}
 use Rattle.contraction.specs.declared.Contracted.the-variants.{Kept, Overflow}
 
--- ---- reading
-
-records-at : (l : List Pair) (i : ℕ) (d : Pair) → i < length l → RecordAt (words l) i (getD l i d)
-records-at [] i d h = absurd (not-suc-le-zero h)
-records-at (p ∷ l) zero d h = record { low = refl; high = refl; ups = refl; downs = refl }
-records-at (p ∷ l) (suc i) d h =
-    let r = records-at l i d (omega arith) in
-    let e0 : 4 * suc i ≡ suc (suc (suc (suc (4 * i)))) = omega arith in
-    let e1 : 4 * suc i + 1 ≡ suc (suc (suc (suc (4 * i + 1)))) = omega arith in
-    let e2 : 4 * suc i + 2 ≡ suc (suc (suc (suc (4 * i + 2)))) = omega arith in
-    let e3 : 4 * suc i + 3 ≡ suc (suc (suc (suc (4 * i + 3)))) = omega arith in
-    record { low = rw e0 (r .low); high = rw e1 (r .high); ups = rw e2 (r .ups); downs = rw e3 (r .downs) }
-
-pub holds-at : {l : List Pair} {count : ℕ} {pairs : List ℕ} → Holds l count pairs → (i : ℕ) (d : Pair) → i < count → RecordAt pairs i (getD l i d)
-holds-at {l} {count} {pairs} s i d h =
-    let r = records-at l i d (omega (arith, s .count-is)) in
-    let at : (j : ℕ) → j < 4 * count → getD pairs j 0 ≡ getD (words l) j 0 = λ j hj. sym (getD-take (4 * count) pairs j 0 hj) ∙ ap (λ (x : List ℕ). getD x j 0) (s .words-are) in
-    record {
-      low = at (4 * i) (omega arith) ∙ r .low;
-      high = at (4 * i + 1) (omega arith) ∙ r .high;
-      ups = at (4 * i + 2) (omega arith) ∙ r .ups;
-      downs = at (4 * i + 3) (omega arith) ∙ r .downs;
-    }
-
 -- ---- one record more
-
-pub put : (s : List ℕ) (i a b c d : ℕ) → i + 4 ≤ length s
-    → set (set (set (set s i a) (i + 1) b) (i + 2) c) (i + 3) d ≡ take i s ++ (a ∷ b ∷ c ∷ d ∷ []) ++ drop (i + 4) s
-put s i a b c d h =
-    let e1 : i + 1 ≡ suc i = omega arith in
-    let e2 : i + 2 ≡ suc (suc i) = omega arith in
-    let e3 : i + 3 ≡ suc (suc (suc i)) = omega arith in
-    rw (e1, e2, e3) (sets-eq (a ∷ b ∷ c ∷ d ∷ []) s i h)
 
 words-append : (l m : List Pair) → words (l ++ m) ≡ words l ++ words m
 words-append [] m = refl
@@ -75,20 +39,6 @@ holds-more {l} {k} {s} p z rest h e n room =
     four : (k : ℕ) → 4 * k + 4 ≡ 4 * (k + 1)
     four k = omega arith
 
--- ---- the test
-
-pub kept-by-down : (u d : ℕ) (b c : Bool) → b ≡ eqb u noneWord → b ≡ true → c ≡ eqb d noneWord → not c ≡ exists (ofWord u) (ofWord d)
-unfolding ofWord
-kept-by-down u d b c e t f = let g : eqb u noneWord ≡ true = sym e ∙ t in rw (g, f) (go (eqb d noneWord))
-  where
-    go : (b : Bool) → not b ≡ exists none (cond b none (some d))
-    go true = refl
-    go false = refl
-
-pub kept-by-up : (u d : ℕ) (b : Bool) → b ≡ eqb u noneWord → b ≡ false → true ≡ exists (ofWord u) (ofWord d)
-unfolding ofWord
-kept-by-up u d b e t = let g : eqb u noneWord ≡ false = sym e ∙ t in rw g
-
 -- ---- the answers
 
 pub kept-same : {a b : ℕ} → Kept a ≡ Kept b → a ≡ b
@@ -99,7 +49,35 @@ kept-overflow e = let z : _≡_ {A = ℕ} 0 1 = cc in omega arith
 
 -- ---- the loop over the highs
 
-module _ {w : Weights} {n r count : ℕ} {ups downs pairs₀ : List ℕ} (g : RowTimes w n r count ups downs pairs₀) where
+-- the entries below h are handed out
+pub record Emptied (r h : ℕ) (row₀ row : List ℕ) : Type 0 where
+  pub done : (j : ℕ) → r < j → j < h → getD row j 0 ≡ noneWord
+  pub rest : (j : ℕ) → h ≤ j → getD row j 0 ≡ getD row₀ j 0
+
+emptied-start : (r : ℕ) (row₀ : List ℕ) → Emptied r (r + 1) row₀ row₀
+emptied-start r row₀ = record { done = λ j a b. absurd (omega arith); rest = λ j a. refl }
+
+emptied-turn : {r h : ℕ} {row₀ row : List ℕ} (row′ : List ℕ) → h < length row → row′ ≡ set row h noneWord → Emptied r h row₀ row → Emptied r (h + 1) row₀ row′
+emptied-turn {r} {h} {row₀} {row} row′ l e m = rw e (record { done = λ j a b. at j a b (ℕ-discrete j h); rest = λ j a. getD-set-other row h j noneWord 0 (λ q. omega arith) ∙ m .rest j (omega arith) })
+  where
+    at : (j : ℕ) → r < j → j < h + 1 → Dec (j ≡ h) → getD (set row h noneWord) j 0 ≡ noneWord
+    at j a b (yes q) = ap (λ (x : ℕ). getD (set row h noneWord) x 0) q ∙ getD-set-same row h noneWord 0 l
+    at j a b (no q) = getD-set-other row h j noneWord 0 q ∙ m .done j a (omega arith)
+
+emptied-over : {r h : ℕ} {row₀ row : List ℕ} (g : ℕ) → h ≤ g → ((j : ℕ) → r < j → h ≤ j → j < g → getD row₀ j 0 ≡ noneWord) → Emptied r h row₀ row → Emptied r g row₀ row
+emptied-over {r} {h} {row₀} {row} g l z m = record { done = λ j a b. at j a b (decLt j h); rest = λ j a. m .rest j (omega arith) }
+  where
+    at : (j : ℕ) → r < j → j < g → Dec (j < h) → getD row j 0 ≡ noneWord
+    at j a b (yes q) = m .done j a q
+    at j a b (no q) = m .rest j (omega arith) ∙ z j a (omega arith) b
+
+-- the records of the highs below h stand in the area
+pub record Appending (w : Weights) (n r h k : ℕ) (ups₀ downs₀ ups downs pairs : List ℕ) : Type 0 where
+  pub holds : Holds (rows w n r ++ row w r h) k pairs
+  pub ups-left : Emptied r h ups₀ ups
+  pub downs-left : Emptied r h downs₀ downs
+
+module _ {w : Weights} {n r count : ℕ} {touched ups₀ downs₀ pairs₀ : List ℕ} (g : RowTimes w n r count touched ups₀ downs₀ pairs₀) where
   up-entry : (h : ℕ) → r < h → h < n → fit (up w r h) ≡ up w r h
   up-entry h rh hn = fit-is (up w r h) (λ t e. g .narrow .ups r h t (omega arith) hn e)
 
@@ -107,51 +85,108 @@ module _ {w : Weights} {n r count : ℕ} {ups downs pairs₀ : List ℕ} (g : Ro
   down-entry h rh hn = fit-is (down w r h) (λ t e. g .narrow .downs r h t (omega arith) hn e)
 
   -- the two words of an entry are the times of the pair
-  entry-words : (h u d : ℕ) → r < h → h < n → u ≡ getD ups h 0 → d ≡ getD downs h 0 → (u ≡ word (up w r h)) × (d ≡ word (down w r h))
+  entry-words : (h u d : ℕ) → r < h → h < n → u ≡ getD ups₀ h 0 → d ≡ getD downs₀ h 0 → (u ≡ word (up w r h)) × (d ≡ word (down w r h))
   entry-words h u d rh hn eu ed = (
     eu ∙ g .ups-are .at h rh hn ∙ ap word (up-entry h rh hn),
     ed ∙ g .downs-are .at h rh hn ∙ ap word (down-entry h rh hn),
   )
 
   -- the test is that of the pair
-  tested : (h u d : ℕ) → r < h → h < n → u ≡ getD ups h 0 → d ≡ getD downs h 0 → exists (ofWord u) (ofWord d) ≡ exists (up w r h) (down w r h)
+  tested : (h u d : ℕ) → r < h → h < n → u ≡ getD ups₀ h 0 → d ≡ getD downs₀ h 0 → exists (ofWord u) (ofWord d) ≡ exists (up w r h) (down w r h)
   tested h u d rh hn eu ed =
       ap₂ exists
       (ap ofWord (eu ∙ g .ups-are .at h rh hn) ∙ fit-ofWord (up w r h) ∙ up-entry h rh hn)
       (ap ofWord (ed ∙ g .downs-are .at h rh hn) ∙ fit-ofWord (down w r h) ∙ down-entry h rh hn)
 
-  pub append-start : Holds (rows w n r ++ row w r (r + 1)) count pairs₀
+  pub append-start : Appending w n r (r + 1) count ups₀ downs₀ ups₀ downs₀ pairs₀
   append-start =
       let e : row w r (r + 1) ≡ [] = row-low w r (r + 1) (omega arith) in
-      rw (e, append-nil (rows w n r)) (g .holds)
+      record { holds = rw (e, append-nil (rows w n r)) (g .holds); ups-left = emptied-start r ups₀; downs-left = emptied-start r downs₀ }
 
-  module _ (h u d k : ℕ) (pairs : List ℕ) (b : Bool) (rh : r < h) (hn : h < n) (eu : u ≡ getD ups h 0) (ed : d ≡ getD downs h 0) (eb : b ≡ exists (ofWord u) (ofWord d))
-      (inv : Holds (rows w n r ++ row w r h) k pairs) where
-    pub append-skip : b ≡ false → Holds (rows w n r ++ row w r (h + 1)) k pairs
-    append-skip t = rw (add-one h, row-blank w r h (sym (tested h u d rh hn eu ed) ∙ sym eb ∙ t)) inv
+  -- ---- a block that is not touched
+
+  -- no pair with these highs is kept
+  blank : (d h : ℕ) → r < h → h + d ≤ n → ((j : ℕ) → h ≤ j → j < h + d → getD touched (j / 32) 0 ≡ 0) → row w r (h + d) ≡ row w r h
+  blank zero h rh hn z = let e : h + 0 ≡ h = omega arith in ap (row w r) e
+  blank (suc d) h rh hn z =
+      let e : h + suc d ≡ suc (h + d) = omega arith in
+      let k : h + d < n = omega arith in
+      let t = z (h + d) (omega arith) (omega arith) in
+      let u : noneWord ≡ getD ups₀ (h + d) 0 = sym (g .marked .ups-none (h + d) (omega arith) k t) in
+      let v : noneWord ≡ getD downs₀ (h + d) 0 = sym (g .marked .downs-none (h + d) (omega arith) k t) in
+      let x : exists (ofWord noneWord) (ofWord noneWord) ≡ false = ap₂ exists ofWord-none ofWord-none in
+      let q : exists (up w r (h + d)) (down w r (h + d)) ≡ false = sym (tested (h + d) noneWord noneWord (omega arith) k u v) ∙ x in
+      ap (row w r) e ∙ row-blank w r (h + d) q ∙ blank d h rh (omega arith) (λ j a b. z j a (omega arith))
+
+  pub append-over : {k : ℕ} {ups downs pairs : List ℕ} (h to : ℕ) → r < h → h < n → to ≡ min (32 * (h / 32) + 32) n → getD touched (h / 32) 0 ≡ 0
+      → Appending w n r h k ups₀ downs₀ ups downs pairs → Appending w n r to k ups₀ downs₀ ups downs pairs
+  append-over {k} {ups} {downs} {pairs} h to rh hn et t inv = record {
+    holds = rw same (inv .holds);
+    ups-left = emptied-over to (omega arith) (λ j a b c. g .marked .ups-none j a (omega arith) (all j b c)) (inv .ups-left);
+    downs-left = emptied-over to (omega arith) (λ j a b c. g .marked .downs-none j a (omega arith) (all j b c)) (inv .downs-left);
+  }
+    where
+      all : (j : ℕ) → h ≤ j → j < to → getD touched (j / 32) 0 ≡ 0
+      all j a b = let q : j / 32 ≡ h / 32 = omega arith in ap (λ (x : ℕ). getD touched x 0) q ∙ t
+
+      same : row w r to ≡ row w r h
+      same =
+          let e : to ≡ h + (to - h) = omega arith in
+          ap (row w r) e ∙ blank (to - h) h rh (omega arith) (λ j a b. all j a (omega arith))
+
+  -- ---- the entry of h is handed out
+
+  module _ (h u d k : ℕ) (ups downs ups′ downs′ pairs : List ℕ) (b : Bool) (rh : r < h) (hn : h < n) (lu : h < length ups) (ld : h < length downs) (eu : u ≡ getD ups h 0) (zu : ups′ ≡ set ups h noneWord)
+      (ed : d ≡ getD downs h 0) (zd : downs′ ≡ set downs h noneWord) (eb : b ≡ exists (ofWord u) (ofWord d)) (inv : Appending w n r h k ups₀ downs₀ ups downs pairs) where
+    up-first : u ≡ getD ups₀ h 0
+    up-first = eu ∙ inv .ups-left .rest h (omega arith)
+
+    down-first : d ≡ getD downs₀ h 0
+    down-first = ed ∙ inv .downs-left .rest h (omega arith)
+
+    pub append-skip : b ≡ false → Appending w n r (h + 1) k ups₀ downs₀ ups′ downs′ pairs
+    append-skip t = record {
+      holds = rw (add-one h, row-blank w r h (sym (tested h u d rh hn up-first down-first) ∙ sym eb ∙ t)) (inv .holds);
+      ups-left = emptied-turn ups′ lu zu (inv .ups-left);
+      downs-left = emptied-turn downs′ ld zd (inv .downs-left);
+    }
 
     more : b ≡ true → row w r (suc h) ≡ row w r h ++ (pairOf w r h ∷ [])
-    more t = row-kept w r h (sym (tested h u d rh hn eu ed) ∙ sym eb ∙ t)
+    more t = row-kept w r h (sym (tested h u d rh hn up-first down-first) ∙ sym eb ∙ t)
 
     pub append-put : b ≡ true → (z rest : List ℕ) → z ≡ take (4 * k) pairs ++ (r ∷ h ∷ u ∷ d ∷ []) ++ rest → length z ≡ length pairs → 4 * k + 4 ≤ length pairs
-        → Holds (rows w n r ++ row w r (h + 1)) (k + 1) z
+        → Appending w n r (h + 1) (k + 1) ups₀ downs₀ ups′ downs′ z
     append-put t z rest e l room =
-        let f = entry-words h u d rh hn eu ed in
+        let f = entry-words h u d rh hn up-first down-first in
         let q : z ≡ take (4 * k) pairs ++ words (pairOf w r h ∷ []) ++ rest = rw (f .0, f .1) at e in
-        rw (add-one h, more t, ← (append-assoc (rows w n r) (row w r h) (pairOf w r h ∷ []))) (holds-more (pairOf w r h) z rest inv q l room)
+        record {
+          holds = rw (add-one h, more t, ← (append-assoc (rows w n r) (row w r h) (pairOf w r h ∷ []))) (holds-more (pairOf w r h) z rest (inv .holds) q l room);
+          ups-left = emptied-turn ups′ lu zu (inv .ups-left);
+          downs-left = emptied-turn downs′ ld zd (inv .downs-left);
+        }
 
-    pub append-full : b ≡ true → length pairs < 4 * k + 4 → Appended (rows w n (r + 1)) pairs Overflow
+    pub append-full : b ≡ true → length pairs < 4 * k + 4 → RowAppended w n r ups′ downs′ pairs Overflow
     append-full t full =
         let e : rows w n (r + 1) ≡ rows w n r ++ row w r n = ap (rows w n) (add-one r) in
         let a = ap length e ∙ length-append (rows w n r) (row w r n) in
         let c = ap length (more t) ∙ length-append (row w r h) (pairOf w r h ∷ []) in
-        let i = inv .count-is ∙ length-append (rows w n r) (row w r h) in
-        record { kept = λ j q. absurd (kept-overflow (sym q)); overflow = λ q. omega (arith, a, c, i, begins-length (row-begins w r (suc h) n hn)) }
+        let i = inv .holds .count-is ∙ length-append (rows w n r) (row w r h) in
+        record {
+          appended = record { kept = λ j q. absurd (kept-overflow (sym q)); overflow = λ q. omega (arith, a, c, i, begins-length (row-begins w r (suc h) n hn)) };
+          ups-none = λ j q. absurd (kept-overflow (sym q));
+          downs-none = λ j q. absurd (kept-overflow (sym q));
+        }
 
-  pub append-end : (h k : ℕ) (pairs : List ℕ) → h ≡ n → Holds (rows w n r ++ row w r h) k pairs → Appended (rows w n (r + 1)) pairs (Kept k)
-  append-end h k pairs e inv =
-      let s : Holds (rows w n (r + 1)) k pairs = rw (add-one r) (rw e at inv) in
-      record { kept = λ j q. rw (kept-same q) at s; overflow = λ q. absurd (kept-overflow q) }
+  pub append-end : (h k : ℕ) (ups downs pairs : List ℕ) → h ≡ n → length ups ≡ length ups₀ → length downs ≡ length downs₀ → Appending w n r h k ups₀ downs₀ ups downs pairs
+      → RowAppended w n r ups downs pairs (Kept k)
+  append-end h k ups downs pairs e lu ld inv =
+      let i = inv .holds in
+      let s : Holds (rows w n (r + 1)) k pairs = rw (add-one r) (rw e at i) in
+      record {
+        appended = record { kept = λ j q. rw (kept-same q) at s; overflow = λ q. absurd (kept-overflow q) };
+        ups-none = λ j q. record { wide = omega (arith, g .ups-are .wide); at = λ a ra an. inv .ups-left .done a ra (omega arith) };
+        downs-none = λ j q. record { wide = omega (arith, g .downs-are .wide); at = λ a ra an. inv .downs-left .done a ra (omega arith) };
+      }
 
 -- ---- zeros
 
@@ -169,11 +204,3 @@ zeros-end k i s₀ s h l n e =
     let j : length s ≡ i = omega arith in
     let m : i - k ≡ length s₀ - k = omega arith in
     sym (take-length s) ∙ ap (λ (x : ℕ). take x s) j ∙ e ∙ ap (λ (x : ℕ). take k s₀ ++ replicate x 0) m
-
--- ---- the high ahead
-
-pub ahead-in : (i end x n : ℕ) → i < end → x ≡ cond (ltb i end) x n
-ahead-in i end x n h = rw (lt-ltb i end h)
-
-pub ahead-out : (i end x n : ℕ) → end ≤ i → n ≡ cond (ltb i end) x n
-ahead-out i end x n h = rw (le-ltb i end h)

@@ -3,7 +3,7 @@ use mathlib.Core.Path.{_∙_, _≡_, ap, ap₂, fun-ext, refl, subst, sym}
 use mathlib.Core.Bool.{cond}
 use mathlib.Core.Option.{none, some}
 use mathlib.Core.List.{List, [], _++_}
-use Prim.Native.Nat.{_*_, _+_, _-_, _/_, _<_, _≤_, suc, ℕ}
+use Prim.Native.Nat.{_*_, _+_, _-_, _/_, _<_, _≤_, min, suc, ℕ}
 use borrow.Author.Tests.{le-ltb, lt-ltb}
 use lib.Dec.{ltb}
 use lib.ListN.{List·getD-eq-default, getD, getD-replicate, length, length-append, length-replicate, length-set, replicate, set, take}
@@ -28,51 +28,67 @@ use Rattle.model.specs.Laws.{listed-at, listed-length}
 use Rattle.network.specs.Bodies.{MapFacts, Sound, base-in, head-in, map-facts, mapIn, tail-in}
 use Rattle.contraction.specs.declared.Contracted.{Contracted}
 use Rattle.contraction.specs.declared.Contracted.the-variants.{Kept, Overflow}
-use Rattle.contraction.specs.Links.{Grouped, Linked, Ranked, netIn}
-use Rattle.contraction.specs.Rows.{Front, Holds, Narrow, Row, RowTimes, Stage}
-use Rattle.contraction.specs.Contraction.{Appended, Contraction, Ready, RowDone}
-use Rattle.contraction.proofs.Entries.{row-same}
-use Rattle.contraction.proofs.Stored.{holds-at, kept-overflow, kept-same}
+use Rattle.rows.specs.Links.{Grouped, Linked, Ranked, netIn}
+use Rattle.rows.specs.Rows.{Marked, Row}
+use Rattle.rows.specs.Entries.{row-same}
+use Rattle.fronts.specs.Fronts.{Begun, Front, Holds, Lower, Narrow, Sooner, Stage}
+use Rattle.fronts.specs.Holding.{holds-at}
+use Rattle.contraction.specs.Contraction.{Contraction, Ready, RowAppended, RowDone, RowTimes}
+use Rattle.contraction.proofs.Stored.{kept-overflow, kept-same}
 
 -- ---- the row of times at first
 
 pub long : (k n v : ℕ) → n ≤ k → n ≤ length (replicate k v)
 long k n v h = rw (length-replicate k v) h
 
+-- a word for each block of 32
+pub blocks : (k n v : ℕ) → n ≤ 32 * k → n ≤ 32 * length (replicate k v)
+blocks k n v h = rw (length-replicate k v) h
+
 pub none-row : (k r n : ℕ) → n ≤ k → Row r n (replicate k noneWord) (λ h. none)
 none-row k r n l = record { wide = long k n noneWord l; at = λ h rh hn. getD-replicate k h noneWord 0 (omega arith) }
 
 -- ---- a row
 
-module _ {w : Weights} {n r count : ℕ} {pairs cursor ahead ends : List ℕ} (y : Ready w n r count pairs cursor ahead ends) where
-  pub stage-start : {ups downs : List ℕ} → r < n → Row r n ups (λ h. w r h) → Row r n downs (λ h. w h r) → Stage w n r 0 pairs cursor ahead ends ups downs
-  stage-start rn u d = record {
-    inside = rn;
-    wide = y .wide;
-    area = y .area;
-    narrow = y .narrow;
-    count = count;
-    holds = y .holds;
-    passed = λ v h. absurd (not-suc-le-zero h);
-    waiting = λ v h l. y .fronts v l;
-    ups-are = u;
-    downs-are = d;
+module _ {w : Weights} {n r count : ℕ} {pairs cursor ahead ends soon ups₀ downs₀ : List ℕ} (y : Ready w n r count pairs cursor ahead ends soon ups₀ downs₀) where
+  pub lower-start : {ups downs touched : List ℕ} → r < n → Row r n ups (λ h. w r h) → Row r n downs (λ h. w h r) → Marked r n touched ups downs
+      → Lower w n r 0 pairs cursor ahead ends soon ups downs touched
+  lower-start rn u d m = record {
+    stage = record {
+      inside = rn;
+      wide = y .wide;
+      area = y .area;
+      narrow = y .narrow;
+      count = count;
+      holds = y .holds;
+      passed = λ v h. absurd (not-suc-le-zero h);
+      waiting = λ v h l. y .fronts v l;
+      ups-are = u;
+      downs-are = d;
+      marked = m;
+    };
+    sooner = y .sooner;
   }
 
-  module _ {cursor′ ahead′ ups downs : List ℕ} (s : Stage w n r r pairs cursor′ ahead′ ends ups downs) where
-    pub row-times : RowTimes w n r count ups downs pairs
+  module _ {cursor′ ahead′ soon′ ups downs touched : List ℕ} (z : Lower w n r r pairs cursor′ ahead′ ends soon′ ups downs touched) where
+    s : Stage w n r r pairs cursor′ ahead′ ends ups downs touched
+    s = z .stage
+
+    pub row-times : RowTimes w n r count touched ups downs pairs
     row-times = record {
       narrow = y .narrow;
       holds = y .holds;
       ups-are = row-same (up w r) (s .ups-are) (λ h rh hn. up-at w r h rh);
       downs-are = row-same (down w r) (s .downs-are) (λ h rh hn. down-at w r h rh);
+      marked = s .marked;
     }
 
-    pub row-overflow : {pairs′ : List ℕ} {z : Contracted} → z ≡ Overflow → Appended (rows w n (r + 1)) pairs′ z → RowDone w n r pairs′ cursor′ ahead′ ends Overflow
-    row-overflow e a = record { kept = λ k q. absurd (kept-overflow (sym q)); overflow = λ q. let l = a .overflow e in rw (add-one r) at l }
+    pub row-overflow : {pairs′ ups′ downs′ : List ℕ} {c : Contracted} → c ≡ Overflow → RowAppended w n r ups′ downs′ pairs′ c → RowDone w n r pairs′ cursor′ ahead′ ends soon′ ups′ downs′ Overflow
+    row-overflow e a = record { kept = λ k q. absurd (kept-overflow (sym q)); overflow = λ q. let l = a .appended .overflow e in rw (add-one r) at l }
 
     -- the records are appended, and the front of r's own row stands at its first one
-    module _ {pairs′ : List ℕ} {k x : ℕ} (h : Holds (rows w n (r + 1)) k pairs′) (ex : x ≡ cond (ltb count k) (getD pairs′ (4 * count + 1) 0) n) (ep : length pairs′ ≡ length pairs) where
+    module _ {pairs′ ups′ downs′ : List ℕ} {k x : ℕ} {c : Contracted} (a : RowAppended w n r ups′ downs′ pairs′ c) (ec : c ≡ Kept k)
+        (ex : x ≡ cond (ltb count k) (getD pairs′ (4 * count + 1) 0) n) (ep : length pairs′ ≡ length pairs) where
       lc : r < length cursor′
       lc = omega (arith, s .inside, s .wide .cursors)
 
@@ -83,7 +99,7 @@ module _ {w : Weights} {n r count : ℕ} {pairs cursor ahead ends : List ℕ} (y
       le = omega (arith, s .inside, s .wide .ends-too)
 
       holds′ : Holds (rows w n (suc r)) k pairs′
-      holds′ = rw (add-one r) at h
+      holds′ = let h = a .appended .kept k ec in rw (add-one r) at h
 
       k-is : k ≡ length (rows w n r) + length (row w r n)
       k-is = holds′ .count-is ∙ length-append (rows w n r) (row w r n)
@@ -110,7 +126,27 @@ module _ {w : Weights} {n r count : ℕ} {pairs cursor ahead ends : List ℕ} (y
         end-is = getD-set-same ends r k 0 le ∙ k-is;
       }
 
-      ready : Ready w n (suc r) k pairs′ (set cursor′ r count) (set ahead′ r x) (set ends r k)
+      sooner′ : Sooner n (suc r) (set ahead′ r x) (set soon′ (r / 32) (min (getD soon′ (r / 32) 0) x))
+      sooner′ = record { wide = omega (arith, z .sooner .wide, length-set soon′ (r / 32) (min (getD soon′ (r / 32) 0) x)); before = λ v l. at v l (ℕ-discrete v r) (ℕ-discrete (v / 32) (r / 32)) }
+        where
+          lb : r / 32 < length soon′
+          lb = omega (arith, s .inside, z .sooner .wide)
+
+          same : (v : ℕ) → v / 32 ≡ r / 32 → getD (set soon′ (r / 32) (min (getD soon′ (r / 32) 0) x)) (v / 32) 0 ≡ min (getD soon′ (r / 32) 0) x
+          same v q = ap (λ (j : ℕ). getD (set soon′ (r / 32) (min (getD soon′ (r / 32) 0) x)) j 0) q ∙ getD-set-same soon′ (r / 32) (min (getD soon′ (r / 32) 0) x) 0 lb
+
+          at : (v : ℕ) → v < suc r → Dec (v ≡ r) → Dec (v / 32 ≡ r / 32) → getD (set soon′ (r / 32) (min (getD soon′ (r / 32) 0) x)) (v / 32) 0 ≤ getD (set ahead′ r x) v 0
+          at v l (yes e) q =
+              let f : v / 32 ≡ r / 32 = ap (λ (j : ℕ). j / 32) e in
+              let g : getD (set ahead′ r x) v 0 ≡ x = ap (λ (j : ℕ). getD (set ahead′ r x) j 0) e ∙ getD-set-same ahead′ r x 0 la in
+              omega (arith, same v f, g)
+          at v l (no ne) (yes f) =
+              let q : getD soon′ (r / 32) 0 ≤ getD ahead′ v 0 = rw f at (z .sooner .before v (omega arith)) in
+              omega (arith, same v f, getD-set-other ahead′ r v x 0 ne, q)
+          at v l (no ne) (no f) =
+              omega (arith, getD-set-other soon′ (r / 32) (v / 32) (min (getD soon′ (r / 32) 0) x) 0 f, getD-set-other ahead′ r v x 0 ne, z .sooner .before v (omega arith))
+
+      ready : Ready w n (suc r) k pairs′ (set cursor′ r count) (set ahead′ r x) (set ends r k) (set soon′ (r / 32) (min (getD soon′ (r / 32) 0) x)) ups′ downs′
       ready = record {
         wide = record {
           cursors = omega (arith, s .wide .cursors, length-set cursor′ r count);
@@ -121,6 +157,9 @@ module _ {w : Weights} {n r count : ℕ} {pairs cursor ahead ends : List ℕ} (y
         narrow = y .narrow;
         holds = holds′;
         fronts = λ v l. at v l (ℕ-discrete v r);
+        sooner = sooner′;
+        ups-none = later (a .ups-none k ec);
+        downs-none = later (a .downs-none k ec);
       }
         where
           at : (v : ℕ) → v < suc r → Dec (v ≡ r) → Front w n v (suc r) (set cursor′ r count) (set ahead′ r x) (set ends r k)
@@ -133,11 +172,15 @@ module _ {w : Weights} {n r count : ℕ} {pairs cursor ahead ends : List ℕ} (y
                 end-is = getD-set-other ends r v k 0 ne ∙ f .end-is;
               }
 
-      pub row-kept : RowDone w n r pairs′ (set cursor′ r count) (set ahead′ r x) (set ends r k) (Kept k)
-      row-kept = record {
-        kept = λ j q. subst (λ (c : ℕ). Ready w n (suc r) c pairs′ (set cursor′ r count) (set ahead′ r x) (set ends r k)) (kept-same q) ready;
+          later : {row : List ℕ} → Row r n row (λ h. none) → Row (suc r) n row (λ h. none)
+          later q = record { wide = q .wide; at = λ h rh hn. q .at h (omega arith) hn }
+
+      pub row-kept : {cursor″ ahead″ ends″ soon″ : List ℕ} → Begun r count x k cursor′ ahead′ ends soon′ cursor″ ahead″ ends″ soon″
+          → RowDone w n r pairs′ cursor″ ahead″ ends″ soon″ ups′ downs′ (Kept k)
+      row-kept b = rw (b .cursor-is, b .ahead-is, b .ends-are, b .soon-is) (record {
+        kept = λ j q. subst (λ (m : ℕ). Ready w n (suc r) m pairs′ (set cursor′ r count) (set ahead′ r x) (set ends r k) (set soon′ (r / 32) (min (getD soon′ (r / 32) 0) x)) ups′ downs′) (kept-same q) ready;
         overflow = λ q. absurd (kept-overflow q);
-      }
+      })
 
 -- ---- all rows
 
@@ -239,13 +282,17 @@ module _ {roads order ranks : List ℕ} (g : Given roads order ranks) where
       most : CostsAtMost (Arc (renamed (rank (mapIn roads order)) (mapIn roads order .base))) 1000000
       most x y k o = facts .most _ _ k (arcOf (o .index) (o .below) refl refl (o .at .costs))
 
-  pub ready-start : (pairs cursor ahead ends : List ℕ) → length pairs ≤ 262144 → 4096 ≤ length cursor → 4096 ≤ length ahead → 4096 ≤ length ends → Ready (direct (netIn roads ranks)) (length ranks) 0 0 pairs cursor ahead ends
-  ready-start pairs cursor ahead ends area lc la le = record {
+  pub ready-start : (pairs cursor ahead ends soon : List ℕ) → length pairs ≤ 262144 → 4096 ≤ length cursor → 4096 ≤ length ahead → 4096 ≤ length ends → 4096 ≤ 32 * length soon
+      → Ready (direct (netIn roads ranks)) (length ranks) 0 0 pairs cursor ahead ends soon (replicate 4096 noneWord) (replicate 4096 noneWord)
+  ready-start pairs cursor ahead ends soon area lc la le ls = record {
     wide = record { cursors = omega (arith, ranks-most); aheads = omega (arith, ranks-most); ends-too = omega (arith, ranks-most) };
     area = area;
     narrow = times-narrow;
     holds = record { count-is = refl; room = omega arith; words-are = refl };
     fronts = λ v h. absurd (not-suc-le-zero h);
+    sooner = record { wide = omega (arith, ranks-most); before = λ v h. absurd (not-suc-le-zero h) };
+    ups-none = none-row 4096 0 (length ranks) ranks-most;
+    downs-none = none-row 4096 0 (length ranks) ranks-most;
   }
 
   pub contract-overflow : (r room : ℕ) (pairs : List ℕ) → r < length ranks → length pairs ≡ room
@@ -255,8 +302,8 @@ module _ {roads order ranks : List ℕ} (g : Given roads order ranks) where
     overflow = λ k. refl;
   }
 
-  pub contract-end : {r count : ℕ} {pairs cursor ahead ends : List ℕ} (room : ℕ) (z : List ℕ) → r ≡ length ranks → length pairs ≡ room
-      → Ready (direct (netIn roads ranks)) (length ranks) r count pairs cursor ahead ends → z ≡ take (4 * count) pairs ++ replicate (length pairs - 4 * count) 0
+  pub contract-end : {r count : ℕ} {pairs cursor ahead ends soon ups downs : List ℕ} (room : ℕ) (z : List ℕ) → r ≡ length ranks → length pairs ≡ room
+      → Ready (direct (netIn roads ranks)) (length ranks) r count pairs cursor ahead ends soon ups downs → z ≡ take (4 * count) pairs ++ replicate (length pairs - 4 * count) 0
       → Contraction (mapIn roads order) room z (Kept count)
   contract-end {r} {count} {pairs} room z e l y ez =
       let same : rows (direct (netIn roads ranks)) (length ranks) r ≡ pairsOf (mapIn roads order) = ap (rows (direct (netIn roads ranks)) (length ranks)) e ∙ pairs-are in
@@ -266,5 +313,6 @@ module _ {roads order ranks : List ℕ} (g : Given roads order ranks) where
         overflow = λ h. absurd (omega (arith, k, y .holds .room));
       }
 
-pub next-ready : {w : Weights} {n r count : ℕ} {pairs cursor ahead ends : List ℕ} → Ready w n (suc r) count pairs cursor ahead ends → Ready w n (r + 1) count pairs cursor ahead ends
+pub next-ready : {w : Weights} {n r count : ℕ} {pairs cursor ahead ends soon ups downs : List ℕ} → Ready w n (suc r) count pairs cursor ahead ends soon ups downs
+    → Ready w n (r + 1) count pairs cursor ahead ends soon ups downs
 next-ready {r} y = rw (add-one r) y

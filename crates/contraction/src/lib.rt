@@ -1,28 +1,24 @@
 // Preparing's part of the hierarchy: ranks from the order, and the pairs by contraction in that order, with no witness test.
 //
-// The pairs of the ranks are made row by row, the low ascending. A row of r begins with the roads between r and the ranks above it, which are linked
-// by the lower of their ranks. Then each lower rank v that has a pair with r gives the paths over v, from r to the highs of v's later pairs and back.
-// A front for each v, which moves along v's records as r ascends, says whether v has a pair with r. The work is in the pairs, the triangles of pairs,
-// and the square of the number of ranks.
+// The pairs of the ranks are made row by row, the low ascending. A row of r begins with the roads between r and the ranks above it (crate rows). Then
+// each lower rank v that has a pair with r gives the paths over v, from r to the highs of v's later pairs and back (crate fronts). The work is in the
+// pairs and the triangles of pairs; ranks stand in blocks of 32, and what is in the square of the number of ranks is a test of each block in each row.
 ghost use mathlib.Core.Path.{_≡_};
-ghost use mathlib.Core.Bool.{cond};
-ghost use mathlib.Core.Option.{none};
-ghost use mathlib.Core.List.{[], List, _++_, _∷_};
-ghost use Prim.Native.Nat.{_*_, _+_, _-_, _<_, _≤_, _/_, min, ℕ};
-ghost use lib.Dec.{ltb};
-ghost use lib.ListN.{drop, getD, length, replicate, take};
+ghost use mathlib.Core.List.{List, _++_};
+ghost use Prim.Native.Nat.{_*_, _+_, _-_, _<_, _≤_, ℕ};
+ghost use lib.ListN.{length, replicate, take};
 ghost use Rattle.graph.specs.Path.{Weights};
 ghost use Rattle.graph.specs.Network.{direct};
-ghost use Rattle.graph.specs.Records.{exists, rows};
 ghost use Rattle.graph.specs.Map.{rank};
-ghost use Rattle.model.specs.Word.{ofWord};
 ghost use Rattle.model.specs.Bytes.{listed};
 ghost use Rattle.network.specs.Bodies.{Sound, mapIn};
-ghost use Rattle.contraction.specs.Links.{Grouped, Linked, Ranked, netIn, rowOf};
-ghost use Rattle.contraction.specs.Rows.{Over, Relaxed, RoadRelaxed, Row, RowTimes, Stage};
-ghost use Rattle.contraction.specs.Contraction.{Appended, Contraction, Ready, RowDone};
+ghost use Rattle.rows.specs.Links.{Grouped, netIn};
+ghost use Rattle.contraction.specs.Contraction.{Contraction, Ready, RowAppended, RowDone, RowTimes};
 use network::Rank;
 use network::Time;
+
+// The number of ranks in a block.
+const BLOCK: u32 = 32;
 
 // Fills the area of ranks: each junction's place in the order.
 pub fn fill_ranks(order: &[u8], ranks: &mut [u32])
@@ -43,241 +39,44 @@ pub enum Contracted {
     Overflow,
 }
 
-// ---- the roads of a row
-
-// The row of road i: the lower of its two ranks.
-fn row_of(roads: &[u8], ranks: &[u32], i: usize) -> Rank
-    requires { ⌜ Ranked (now roads) (now ranks) × (i < length (now roads) / 12) ⌝ }
-    ensures { λ r. ⌜ (r .0 ≡ rowOf (netIn (now (roads .entry)) (now (ranks .entry))) i) × (r .0 < length (now (ranks .entry))) ⌝ }
-{
-    let a = network::rank_of(ranks, network::tail_of(roads, i)).0;
-    let b = network::rank_of(ranks, network::head_of(roads, i)).0;
-    if a < b { Rank(a) } else { Rank(b) }
-}
-
-// Links the roads of each row, the last one first.
-fn link_roads(roads: &[u8], ranks: &[u32], first: &mut [u32], next: &mut [u32])
-    requires { ⌜ Ranked (now roads) (now ranks)
-        × (length (now ranks) ≤ length (now first))
-        × (length (now roads) / 12 ≤ length (now next))
-        × ((r : ℕ) → r < length (now ranks) → getD (now first) r 0 ≡ 0) ⌝ }
-    ensures { λ _. ⌜ Linked (netIn (now (roads .entry)) (now (ranks .entry))) (length (now (ranks .entry))) (length (now (roads .entry)) / 12) (now (first .exit)) (now (next .exit)) ⌝ }
-{
-    let m = roads.len() / 12;
-    let mut i = 0;
-    while i < m {
-        let r = row_of(roads, ranks, i).0 as usize;
-        next[i] = first[r];
-        i += 1;
-        first[r] = i as u32;
-    }
-}
-
-fn least(a: u32, b: u32) -> u32
-    ensures { λ r. ⌜ r ≡ min a b ⌝ }
-{
-    if a < b { a } else { b }
-}
-
-// Road i relaxes the times of its row: upwards to its head, or downwards from its tail.
-fn relax_road(roads: &[u8], ranks: &[u32], i: usize, ups: &mut [u32], downs: &mut [u32])
-    requires { ⌜ Ranked (now roads) (now ranks)
-        × (i < length (now roads) / 12)
-        × (length (now ranks) ≤ length (now ups))
-        × (length (now ranks) ≤ length (now downs)) ⌝ }
-    ensures { λ _. ⌜ RoadRelaxed (netIn (now (roads .entry)) (now (ranks .entry))) (length (now (ranks .entry))) i (now (ups .entry)) (now (downs .entry)) (now (ups .exit)) (now (downs .exit)) ⌝ }
-{
-    let a = network::rank_of(ranks, network::tail_of(roads, i)).0;
-    let b = network::rank_of(ranks, network::head_of(roads, i)).0;
-    let t = network::base_of(roads, i).0;
-    if a < b {
-        let h = b as usize;
-        ups[h] = least(ups[h], t);
-    } else {
-        let h = a as usize;
-        downs[h] = least(downs[h], t);
-    }
-}
-
-// The times of single roads between r and the ranks above it, from the last road of the row down.
-fn relax_roads(
-    roads: &[u8],
-    ranks: &[u32],
-    first: &[u32],
-    next: &[u32],
-    r: Rank,
-    ups: &mut [u32],
-    downs: &mut [u32],
-)
-    requires { ⌜ Grouped (now roads) (now ranks) (now first) (now next)
-        × (r .0 < length (now ranks))
-        × Row (r .0) (length (now ranks)) (now ups) (λ h. none)
-        × Row (r .0) (length (now ranks)) (now downs) (λ h. none) ⌝ }
-    ensures { λ _. ⌜ Row (r .0) (length (now (ranks .entry))) (now (ups .exit)) (λ h. direct (netIn (now (roads .entry)) (now (ranks .entry))) (r .0) h)
-        × Row (r .0) (length (now (ranks .entry))) (now (downs .exit)) (λ h. direct (netIn (now (roads .entry)) (now (ranks .entry))) h (r .0)) ⌝ }
-{
-    let mut c = first[r.0 as usize];
-    while c > 0 {
-        let i = (c - 1) as usize;
-        relax_road(roads, ranks, i, ups, downs);
-        c = next[i];
-    }
-}
-
-// ---- the pairs of the lower ranks
-
-// The words of a record: the rank of its low, of its high, its up time and its down time.
-const HIGH: usize = 1;
-
-const UP: usize = 2;
-
-const DOWN: usize = 3;
-
-// The records from `from` to before `to` relax a row of times: each the entry of its high, by `time` and its own time at word `at`.
-fn relax_row(pairs: &[u32], from: u32, to: u32, at: usize, time: Time, row: &mut [u32])
-    requires { ⌜ (from ≤ to)
-        × (4 * to ≤ length (now pairs))
-        × (at < 4)
-        × ((i : ℕ) → from ≤ i → i < to → getD (now pairs) (4 * i + 1) 0 < length (now row)) ⌝ }
-    ensures { λ _. ⌜ Relaxed (now (pairs .entry)) from to at (time .0) (now (row .entry)) (now (row .exit)) ⌝ }
-{
-    let mut i = from;
-    while i < to {
-        let k = 4 * (i as usize);
-        let h = pairs[k + HIGH] as usize;
-        row[h] = Time::of_word(row[h])
-            .or_sum(time, Time::of_word(pairs[k + at]))
-            .word();
-        i += 1;
-    }
-}
-
-// The paths over the low of record i, between its high and those of the records after it, relax both rows.
-fn relax_over(pairs: &[u32], i: u32, end: u32, ups: &mut [u32], downs: &mut [u32])
-    requires { ⌜ (i < end)
-        × (4 * end ≤ length (now pairs))
-        × ((j : ℕ) → i + 1 ≤ j → j < end → getD (now pairs) (4 * j + 1) 0 < length (now ups))
-        × ((j : ℕ) → i + 1 ≤ j → j < end → getD (now pairs) (4 * j + 1) 0 < length (now downs)) ⌝ }
-    ensures { λ _. ⌜ Over (now (pairs .entry)) i end (now (ups .entry)) (now (downs .entry)) (now (ups .exit)) (now (downs .exit)) ⌝ }
-{
-    let k = 4 * (i as usize);
-    relax_row(pairs, i + 1, end, UP, Time::of_word(pairs[k + DOWN]), ups);
-    relax_row(pairs, i + 1, end, DOWN, Time::of_word(pairs[k + UP]), downs);
-}
-
-// The high of record i; n where it is past the last of its row.
-fn ahead_at(pairs: &[u32], i: u32, end: u32, n: u32) -> u32
-    requires { ⌜ 4 * end ≤ length (now pairs) ⌝ }
-    ensures { λ r. ⌜ r ≡ cond (ltb i end) (getD (now (pairs .entry)) (4 * i + 1) 0) n ⌝ }
-{
-    if i < end {
-        pairs[4 * (i as usize) + HIGH]
-    } else {
-        n
-    }
-}
-
-// The lower rank v has a pair with r: the row of r is relaxed over v, and v's row is passed up to r.
-fn pass_rank(
-    pairs: &[u32],
-    n: u32,
-    r: Rank,
-    v: Rank,
-    cursor: &mut [u32],
-    ahead: &mut [u32],
-    ends: &[u32],
-    ups: &mut [u32],
-    downs: &mut [u32],
-)
-    requires { ⌜ ((w : Weights) × Stage w n (r .0) (v .0) (now pairs) (now cursor) (now ahead) (now ends) (now ups) (now downs))
-        × (v .0 < r .0)
-        × (getD (now ahead) (v .0) 0 ≡ r .0) ⌝ }
-    ensures { λ _. ⌜ ((w : Weights) → Stage w n (r .0) (v .0) (now (pairs .entry)) (now (cursor .entry)) (now (ahead .entry)) (now (ends .entry)) (now (ups .entry)) (now (downs .entry))
-        → Stage w n (r .0) (v .0 + 1) (now (pairs .entry)) (now (cursor .exit)) (now (ahead .exit)) (now (ends .entry)) (now (ups .exit)) (now (downs .exit))) ⌝ }
-{
-    let k = v.0 as usize;
-    let i = cursor[k];
-    let end = ends[k];
-    relax_over(pairs, i, end, ups, downs);
-    cursor[k] = i + 1;
-    ahead[k] = ahead_at(pairs, i + 1, end, n);
-}
-
-// The row of r is relaxed over all lower ranks.
-fn pass_lower(
-    pairs: &[u32],
-    n: u32,
-    r: Rank,
-    cursor: &mut [u32],
-    ahead: &mut [u32],
-    ends: &[u32],
-    ups: &mut [u32],
-    downs: &mut [u32],
-)
-    requires { ⌜ ((w : Weights) × Stage w n (r .0) 0 (now pairs) (now cursor) (now ahead) (now ends) (now ups) (now downs)) ⌝ }
-    ensures { λ _. ⌜ ((w : Weights) → Stage w n (r .0) 0 (now (pairs .entry)) (now (cursor .entry)) (now (ahead .entry)) (now (ends .entry)) (now (ups .entry)) (now (downs .entry))
-        → Stage w n (r .0) (r .0) (now (pairs .entry)) (now (cursor .exit)) (now (ahead .exit)) (now (ends .entry)) (now (ups .exit)) (now (downs .exit))) ⌝ }
-{
-    let mut v: u32 = 0;
-    while v < r.0 {
-        let k = v;
-        v += 1;
-        if ahead[k as usize] == r.0 {
-            pass_rank(pairs, n, r, Rank(k), cursor, ahead, ends, ups, downs);
-        }
-    }
-}
-
 // ---- the records of a row
 
-// A pair is kept when either time exists.
-fn is_kept(up: Time, down: Time) -> bool
-    ensures { λ r. ⌜ r ≡ exists (ofWord (up .0)) (ofWord (down .0)) ⌝ }
-{
-    if up.is_none() {
-        return !down.is_none();
-    }
-    true
-}
-
-// Writes record k.
-fn put_record(pairs: &mut [u32], k: u32, low: Rank, high: Rank, up: Time, down: Time)
-    requires { ⌜ 4 * k + 4 ≤ length (now pairs) ⌝ }
-    ensures { λ _. ⌜ now (pairs .exit) ≡ take (4 * k) (now (pairs .entry)) ++ (low .0 ∷ high .0 ∷ up .0 ∷ down .0 ∷ []) ++ drop (4 * k + 4) (now (pairs .entry)) ⌝ }
-{
-    let i = 4 * (k as usize);
-    pairs[i] = low.0;
-    pairs[i + HIGH] = high.0;
-    pairs[i + UP] = up.0;
-    pairs[i + DOWN] = down.0;
-}
-
-// Appends the records of the kept pairs of r, in ascending order of their highs.
+// Appends the records of the kept pairs of r, in ascending order of their highs, and leaves none in the rows of times. A block that no road or path
+// touched holds none, and is passed over.
 fn append_row(
-    ups: &[u32],
-    downs: &[u32],
+    touched: &[u32],
     n: u32,
     r: Rank,
     count: u32,
+    ups: &mut [u32],
+    downs: &mut [u32],
     pairs: &mut [u32],
 ) -> Contracted
-    requires { ⌜ (r .0 < n) × (n ≤ length (now ups)) × (n ≤ length (now downs)) × (4 * count ≤ length (now pairs)) × (length (now pairs) ≤ 262144) ⌝ }
-    ensures { λ answer. ⌜ ((w : Weights) → RowTimes w n (r .0) count (now (ups .entry)) (now (downs .entry)) (now (pairs .entry))
-        → Appended (rows w n (r .0 + 1)) (now (pairs .exit)) answer) ⌝ }
+    requires { ⌜ (r .0 < n) × (n ≤ 4096)
+        × (n ≤ 32 * length (now touched))
+        × (n ≤ length (now ups)) × (n ≤ length (now downs)) × (4 * count ≤ length (now pairs)) × (length (now pairs) ≤ 262144) ⌝ }
+    ensures { λ answer. ⌜ ((w : Weights) → RowTimes w n (r .0) count (now (touched .entry)) (now (ups .entry)) (now (downs .entry)) (now (pairs .entry))
+        → RowAppended w n (r .0) (now (ups .exit)) (now (downs .exit)) (now (pairs .exit)) answer) ⌝ }
 {
     let mut k = count;
     let mut h = r.0 + 1;
     while h < n {
-        let u = Time::of_word(ups[h as usize]);
-        let d = Time::of_word(downs[h as usize]);
-        let high = Rank(h);
-        h += 1;
-        if is_kept(u, d) {
-            if 4 * (k as usize) + 4 > pairs.len() {
-                return Contracted::Overflow;
+        let b = h / BLOCK;
+        if touched[b as usize] == 0 {
+            h = rows::least(BLOCK * b + BLOCK, n);
+        } else {
+            let high = Rank(h);
+            let at = h as usize;
+            h += 1;
+            let u = rows::take_time(ups, at);
+            let d = rows::take_time(downs, at);
+            if rows::is_kept(u, d) {
+                if 4 * (k as usize) + 4 > pairs.len() {
+                    return Contracted::Overflow;
+                }
+                rows::put_record(pairs, k, r, high, u, d);
+                k += 1;
             }
-            put_record(pairs, k, r, high, u, d);
-            k += 1;
         }
     }
     Contracted::Kept(k)
@@ -294,26 +93,37 @@ fn contract_row(
     cursor: &mut [u32],
     ahead: &mut [u32],
     ends: &mut [u32],
+    soon: &mut [u32],
+    ups: &mut [u32],
+    downs: &mut [u32],
     pairs: &mut [u32],
 ) -> Contracted
     requires { ⌜ Grouped (now roads) (now ranks) (now first) (now next)
-        × Ready (direct (netIn (now roads) (now ranks))) (length (now ranks)) (r .0) count (now pairs) (now cursor) (now ahead) (now ends)
+        × Ready (direct (netIn (now roads) (now ranks))) (length (now ranks)) (r .0) count (now pairs) (now cursor) (now ahead) (now ends) (now soon) (now ups) (now downs)
         × (r .0 < length (now ranks))
         × (length (now ranks) ≤ 4096) ⌝ }
-    ensures { λ answer. ⌜ RowDone (direct (netIn (now (roads .entry)) (now (ranks .entry)))) (length (now (ranks .entry))) (r .0) (now (pairs .exit)) (now (cursor .exit)) (now (ahead .exit)) (now (ends .exit)) answer ⌝ }
+    ensures { λ answer. ⌜ RowDone (direct (netIn (now (roads .entry)) (now (ranks .entry)))) (length (now (ranks .entry))) (r .0) (now (pairs .exit)) (now (cursor .exit)) (now (ahead .exit)) (now (ends .exit)) (now (soon .exit)) (now (ups .exit)) (now (downs .exit)) answer ⌝ }
 {
     let n = ranks.len() as u32;
-    let mut ups = [Time::NONE.0; 4096];
-    let mut downs = [Time::NONE.0; 4096];
-    relax_roads(roads, ranks, first, next, r, &mut ups, &mut downs);
-    pass_lower(pairs, n, r, cursor, ahead, ends, &mut ups, &mut downs);
-    match append_row(&ups, &downs, n, r, count, pairs) {
+    let mut touched = [0u32; 128];
+    rows::relax_roads(roads, ranks, first, next, r, ups, downs, &mut touched);
+    fronts::pass_lower(
+        pairs,
+        n,
+        r,
+        cursor,
+        ahead,
+        ends,
+        soon,
+        ups,
+        downs,
+        &mut touched,
+    );
+    match append_row(&touched, n, r, count, ups, downs, pairs) {
         Contracted::Overflow => Contracted::Overflow,
         Contracted::Kept(k) => {
-            let v = r.0 as usize;
-            cursor[v] = count;
-            ahead[v] = ahead_at(pairs, count, k, n);
-            ends[v] = k;
+            let high = fronts::ahead_at(pairs, count, k, n);
+            fronts::begin_front(r, count, high, k, cursor, ahead, ends, soon);
             Contracted::Kept(k)
         }
     }
@@ -341,10 +151,13 @@ pub fn contract(roads: &[u8], order: &[u8], ranks: &[u32], pairs: &mut [u32]) ->
     let n = (order.len() / 4) as u32;
     let mut first = [0u32; 4096];
     let mut next = [0u32; 16384];
-    link_roads(roads, ranks, &mut first, &mut next);
+    rows::link_roads(roads, ranks, &mut first, &mut next);
     let mut cursor = [0u32; 4096];
     let mut ahead = [0u32; 4096];
     let mut ends = [0u32; 4096];
+    let mut soon = [4096u32; 128];
+    let mut ups = [Time::NONE.0; 4096];
+    let mut downs = [Time::NONE.0; 4096];
     let mut count: u32 = 0;
     let mut r: u32 = 0;
     while r < n {
@@ -358,6 +171,9 @@ pub fn contract(roads: &[u8], order: &[u8], ranks: &[u32], pairs: &mut [u32]) ->
             &mut cursor,
             &mut ahead,
             &mut ends,
+            &mut soon,
+            &mut ups,
+            &mut downs,
             pairs,
         ) {
             Contracted::Overflow => {

@@ -1,0 +1,89 @@
+use mathlib.Core.Path.{_∙_, _≡_, refl}
+use Prim.Native.Nat.{_+_, _-_, _≤_}
+use lib.ListN.{length}
+use Rattle.rows.specs.Steps.{in-blocks, in-length, le-more, less, lt-next}
+use Rattle.fronts.proofs.Passes.{Going, going-end, going-start, going-turn}
+use borrow.Author.Needs.{needs}
+use Rattle.fronts.proofs.relax_over.Statement.{statement}
+use Rattle.fronts.proofs.relax_over.Tie as tie
+
+abbrev Inv-loop : tie.InvT-loop
+Inv-loop pairs i end ups₀ downs₀ touched₀ k down up j₀ ups downs touched j = (i + 1 ≤ j) × (j ≤ end) × (length ups ≡ length ups₀) × (length downs ≡ length downs₀) × (length touched ≡ length touched₀) × Going pairs (i + 1) end (down .0) (up .0) j ups₀ downs₀ touched₀ ups downs touched
+
+abbrev μ-loop : tie.MeasureT-loop
+μ-loop pairs i end ups₀ downs₀ touched₀ k down up j₀ ups downs touched j = end - j
+
+loop-holds : tie.Need-loop-holds Inv-loop μ-loop
+loop-holds c = (search needs, search needs, refl, refl, refl, going-start _ _ _ _ _ _ _ _)
+
+cast-h : tie.Need-cast-h Inv-loop μ-loop
+cast-h c = let q = c .before .before .before .before .before .before .before .before .before .before .before .pre .2 .ups-in (c .before .before .loop .j) (c .before .before .loop .inv .0) (c .before .loop-test .taken) in search needs
+
+relax-entry-requires : tie.Need-relax-entry-requires Inv-loop μ-loop
+relax-entry-requires c κs = in-length _ _ _ (c .before .before .before .before .before .before .before .before .before .before .before .before .before .before .pre .2 .ups-in (c .before .before .before .before .before .loop .j) (c .before .before .before .before .before .loop .inv .0) (c .before .before .before .before .loop-test .taken)) (c .before .before .before .before .before .loop .inv .2)
+
+relax-entry-requires-2 : tie.Need-relax-entry-requires-2 Inv-loop μ-loop
+relax-entry-requires-2 c κs = in-length _ _ _ (c .before .before .before .before .before .before .before .before .before .before .before .before .before .before .before .before .before .before .before .before .pre .2 .downs-in (c .before .before .before .before .before .before .before .before .before .before .before .loop .j) (c .before .before .before .before .before .before .before .before .before .before .before .loop .inv .0) (c .before .before .before .before .before .before .before .before .before .before .loop-test .taken)) (c .before .before .before .before .before .before .before .before .before .before .before .loop .inv .3)
+
+mark-requires : tie.Need-mark-requires Inv-loop μ-loop
+mark-requires c κs = in-blocks _ _ _ (c .before .before .before .before .before .before .before .before .before .before .before .before .before .before .before .before .before .before .before .before .before .before .before .before .pre .2 .marks-in (c .before .before .before .before .before .before .before .before .before .before .before .before .before .before .before .loop .j) (c .before .before .before .before .before .before .before .before .before .before .before .before .before .before .before .loop .inv .0) (c .before .before .before .before .before .before .before .before .before .before .before .before .before .before .loop-test .taken)) (c .before .before .before .before .before .before .before .before .before .before .before .before .before .before .before .loop .inv .4)
+
+loop-less : tie.Need-loop-less Inv-loop μ-loop
+loop-less c = less _ _ (c .before .before .before .before .before .before .before .before .before .before .before .before .before .before .before .before .before .loop-test .taken)
+
+loop-again : tie.Need-loop-again Inv-loop μ-loop
+loop-again c = (le-more _ _ (c .before .before .before .before .before .before .before .before .before .before .before .before .before .before .before .before .before .before .loop .inv .0), lt-next _ _ (c .before .before .before .before .before .before .before .before .before .before .before .before .before .before .before .before .before .loop-test .taken), c .before .before .before .before .before .before .before .before .before .before .before .before .relax-entry .kept .0 ∙ c .before .before .before .before .before .before .before .before .before .before .before .before .before .before .before .before .before .before .loop .inv .2, c .before .before .before .before .before .before .relax-entry2 .kept .0 ∙ c .before .before .before .before .before .before .before .before .before .before .before .before .before .before .before .before .before .before .loop .inv .3, c .before .before .mark .kept .0 ∙ c .before .before .before .before .before .before .before .before .before .before .before .before .before .before .before .before .before .before .loop .inv .4, going-turn _ _ _ _ _ _ _ _ (c .before .before .before .before .before .before .before .before .before .before .before .before .before .before .before .before .before .before .loop .j) _ _ _ _ _ _ _ _ _ (c .before .before .before .before .before .before .before .before .before .before .before .before .before .before .before .before .before .before .loop .inv .0) (c .before .before .before .before .before .before .before .before .before .before .before .before .before .before .before .before .before .loop-test .taken) refl (c .before .before .before .before .before .before .before .before .before .before .before .before .before .of-word3 .ensures) (c .before .before .before .before .before .before .before .before .before .before .before .before .relax-entry .ensures) (c .before .before .before .before .before .before .before .of-word4 .ensures) (c .before .before .before .before .before .before .relax-entry2 .ensures) (in-blocks _ _ _ (c .before .before .before .before .before .before .before .before .before .before .before .before .before .before .before .before .before .before .before .before .before .before .before .before .before .before .before .pre .2 .marks-in (c .before .before .before .before .before .before .before .before .before .before .before .before .before .before .before .before .before .before .loop .j) (c .before .before .before .before .before .before .before .before .before .before .before .before .before .before .before .before .before .before .loop .inv .0) (c .before .before .before .before .before .before .before .before .before .before .before .before .before .before .before .before .before .loop-test .taken)) (c .before .before .before .before .before .before .before .before .before .before .before .before .before .before .before .before .before .before .loop .inv .4)) (c .before .before .mark .ensures) (c .before .before .before .before .before .before .before .before .before .before .before .before .before .before .before .before .before .before .loop .inv .5))
+
+same-length : tie.Need-same-length Inv-loop μ-loop
+same-length c = c .before .loop .inv .2
+
+same-length-2 : tie.Need-same-length-2 Inv-loop μ-loop
+same-length-2 c = c .before .loop .inv .3
+
+same-length-3 : tie.Need-same-length-3 Inv-loop μ-loop
+same-length-3 c = c .before .loop .inv .4
+
+returns : tie.Need-returns Inv-loop μ-loop
+returns c = going-end (c .before .loop .inv .1) (c .loop-test .left) (c .before .before .before .before .of-word .ensures) (c .before .before .of-word2 .ensures) (c .before .loop .inv .5)
+
+pub relax-over-spec : {M : Type 1} → statement M
+relax-over-spec =
+    tie.close
+    (tie.spec
+    Inv-loop
+    μ-loop
+    (λ c. search needs)
+    (λ c. search needs)
+    (λ c. search needs)
+    (λ c. search needs)
+    (λ c κs. search needs)
+    (λ c. search needs)
+    (λ c. search needs)
+    (λ c. search needs)
+    (λ c κs. search needs)
+    (λ c. search needs)
+    loop-holds
+    (λ c. search needs)
+    (λ c. search needs)
+    (λ c. search needs)
+    (λ c. search needs)
+    (λ c. search needs)
+    cast-h
+    (λ c. search needs)
+    (λ c. search needs)
+    (λ c. search needs)
+    (λ c κs. search needs)
+    relax-entry-requires
+    (λ c. search needs)
+    (λ c. search needs)
+    (λ c. search needs)
+    (λ c κs. search needs)
+    relax-entry-requires-2
+    mark-requires
+    (λ c. search needs)
+    loop-less
+    loop-again
+    same-length
+    same-length-2
+    same-length-3
+    returns)

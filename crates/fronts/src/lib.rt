@@ -1,0 +1,201 @@
+// The rows of the lower ranks, passed over the row of a rank r.
+//
+// Each lower rank v that has a pair with r gives the paths over v, from r to the highs of v's later pairs and back. A front for each v, which moves along
+// v's records as r ascends, says whether v has a pair with r. Ranks stand in blocks of 32, and of each block a bound is kept, which is at most the highs
+// ahead of its ranks: a block whose bound is above r has no pair with r.
+ghost use mathlib.Core.Path.{_≡_};
+ghost use mathlib.Core.Bool.{cond};
+ghost use Prim.Native.Nat.{_*_, _+_, _<_, _≤_, ℕ};
+ghost use lib.Dec.{ltb};
+ghost use lib.ListN.{getD, length};
+ghost use Rattle.graph.specs.Path.{Weights};
+ghost use Rattle.fronts.specs.Fronts.{Begun, Lower, Over, Reached, Scanned, Sooner, Stage};
+use network::Rank;
+use network::Time;
+
+// The number of ranks in a block.
+const BLOCK: u32 = 32;
+
+// The words of a record: the rank of its low, of its high, its up time and its down time.
+const HIGH: usize = 1;
+
+const UP: usize = 2;
+
+const DOWN: usize = 3;
+
+// The paths over the low of record i, between its high and those of the records after it, relax both rows.
+fn relax_over(
+    pairs: &[u32],
+    i: u32,
+    end: u32,
+    ups: &mut [u32],
+    downs: &mut [u32],
+    touched: &mut [u32],
+)
+    requires { ⌜ (i < end) × (4 * end ≤ length (now pairs)) × Reached (now pairs) (i + 1) end (now ups) (now downs) (now touched) ⌝ }
+    ensures { λ _. ⌜ Over (now (pairs .entry)) i end (now (ups .entry)) (now (downs .entry)) (now (touched .entry)) (now (ups .exit)) (now (downs .exit)) (now (touched .exit)) ⌝ }
+{
+    let k = 4 * (i as usize);
+    let down = Time::of_word(pairs[k + DOWN]);
+    let up = Time::of_word(pairs[k + UP]);
+    let mut j = i + 1;
+    while j < end {
+        let q = 4 * (j as usize);
+        let h = pairs[q + HIGH] as usize;
+        rows::relax_entry(ups, h, down, Time::of_word(pairs[q + UP]));
+        rows::relax_entry(downs, h, up, Time::of_word(pairs[q + DOWN]));
+        rows::mark(touched, h);
+        j += 1;
+    }
+}
+
+// The high of record i; n where it is past the last of its row.
+pub fn ahead_at(pairs: &[u32], i: u32, end: u32, n: u32) -> u32
+    requires { ⌜ 4 * end ≤ length (now pairs) ⌝ }
+    ensures { λ r. ⌜ r ≡ cond (ltb i end) (getD (now (pairs .entry)) (4 * i + 1) 0) n ⌝ }
+{
+    if i < end {
+        pairs[4 * (i as usize) + HIGH]
+    } else {
+        n
+    }
+}
+
+// The lower rank v has a pair with r: the row of r is relaxed over v, and v's row is passed up to r. The answer is the high ahead then.
+fn pass_rank(
+    pairs: &[u32],
+    n: u32,
+    r: Rank,
+    v: Rank,
+    cursor: &mut [u32],
+    ahead: &mut [u32],
+    ends: &[u32],
+    ups: &mut [u32],
+    downs: &mut [u32],
+    touched: &mut [u32],
+) -> u32
+    requires { ⌜ ((w : Weights) × Stage w n (r .0) (v .0) (now pairs) (now cursor) (now ahead) (now ends) (now ups) (now downs) (now touched))
+        × (v .0 < r .0)
+        × (getD (now ahead) (v .0) 0 ≡ r .0) ⌝ }
+    ensures { λ x. ⌜ (x ≡ getD (now (ahead .exit)) (v .0) 0)
+        × ((w : Weights) → Stage w n (r .0) (v .0) (now (pairs .entry)) (now (cursor .entry)) (now (ahead .entry)) (now (ends .entry)) (now (ups .entry)) (now (downs .entry)) (now (touched .entry))
+        → Stage w n (r .0) (v .0 + 1) (now (pairs .entry)) (now (cursor .exit)) (now (ahead .exit)) (now (ends .entry)) (now (ups .exit)) (now (downs .exit)) (now (touched .exit))) ⌝ }
+{
+    let k = v.0 as usize;
+    let i = cursor[k];
+    let end = ends[k];
+    relax_over(pairs, i, end, ups, downs, touched);
+    let high = ahead_at(pairs, i + 1, end, n);
+    cursor[k] = i + 1;
+    ahead[k] = high;
+    high
+}
+
+// The row of r is relaxed over the ranks from `from` to before `to`. The answer is the least of the highs ahead of them then, or n.
+fn pass_block(
+    pairs: &[u32],
+    n: u32,
+    r: Rank,
+    from: u32,
+    to: u32,
+    cursor: &mut [u32],
+    ahead: &mut [u32],
+    ends: &[u32],
+    ups: &mut [u32],
+    downs: &mut [u32],
+    touched: &mut [u32],
+) -> u32
+    requires { ⌜ ((w : Weights) × Stage w n (r .0) from (now pairs) (now cursor) (now ahead) (now ends) (now ups) (now downs) (now touched))
+        × (from ≤ to)
+        × (to ≤ r .0) ⌝ }
+    ensures { λ x. ⌜ ((w : Weights) → Stage w n (r .0) from (now (pairs .entry)) (now (cursor .entry)) (now (ahead .entry)) (now (ends .entry)) (now (ups .entry)) (now (downs .entry)) (now (touched .entry))
+        → Scanned w n (r .0) from to x (now (pairs .entry)) (now (cursor .exit)) (now (ahead .exit)) (now (ends .entry)) (now (ups .exit)) (now (downs .exit)) (now (touched .exit))) ⌝ }
+{
+    let mut bound = n;
+    let mut v = from;
+    while v < to {
+        let k = v;
+        v += 1;
+        let high = ahead[k as usize];
+        if high == r.0 {
+            let next = pass_rank(
+                pairs,
+                n,
+                r,
+                Rank(k),
+                cursor,
+                ahead,
+                ends,
+                ups,
+                downs,
+                touched,
+            );
+            bound = rows::least(bound, next);
+        } else {
+            bound = rows::least(bound, high);
+        }
+    }
+    bound
+}
+
+// The row of r is relaxed over all lower ranks, block by block.
+pub fn pass_lower(
+    pairs: &[u32],
+    n: u32,
+    r: Rank,
+    cursor: &mut [u32],
+    ahead: &mut [u32],
+    ends: &[u32],
+    soon: &mut [u32],
+    ups: &mut [u32],
+    downs: &mut [u32],
+    touched: &mut [u32],
+)
+    requires { ⌜ ((w : Weights) × Lower w n (r .0) 0 (now pairs) (now cursor) (now ahead) (now ends) (now soon) (now ups) (now downs) (now touched)) × (n ≤ 4096) ⌝ }
+    ensures { λ _. ⌜ ((w : Weights) → Lower w n (r .0) 0 (now (pairs .entry)) (now (cursor .entry)) (now (ahead .entry)) (now (ends .entry)) (now (soon .entry)) (now (ups .entry)) (now (downs .entry)) (now (touched .entry))
+        → Lower w n (r .0) (r .0) (now (pairs .entry)) (now (cursor .exit)) (now (ahead .exit)) (now (ends .entry)) (now (soon .exit)) (now (ups .exit)) (now (downs .exit)) (now (touched .exit))) ⌝ }
+{
+    let mut v: u32 = 0;
+    while v < r.0 {
+        let from = v;
+        let b = (from / BLOCK) as usize;
+        v = rows::least(from + BLOCK, r.0);
+        if soon[b] <= r.0 {
+            soon[b] = pass_block(
+                pairs,
+                n,
+                r,
+                from,
+                v,
+                cursor,
+                ahead,
+                ends,
+                ups,
+                downs,
+                touched,
+            );
+        }
+    }
+}
+
+// The front of r's own row stands at its first record, and the bound of r's block takes in the high ahead.
+pub fn begin_front(
+    r: Rank,
+    place: u32,
+    high: u32,
+    end: u32,
+    cursor: &mut [u32],
+    ahead: &mut [u32],
+    ends: &mut [u32],
+    soon: &mut [u32],
+)
+    requires { ⌜ (r .0 < length (now cursor)) × (r .0 < length (now ahead)) × (r .0 < length (now ends)) × (r .0 < 32 * length (now soon)) ⌝ }
+    ensures { λ _. ⌜ Begun (r .0) place high end (now (cursor .entry)) (now (ahead .entry)) (now (ends .entry)) (now (soon .entry)) (now (cursor .exit)) (now (ahead .exit)) (now (ends .exit)) (now (soon .exit)) ⌝ }
+{
+    let v = r.0 as usize;
+    let b = (r.0 / BLOCK) as usize;
+    soon[b] = rows::least(soon[b], high);
+    cursor[v] = place;
+    ahead[v] = high;
+    ends[v] = end;
+}
