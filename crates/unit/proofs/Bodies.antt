@@ -2,10 +2,9 @@
 use mathlib.Core.Path.{_∙_, _≡_, ap, subst, subst₂, sym}
 use mathlib.Core.Option.{some}
 use mathlib.Core.List.{List}
-use Prim.Native.Nat.{_*_, _+_, _-_, _<_, _≤_, ℕ}
-use lib.ListN.{drop, length, take}
+use Prim.Native.Nat.{_*_, _+_, _<_, _≤_, ℕ}
+use lib.ListN.{length}
 use native.Mathlib.Decide.{decLt}
-use native.Mathlib.Nat.{add-sub-cancel-left}
 use native.Mathlib.Omega.{arith}
 use Rattle.graph.specs.Map.{Map, pairsOf, rank}
 use Rattle.model.specs.Bytes.{listed, wordAt}
@@ -76,7 +75,3 @@ pub searches-at : (roads order r o ranks pairs live down : List ℕ) (count s z 
     → Searches r o ranks pairs live down count s z e₀ route₀ log₀ e elapsed route log total logged number
 searches-at roads order r o ranks pairs live down count s z e₀ route₀ log₀ e elapsed route log total logged number p q d =
     subst₂ (λ (x : List ℕ) (y : List ℕ). Searches x y ranks pairs live down count s z e₀ route₀ log₀ e elapsed route log total logged number) p q d
-
--- a part by its start and length
-pub part-from : (card : List ℕ) (s l : ℕ) → take (s + l - s) (drop s card) ≡ take l (drop s card)
-part-from card s l = rw add-sub-cancel-left

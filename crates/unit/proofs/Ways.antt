@@ -1,24 +1,24 @@
 -- The ways through the four calls. Assumes nothing.
 use mathlib.Core.Path.{_∙_, _≡_, ap, ap₂, refl, subst, sym}
 use mathlib.Core.Logic.{inl, inr}
-use mathlib.Core.Bool.{Bool, _&&_, false, true}
-use mathlib.Core.Option.{none, some}
+use mathlib.Core.Bool.{_&&_, false, true}
+use mathlib.Core.Option.{some}
 use mathlib.Core.List.{List}
 use Prim.Native.Nat.{_*_, _+_, _<_, _≤_, ℕ}
 use borrow.Author.Tests.{le-leb, le-ltb, lt-ltb}
-use lib.Dec.{leb, ltb}
+use lib.Dec.{leb}
 use lib.ListN.{length, replicate, set}
 use native.Mathlib.Omega.{arith}
 use Rattle.graph.specs.Total.{Tested, Total, decide, true-false}
 use Rattle.graph.specs.Search.{countOf, history, logOf, routeOf, timeIn, totalOf, vertices}
 use Rattle.graph.specs.Map.{Map, downTotalOf, estimateOf, fills}
-use Rattle.model.specs.Types.{Accepted, Absent, Answer, Answered, At, Estimated, Header, Lengths, LentLengths, NoJunction, NoRoad, NoTarget, NotAllowed, Refusal, Refused, Target}
+use Rattle.model.specs.Types.{Accepted, Absent, Answer, Answered, At, Estimated, Header, Lengths, LentLengths, NoJunction, NoRoad, NoTarget, NotAllowed, Refused, Target}
 use Rattle.model.specs.Word.{noneWord, ofWord, ofWord-word, unasked, word}
 use Rattle.model.specs.Bytes.{listed, wordAt}
 use Rattle.model.specs.Card.{mapOn}
-use Rattle.model.specs.State.{Areas, Lent, State, Step, answering, fitting, noneLent}
-use Rattle.model.specs.Calls.{Call, Left, asks, aimCall, aimMade, aimRefusal, aimStep, estimateCall, estimateMade, estimateRefusal, estimateStep, filled, first, goAnswer, goCall, goMade, goRefusal, goRoute, goStep, leaving, liveOf, searchOf, setCall, setRefusal, setStep, settable, step, targetOf}
-use Rattle.model.specs.Contracts.{AimContract, CallContract, EstimateContract, GoContract, HandsBack, SetContract, areasOf, before, lentTo}
+use Rattle.model.specs.State.{Areas, Lent, State, Step, answering, fitting}
+use Rattle.model.specs.Calls.{Call, Left, asks, aimCall, aimMade, aimRefusal, aimStep, estimateCall, estimateMade, estimateRefusal, estimateStep, filled, first, goAnswer, goCall, goMade, goRefusal, goRoute, goStep, leaving, liveOf, searchOf, setCall, setStep, settable, step, targetOf}
+use Rattle.model.specs.Contracts.{AimContract, CallContract, EstimateContract, GoContract, HandsBack, SetContract, before, lentTo}
 use Rattle.model.specs.Good.{AimFacts, Aims, Good, left-good}
 use Rattle.model.specs.Chain.{step-meets}
 use Rattle.network.specs.Bodies.{mapIn}
