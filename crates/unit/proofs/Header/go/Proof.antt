@@ -24,7 +24,7 @@ returns-3 : tie.Need-returns-3
 returns-3 c = go-14 _ _ _ (known (c .before .before .before .before .before .before .before) .fits) _ _ (c .before .before .before .before .before .if2 .left) _ (ap targetIn (c .before .before .before .target .given .1)) (sym (c .before .lent-fit .ensures) ∙ not-true _ (c .if3 .taken))
 
 returns-4 : tie.Need-returns-4
-returns-4 c = go-astray _ _ _ (known (c .before .before .before .before .before .before .before .before .before) .fits) _ _ (c .before .before .before .before .before .before .before .if2 .left) _ (ap targetIn (c .before .before .before .before .before .target .given .1)) (c .if4 .taken)
+returns-4 c = go-astray _ _ _ (known (c .before .before .before .before .before .before .before .before .before) .fits) _ _ (c .before .before .before .before .before .before .before .if2 .left) _ (ap targetIn (c .before .before .before .before .before .target .given .1)) (sym (c .before .before .before .lent-fit .ensures) ∙ not-false _ (c .before .before .if3 .left)) (c .if4 .taken)
 
 roads-of-requires : tie.Need-roads-of-requires
 roads-of-requires c κs = (let k = known (c .before .before .before .before .before .before .before .before .before) in omega (arith, k .size))
