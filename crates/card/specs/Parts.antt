@@ -20,7 +20,7 @@ use Rattle.network.specs.Bodies.{Sound, mapIn, rowsIn}
 part-byte : (card : List ℕ) (s l j : ℕ) → j < l → getD (take l (drop s card)) j 0 ≡ getD card (s + j) 0
 part-byte card s l j h = getD-take l (drop s card) j 0 h ∙ getD-drop s card j 0
 
-part-word : (card : List ℕ) (s l j : ℕ) → j + 4 ≤ l → wordAt (take l (drop s card)) j ≡ wordAt card (s + j)
+pub part-word : (card : List ℕ) (s l j : ℕ) → j + 4 ≤ l → wordAt (take l (drop s card)) j ≡ wordAt card (s + j)
 unfolding wordAt
 part-word card s l j h =
     rw (part-byte card s l j (omega arith), part-byte card s l (j + 1) (omega arith), part-byte card s l (j + 2) (omega arith), part-byte card s l (j + 3) (omega arith), ← add-assoc s j 1, ← add-assoc s j 2, ← add-assoc s j 3)

@@ -2,10 +2,10 @@
 use mathlib.Core.Path.{_∙_, _≡_, ap, subst, subst₂, sym}
 use mathlib.Core.Option.{some}
 use mathlib.Core.List.{List}
-use Prim.Native.Nat.{_*_, _+_, _-_, _<_, _≤_, ℕ}
-use lib.ListN.{drop, length, take}
+use Prim.Native.Nat.{_*_, _+_, _<_, _≤_, ℕ}
+use lib.ListN.{length}
 use native.Mathlib.Decide.{decLt}
-use native.Mathlib.Nat.{add-sub-cancel-left}
+use native.Mathlib.Nat.{add-assoc}
 use native.Mathlib.Omega.{arith}
 use Rattle.graph.specs.Map.{Map, pairsOf, rank}
 use Rattle.model.specs.Bytes.{listed, wordAt}
@@ -18,7 +18,7 @@ use Rattle.network.specs.Bodies.{Prepared, base-in, map-facts, mapIn}
 use Rattle.hierarchy.specs.Downs.{Descended}
 use Rattle.hierarchy.specs.Estimates.{Estimated}
 use Rattle.search.specs.Searches.{Searches}
-use Rattle.card.specs.Parts.{card-sound, map-is, orderIn, part-length, roadsIn}
+use Rattle.card.specs.Parts.{card-sound, map-is, orderIn, part-length, part-word, roadsIn}
 
 -- n and m of such a state are in range
 pub left-small : {card : List ℕ} {s : State} → Left card s → (s .header .n ≤ 4096) × (s .header .m ≤ 16384)
@@ -77,6 +77,6 @@ pub searches-at : (roads order r o ranks pairs live down : List ℕ) (count s z 
 searches-at roads order r o ranks pairs live down count s z e₀ route₀ log₀ e elapsed route log total logged number p q d =
     subst₂ (λ (x : List ℕ) (y : List ℕ). Searches x y ranks pairs live down count s z e₀ route₀ log₀ e elapsed route log total logged number) p q d
 
--- a part by its start and length
-pub part-from : (card : List ℕ) (s l : ℕ) → take (s + l - s) (drop s card) ≡ take l (drop s card)
-part-from card s l = rw add-sub-cancel-left
+-- the base time of a road is a word of the card
+pub road-word : (card : List ℕ) (m i : ℕ) → i < m → wordAt (roadsIn card m) (12 * i + 8) ≡ wordAt card (28 + 12 * i + 8)
+road-word card m i l = part-word card 28 (12 * m) (12 * i + 8) (omega arith) ∙ ap (wordAt card) (sym (add-assoc 28 (12 * i) 8))

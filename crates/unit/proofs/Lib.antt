@@ -3,4 +3,3 @@ pub mod Bodies
 pub mod Ways
 pub mod Prepares
 pub mod Anys
-pub mod Scripts

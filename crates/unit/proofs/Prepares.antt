@@ -1,153 +1,18 @@
--- The ways through preparing. Assumes nothing.
-use mathlib.Core.Path.{_∙_, _≡_, ap, ap₂, refl, subst, subst₂, sym}
+-- The ways through preparing: questions 1 to 8. Assumes nothing.
+use mathlib.Core.Path.{_∙_, _≡_, ap, refl, subst₂, sym}
 use mathlib.Core.Bool.{false, true}
 use mathlib.Core.Option.{Option, none, some}
 use mathlib.Core.List.{List}
-use Prim.Native.Nat.{_*_, _+_, _<_, _≤_, ℕ}
-use borrow.Author.Tests.{le-leb, lt-leb}
-use lib.ListN.{getD, length, replicate, set}
-use lib.Seq.{getD-set-other, getD-set-same}
-use native.Mathlib.Decide.{decLt, ℕ-discrete}
+use Prim.Native.Nat.{ℕ}
 use native.Mathlib.Omega.{arith}
-use Rattle.graph.specs.Map.{Map, pairsOf, rank}
-use Rattle.model.specs.Types.{Absent, Accepted, Answered, AreaLengths, Header, Read, Reading, Refusal, Refused, Room, Unreadable}
-use Rattle.model.specs.Word.{noneWord, unasked, word}
-use Rattle.model.specs.Bytes.{listed, wordAt}
+use Rattle.model.specs.Types.{Answered, AreaLengths, Read, Refusal, Refused, Room, Unreadable}
 use Rattle.model.specs.Card.{cardRefusal, mapOn, readCard, reading}
-use Rattle.model.specs.State.{Areas, areasRefusal, lengthsOk, noneLent, prepare, recordsIn, roomRefusal, zeroHeader, zeroed, zeros}
-use Rattle.model.specs.Contracts.{PrepareContract, after, areasOf}
-use Rattle.model.specs.Accept.{card-facts}
-use Rattle.model.specs.Ends.{listed-is, listed-same}
-use Rattle.model.specs.Good.{LengthFacts, lengths-facts}
-use Rattle.network.specs.Bodies.{Sound, base-in, map-facts, mapIn}
-use Rattle.contraction.specs.Contraction.{Contraction}
+use Rattle.model.specs.State.{Areas, areasRefusal, lengthsOk, noneLent, prepare, zeroHeader}
+use Rattle.model.specs.Contracts.{PrepareContract, after}
+use Rattle.model.specs.Good.{lengths-facts}
 use Rattle.contraction.specs.declared.Contracted.{Contracted}
 use Rattle.contraction.specs.declared.Contracted.the-variants.{Kept, Overflow}
-use Rattle.card.specs.Parts.{card-sound, map-is, orderIn, roadsIn}
-use Rattle.unit.specs.Preparing.{Accepts, roomed}
-
--- ---- the loop over the live times
-
-abbrev pub Bases : (roads : List ℕ) → ℕ → List ℕ → Type 0
-Bases roads i live = (k : ℕ) → k < i → getD live k 0 ≡ wordAt roads (12 * k + 8)
-
-module _ (roads : List ℕ) where
-  pub bases-start : (live : List ℕ) → Bases roads 0 live
-  bases-start live k h = absurd (omega arith)
-
-  pub bases-turn : (i : ℕ) (live : List ℕ) (b w : ℕ) → i < length live → Bases roads i live → b ≡ wordAt roads (12 * i + 8) → w ≡ b → Bases roads (i + 1) (set live i w)
-  bases-turn i live b w h inv e f k l = at (ℕ-discrete k i)
-    where
-      at : Dec (k ≡ i) → getD (set live i w) k 0 ≡ wordAt roads (12 * k + 8)
-      at (yes p) = rw p (getD-set-same live i w 0 h ∙ f ∙ e)
-      at (no p) = getD-set-other live i k w 0 p ∙ inv k (omega arith)
-
-  pub bases-end : (i n : ℕ) (live : List ℕ) → length live ≡ n → n ≤ i → Bases roads i live → live ≡ listed n (λ k. wordAt roads (12 * k + 8))
-  bases-end i n live e h inv = listed-is n (λ k. wordAt roads (12 * k + 8)) live e (λ k l. inv k (omega arith))
-
--- ---- six areas at once
-
-pub areas-same : (r₁ r₂ p₁ p₂ l₁ l₂ d₁ d₂ e₁ e₂ t₁ t₂ : List ℕ) → r₁ ≡ r₂ → p₁ ≡ p₂ → l₁ ≡ l₂ → d₁ ≡ d₂ → e₁ ≡ e₂ → t₁ ≡ t₂ → areasOf r₁ p₁ l₁ d₁ e₁ t₁ ≡ areasOf r₂ p₂ l₂ d₂ e₂ t₂
-areas-same r₁ r₂ p₁ p₂ l₁ l₂ d₁ d₂ e₁ e₂ t₁ t₂ r p l d e t =
-    ap₂ (λ (x : List ℕ) (y : List ℕ). areasOf x y l₁ d₁ e₁ t₁) r p ∙ ap₂ (λ (x : List ℕ) (y : List ℕ). areasOf r₂ p₂ x y e₁ t₁) l d ∙ ap₂ (λ (x : List ℕ) (y : List ℕ). areasOf r₂ p₂ l₂ d₂ x y) e t
-
-pub zero-filled : (before x : List ℕ) (t : ℕ) → t ≡ 0 → x ≡ replicate (length before) t → x ≡ zeros before
-zero-filled before x t z e = e ∙ ap (replicate (length before)) z
-
--- ---- what the contraction says
-
-kept-overflow : {z : Contracted} {c : ℕ} → z ≡ Kept c → z ≡ Overflow → ⊥
-kept-overflow p q = let x : _≡_ {A = ℕ} 0 1 = cc in omega arith
-
-kept-kept : {z : Contracted} {a b : ℕ} → z ≡ Kept a → z ≡ Kept b → a ≡ b
-kept-kept p q = cc
-
-module _ (M : Map) (room : ℕ) (pairs : List ℕ) (z : Contracted) (c : Contraction M room pairs z) where
-  pub kept-facts : (count : ℕ) → z ≡ Kept count → (count ≡ length (pairsOf M)) × (pairs ≡ recordsIn M room) × (4 * length (pairsOf M) ≤ room)
-  kept-facts count e = go (decLt room (4 * length (pairsOf M)))
-    where
-      go : Dec (room < 4 * length (pairsOf M)) → (count ≡ length (pairsOf M)) × (pairs ≡ recordsIn M room) × (4 * length (pairsOf M) ≤ room)
-      go (yes h) = absurd (kept-overflow e (c .overflow h))
-      go (no h) = let k : 4 * length (pairsOf M) ≤ room = omega arith in (kept-kept e (c .kept k .0), c .kept k .1, k)
-
-  pub overflow-facts : z ≡ Overflow → room < 4 * length (pairsOf M)
-  overflow-facts e = go (decLt room (4 * length (pairsOf M)))
-    where
-      go : Dec (room < 4 * length (pairsOf M)) → room < 4 * length (pairsOf M)
-      go (yes h) = h
-      go (no h) = let k : 4 * length (pairsOf M) ≤ room = omega arith in absurd (kept-overflow (c .kept k .0) e)
-
--- ---- the two ends of preparing
-
-pub record Bodies (card : List ℕ) (n m : ℕ) (a : Areas) (roads order : List ℕ) : Type 0 where
-  pub accepts : Accepts card n m a
-  pub sound : Sound roads order
-  pub map-here : mapIn roads order ≡ mapOn card
-  pub roads-here : roads ≡ roadsIn card m
-
-module _ {card : List ℕ} {n m : ℕ} {a : Areas} {roads order : List ℕ} (b : Bodies card n m a roads order) where
-  pub order-long : length order ≡ 4 * length (a .ranks)
-  order-long = let f = map-facts (b .sound) in f .order-is ∙ ap (λ (x : ℕ). 4 * x) (ap (λ (M : Map). M .vertices) (b .map-here) ∙ sym (b .accepts .n-is) ∙ sym (b .accepts .lengths .ranks))
-
-  pub roads-long : length roads ≡ 12 * length (a .live)
-  roads-long = let f = map-facts (b .sound) in f .roads-are ∙ ap (λ (x : ℕ). 12 * x) (ap (λ (M : Map). M .base .arcs) (b .map-here) ∙ sym (b .accepts .m-is) ∙ sym (b .accepts .lengths .live))
-
-  pub ranks-here : {ranks : List ℕ} → ranks ≡ listed (mapIn roads order .vertices) (rank (mapIn roads order)) → ranks ≡ listed (mapOn card .vertices) (rank (mapOn card))
-  ranks-here e = e ∙ ap (λ (M : Map). listed (M .vertices) (rank M)) (b .map-here)
-
-  pub contraction-here : {room : ℕ} {pairs : List ℕ} {z : Contracted} → Contraction (mapIn roads order) room pairs z → Contraction (mapOn card) room pairs z
-  contraction-here {room} {pairs} {z} c = subst (λ (M : Map). Contraction M room pairs z) (b .map-here) c
-
-  pub live-here : {live : List ℕ} (k : ℕ) → live ≡ listed k (λ i. wordAt roads (12 * i + 8)) → live ≡ listed k (λ i. wordAt (roadsIn card m) (12 * i + 8))
-  live-here k e = e ∙ ap (λ (x : List ℕ). listed k (λ i. wordAt x (12 * i + 8))) (b .roads-here)
-
-module _ (card : List ℕ) (n m : ℕ) (a : Areas) (ok : Accepts card n m a) where
-  pub sound-at : Sound (roadsIn card m) (orderIn card n m)
-  sound-at = card-sound card (ok .accepted) n m (ok .n-is) (ok .m-is)
-
-  pub map-at : mapIn (roadsIn card m) (orderIn card n m) ≡ mapOn card
-  map-at = map-is card (ok .accepted) n m (ok .n-is) (ok .m-is)
-
-  pub card-size : length card ≡ 28 + 12 * m + 4 * n
-  card-size = let c = card-facts card (ok .accepted) in omega (arith, c .size, ok .n-is, ok .m-is)
-
-  -- what is known once the two bodies were handed on
-  pub handed-on : (roads order : List ℕ) → roads ≡ roadsIn card m → order ≡ orderIn card n m → Bodies card n m a roads order
-  handed-on roads order er eo = record {
-    accepts = ok;
-    sound = subst₂ Sound (sym er) (sym eo) sound-at;
-    map-here = ap₂ mapIn er eo ∙ map-at;
-    roads-here = er;
-  }
-
-  pub no-room : length (a .pairs) < 4 * length (pairsOf (mapOn card)) → (b : Areas) (ranks pairs : List ℕ) → length ranks ≡ length (a .ranks) → length pairs ≡ length (a .pairs)
-      → b ≡ zeroed (areasOf ranks pairs (a .live) (a .down) (a .estimates) (a .elapsed)) → after (record { header = zeroHeader; answer = Refused Room }) b noneLent ≡ roomed (mapOn card) a
-  unfolding roomRefusal
-  no-room h b ranks pairs er ep e =
-      let z : b ≡ zeroed a = e ∙ ap₂ (λ (x : ℕ) (y : ℕ). areasOf (replicate x 0) (replicate y 0) (zeros (a .live)) (zeros (a .down)) (zeros (a .estimates)) (zeros (a .elapsed))) er ep in
-      rw (lt-leb (4 * length (pairsOf (mapOn card))) (length (a .pairs)) h, z)
-
-  lives : listed m (λ i. wordAt (roadsIn card m) (12 * i + 8)) ≡ listed (mapOn card .base .arcs) (λ i. word (mapOn card .base .cost i))
-  lives =
-      let f = map-facts sound-at in
-      let k : mapIn (roadsIn card m) (orderIn card n m) .base .arcs ≡ m = ap (λ (M : Map). M .base .arcs) map-at ∙ sym (ok .m-is) in
-      listed-same m (λ i. wordAt (roadsIn card m) (12 * i + 8)) (λ i. word (mapOn card .base .cost i)) (λ i l. sym (ap word (ap (λ (M : Map). M .base .cost i) (sym map-at) ∙ base-in (roadsIn card m) (orderIn card n m) i (omega (arith, f .roads-are, k)))))
-      ∙ ap (λ (x : ℕ). listed x (λ i. word (mapOn card .base .cost i))) (ok .m-is)
-
-  pub with-room : (count : ℕ) (ranks pairs live down estimates elapsed : List ℕ)
-      → ranks ≡ listed (mapOn card .vertices) (rank (mapOn card)) → (count ≡ length (pairsOf (mapOn card))) × (pairs ≡ recordsIn (mapOn card) (length (a .pairs))) × (4 * length (pairsOf (mapOn card)) ≤ length (a .pairs))
-      → live ≡ listed (length (a .live)) (λ i. wordAt (roadsIn card m) (12 * i + 8)) → down ≡ replicate (length (a .down)) noneWord → estimates ≡ replicate (length (a .estimates)) unasked → elapsed ≡ replicate (length (a .elapsed)) noneWord
-      → after (record { header = record { n = n; m = m; pairs = count; target = Absent }; answer = Accepted }) (areasOf ranks pairs live down estimates elapsed) noneLent ≡ roomed (mapOn card) a
-  unfolding roomRefusal
-  with-room count ranks pairs live down estimates elapsed er ec el ed ee et =
-      let z = ok .lengths in
-      let s = areas-same ranks _ pairs _ live _ down _ estimates _ elapsed _ er (ec .1) (el ∙ ap (λ (x : ℕ). listed x (λ i. wordAt (roadsIn card m) (12 * i + 8))) (z .live) ∙ lives)
-      (ed ∙ ap (λ (x : ℕ). replicate x noneWord) (z .down ∙ ok .n-is)) (ee ∙ ap (λ (x : ℕ). replicate x unasked) (z .estimates ∙ ok .n-is)) (et ∙ ap (λ (x : ℕ). replicate x noneWord) (z .elapsed ∙ ok .n-is)) in
-      let h : _≡_ {A = Header} (record { n = n; m = m; pairs = count; target = Absent }) (record { n = mapOn card .vertices; m = mapOn card .base .arcs; pairs = length (pairsOf (mapOn card)); target = Absent }) =
-      ap₂ (λ (x : ℕ) (y : ℕ). record { n = x; m = y; pairs = count; target = Absent }) (ok .n-is) (ok .m-is) ∙ ap (λ (x : ℕ). record { n = mapOn card .vertices; m = mapOn card .base .arcs; pairs = x; target = Absent }) (ec .0) in
-      rw (le-leb (4 * length (pairsOf (mapOn card))) (length (a .pairs)) (ec .2)) (ap₂ (λ (x : Header) (y : Areas). after (record { header = x; answer = Accepted }) y noneLent) h s)
-
--- ---- questions 1 to 7
+use Rattle.preparing.specs.Preparing.{Accepts, outcome, roomed}
 
 module _ (card : List ℕ) (a : Areas) where
   unread : (n m : ℕ) (x : Option Refusal) (q : Refusal) → Unreadable q ≡ reading n m x → x ≡ some q
@@ -158,20 +23,20 @@ module _ (card : List ℕ) (a : Areas) where
   read-is k l n m none e = (refl, cc, cc)
   read-is k l n m (some q) e = absurd (let z : _≡_ {A = ℕ} 0 1 = cc in omega arith)
 
-  pub prepare-unread : (q : Refusal) → Unreadable q ≡ readCard card → PrepareContract card a a (record { header = zeroHeader; answer = Refused q })
+  pub prepare-unread : (q : Refusal) → Unreadable q ≡ readCard card → (x : Answered) → x ≡ record { header = zeroHeader; answer = Refused q } → PrepareContract card a a x
   unfolding prepare areasRefusal
-  prepare-unread q e = rw (unread (mapOn card .vertices) (mapOn card .base .arcs) (cardRefusal card) q e)
+  prepare-unread q e x h = rw (unread (mapOn card .vertices) (mapOn card .base .arcs) (cardRefusal card) q e) (ap (λ (y : Answered). after y a noneLent) h)
 
   module _ (n m : ℕ) (e : Read n m ≡ readCard card) where
     read-facts : (cardRefusal card ≡ none) × (n ≡ mapOn card .vertices) × (m ≡ mapOn card .base .arcs)
     read-facts = read-is (mapOn card .vertices) (mapOn card .base .arcs) n m (cardRefusal card) e
 
-    pub prepare-7 : lengthsOk n m 0 a ≡ false → PrepareContract card a a (record { header = zeroHeader; answer = Refused AreaLengths })
+    pub prepare-7 : lengthsOk n m 0 a ≡ false → (x : Answered) → x ≡ record { header = zeroHeader; answer = Refused AreaLengths } → PrepareContract card a a x
     unfolding prepare areasRefusal
-    prepare-7 l =
+    prepare-7 l x h =
         let f = read-facts in
         let k : lengthsOk (mapOn card .vertices) (mapOn card .base .arcs) 0 a ≡ false = subst₂ (λ (x : ℕ) (y : ℕ). lengthsOk x y 0 a ≡ false) (f .1) (f .2) l in
-        rw (f .0, k)
+        rw (f .0, k) (ap (λ (y : Answered). after y a noneLent) h)
 
     module _ (l : lengthsOk n m 0 a ≡ true) where
       pub prepare-accepts : Accepts card n m a
@@ -183,3 +48,12 @@ module _ (card : List ℕ) (a : Areas) where
           let f = read-facts in
           let k : lengthsOk (mapOn card .vertices) (mapOn card .base .arcs) 0 a ≡ true = subst₂ (λ (x : ℕ) (y : ℕ). lengthsOk x y 0 a ≡ true) (f .1) (f .2) l in
           rw (f .0, k) d
+
+-- ---- question 8, by the contraction's answer
+
+module _ (n m : ℕ) (z : Contracted) (a : Areas) where
+  pub prepared-room : (x : Answered) → z ≡ Overflow → x ≡ record { header = zeroHeader; answer = Refused Room } → after x a noneLent ≡ outcome n m z a
+  prepared-room x e h = ap (λ (y : Answered). after y a noneLent) h ∙ ap (λ (y : Contracted). outcome n m y a) (sym e)
+
+  pub prepared-kept : (count : ℕ) → z ≡ Kept count → outcome n m (Kept count) a ≡ outcome n m z a
+  prepared-kept count e = ap (λ (y : Contracted). outcome n m y a) (sym e)

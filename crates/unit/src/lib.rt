@@ -1,22 +1,15 @@
 // The unit: preparing, and the four calls as methods of the header.
 ghost use mathlib.Core.Path.{_≡_};
 ghost use mathlib.Core.Bool.{_&&_};
-ghost use mathlib.Core.Option.{some};
-ghost use mathlib.Core.List.{[], _++_, _∷_};
-ghost use Prim.Native.Nat.{_*_, _+_, _/_, _<_, _≤_, min};
 ghost use lib.Dec.{leb};
-ghost use lib.ListN.{drop, length, take};
+ghost use Rattle.model.specs.Types as model;
 ghost use Rattle.model.specs.Word.{ofWord};
-ghost use Rattle.model.specs.Bytes.{listed, wordAt};
-ghost use Rattle.model.specs.Card.{mapOn};
-ghost use Rattle.model.specs.State.{Lent, lengthsFit, noneLent, question9, zeroed};
-ghost use Rattle.model.specs.Calls.{goAnswer, settable};
-ghost use Rattle.model.specs.Machine.{plain};
+ghost use Rattle.model.specs.State.{Areas, fitting, noneLent, zeroHeader};
+ghost use Rattle.model.specs.Calls.{goAnswer};
 ghost use Rattle.model.specs.Contracts.{AimContract, EstimateContract, GoContract, PrepareContract, SetContract, after, areasOf, before};
-ghost use Rattle.card.specs.Parts.{orderIn, roadsIn};
-ghost use Rattle.unit.specs.Preparing.{Accepts, roomed};
-ghost use Rattle.unit.specs.Calls.{Called, callIn};
-ghost use Rattle.unit.specs.Script.{ReplayContract, Turned, answerWords, spelled};
+ghost use Rattle.network.specs.Refusals.{refusalIn};
+ghost use Rattle.preparing.specs.Preparing.{outcome};
+ghost use Rattle.unit.specs.Calls.{Called};
 ghost use Rattle.unit.specs.Shape.{answerIn, answeredIn, headerIn, lentOf};
 use card::Reading;
 use contraction::Contracted;
@@ -60,118 +53,6 @@ pub struct Answered {
     pub answer: Answer,
 }
 
-// The lengths of the six areas, for questions 7 and 9.
-fn lengths_fit(
-    n: usize,
-    m: usize,
-    p: usize,
-    ranks: usize,
-    pairs: usize,
-    live: usize,
-    down: usize,
-    estimates: usize,
-    elapsed: usize,
-) -> bool
-    requires { ⌜ p < 4294967296 ⌝ }
-    ensures { λ r. ⌜ r ≡ lengthsFit n m p ranks pairs live down estimates elapsed ⌝ }
-{
-    if ranks != n {
-        return false;
-    }
-    if pairs % 4 != 0 {
-        return false;
-    }
-    if pairs < 4 * p {
-        return false;
-    }
-    if 262144 < pairs {
-        return false;
-    }
-    if live != m {
-        return false;
-    }
-    if down != n {
-        return false;
-    }
-    if estimates != n {
-        return false;
-    }
-    elapsed == n
-}
-
-// Question 9, of the header's numbers and the lengths. A header out of range is refused too: no list of calls leaves one.
-fn fits(
-    n: u32,
-    m: u32,
-    p: u32,
-    card: usize,
-    ranks: usize,
-    pairs: usize,
-    live: usize,
-    down: usize,
-    estimates: usize,
-    elapsed: usize,
-) -> bool
-    ensures { λ r. ⌜ r ≡ (leb n 4096 && leb m 16384 && question9 n m p card ranks pairs live down estimates elapsed) ⌝ }
-{
-    if 4096 < n {
-        return false;
-    }
-    if 16384 < m {
-        return false;
-    }
-    let n = n as usize;
-    let m = m as usize;
-    let p = p as usize;
-    if card != 28 + 12 * m + 4 * n {
-        return false;
-    }
-    lengths_fit(n, m, p, ranks, pairs, live, down, estimates, elapsed)
-}
-
-// The roads of a card that was accepted with m roads.
-fn roads_of(card: &[u8], m: u32) -> &[u8]
-    requires { ⌜ 28 + 12 * m ≤ length (now card) ⌝ }
-    ensures { λ r. ⌜ now r ≡ roadsIn (now (card .entry)) m ⌝ }
-{
-    let end = 28 + 12 * (m as usize);
-    &card[28..end]
-}
-
-// The order of a card that was accepted with n junctions and m roads.
-fn order_of(card: &[u8], n: u32, m: u32) -> &[u8]
-    requires { ⌜ 28 + 12 * m + 4 * n ≤ length (now card) ⌝ }
-    ensures { λ r. ⌜ now r ≡ orderIn (now (card .entry)) n m ⌝ }
-{
-    let start = 28 + 12 * (m as usize);
-    let end = start + 4 * (n as usize);
-    &card[start..end]
-}
-
-// Question 11.
-fn allowed(base: Time, t: Time) -> bool
-    ensures { λ r. ⌜ r ≡ settable (some (base .0)) (ofWord (t .0)) ⌝ }
-{
-    if t.is_none() {
-        return true;
-    }
-    if t.0 < base.0 {
-        return false;
-    }
-    t.0 <= 1000000
-}
-
-// Question 14.
-fn lent_fit(n: u32, route: usize, log: usize) -> bool
-    ensures { λ r. ⌜ r ≡ (leb n route && leb n log) ⌝ }
-{
-    let n = n as usize;
-    if route < n {
-        return false;
-    }
-    n <= log
-}
-
 // A go's answer: 15 with the count where there is no total; else total, count and number of roads.
 fn gone(h: Header, total: Time, count: u32, roads: u32) -> Answered
     ensures { λ r. ⌜ (r .header ≡ h) × (answerIn (r .answer) ≡ goAnswer (ofWord (total .0)) count roads) ⌝ }
@@ -190,86 +71,36 @@ fn gone(h: Header, total: Time, count: u32, roads: u32) -> Answered
 
 // ---- preparing
 
-// Each road's live time becomes its base time.
-fn fill_live(roads: &[u8], live: &mut [u32])
-    requires { ⌜ length (now roads) ≡ 12 * length (now live) ⌝ }
-    ensures { λ _. ⌜ now (live .exit) ≡ listed (length (now (live .entry))) (λ i. wordAt (now (roads .entry)) (12 * i + 8)) ⌝ }
+// A refused preparing hands back a header of zeros and no target.
+fn unprepared(q: Refusal) -> Answered
+    ensures { λ r. ⌜ answeredIn r ≡ record { header = zeroHeader; answer = model.Refused (refusalIn q) } ⌝ }
 {
-    let mut i = 0;
-    while i < live.len() {
-        live[i] = network::base_of(roads, i).word();
-        i += 1;
+    Answered {
+        header: Header {
+            n: 0,
+            m: 0,
+            pairs: 0,
+            target: Target::Absent,
+        },
+        answer: Answer::Refused(q),
     }
 }
 
-// Fills every area with 0.
-fn clear(
-    ranks: &mut [u32],
-    pairs: &mut [u32],
-    live: &mut [u32],
-    down: &mut [u32],
-    estimates: &mut [u32],
-    elapsed: &mut [u32],
-)
-    ensures { λ _. ⌜ areasOf (now (ranks .exit)) (now (pairs .exit)) (now (live .exit)) (now (down .exit)) (now (estimates .exit)) (now (elapsed .exit))
-        ≡ zeroed (areasOf (now (ranks .entry)) (now (pairs .entry)) (now (live .entry)) (now (down .entry)) (now (estimates .entry)) (now (elapsed .entry))) ⌝ }
+// An accepted one hands back the three numbers and no target; question 8.
+fn prepared(n: u32, m: u32, z: Contracted) -> Answered
+    ensures { λ r. ⌜ ((a : Areas) → after (answeredIn r) a noneLent ≡ outcome n m z a) ⌝ }
 {
-    let zero = Time::of_word(0);
-    hierarchy::fill(ranks, zero);
-    hierarchy::fill(pairs, zero);
-    hierarchy::fill(live, zero);
-    hierarchy::fill(down, zero);
-    hierarchy::fill(estimates, zero);
-    hierarchy::fill(elapsed, zero);
-}
-
-// What a card that was accepted with n junctions and m roads leaves in the areas; question 8.
-fn prepare_areas(
-    n: u32,
-    m: u32,
-    card: &[u8],
-    ranks: &mut [u32],
-    pairs: &mut [u32],
-    live: &mut [u32],
-    down: &mut [u32],
-    estimates: &mut [u32],
-    elapsed: &mut [u32],
-) -> Answered
-    requires { ⌜ Accepts (now card) n m (areasOf (now ranks) (now pairs) (now live) (now down) (now estimates) (now elapsed)) ⌝ }
-    ensures { λ r. ⌜ after (answeredIn r) (areasOf (now (ranks .exit)) (now (pairs .exit)) (now (live .exit)) (now (down .exit)) (now (estimates .exit)) (now (elapsed .exit))) noneLent
-        ≡ roomed (mapOn (now (card .entry))) (areasOf (now (ranks .entry)) (now (pairs .entry)) (now (live .entry)) (now (down .entry)) (now (estimates .entry)) (now (elapsed .entry))) ⌝ }
-{
-    let roads = roads_of(card, m);
-    let order = order_of(card, n, m);
-    contraction::fill_ranks(order, ranks);
-    match contraction::contract(roads, order, ranks, pairs) {
-        Contracted::Overflow => {
-            clear(ranks, pairs, live, down, estimates, elapsed);
-            Answered {
-                header: Header {
-                    n: 0,
-                    m: 0,
-                    pairs: 0,
-                    target: Target::Absent,
-                },
-                answer: Answer::Refused(Refusal::Room),
-            }
-        }
-        Contracted::Kept(count) => {
-            fill_live(roads, live);
-            hierarchy::fill(down, Time::NONE);
-            hierarchy::fill(estimates, Time::UNASKED);
-            hierarchy::fill(elapsed, Time::NONE);
-            Answered {
-                header: Header {
-                    n: n,
-                    m: m,
-                    pairs: count,
-                    target: Target::Absent,
-                },
-                answer: Answer::Accepted,
-            }
-        }
+    match z {
+        Contracted::Overflow => unprepared(Refusal::Room),
+        Contracted::Kept(count) => Answered {
+            header: Header {
+                n: n,
+                m: m,
+                pairs: count,
+                target: Target::Absent,
+            },
+            answer: Answer::Accepted,
+        },
     }
 }
 
@@ -288,19 +119,11 @@ pub fn prepare(
         (areasOf (now (ranks .exit)) (now (pairs .exit)) (now (live .exit)) (now (down .exit)) (now (estimates .exit)) (now (elapsed .exit))) (answeredIn r) ⌝ }
 {
     match card::read(card) {
-        Reading::Unreadable(q) => Answered {
-            header: Header {
-                n: 0,
-                m: 0,
-                pairs: 0,
-                target: Target::Absent,
-            },
-            answer: Answer::Refused(q),
-        },
+        Reading::Unreadable(q) => unprepared(q),
         Reading::Read(n, m) => {
-            if !lengths_fit(
-                n as usize,
-                m as usize,
+            if !questions::lengths_fit(
+                n,
+                m,
                 0,
                 ranks.len(),
                 pairs.len(),
@@ -309,22 +132,55 @@ pub fn prepare(
                 estimates.len(),
                 elapsed.len(),
             ) {
-                return Answered {
-                    header: Header {
-                        n: 0,
-                        m: 0,
-                        pairs: 0,
-                        target: Target::Absent,
-                    },
-                    answer: Answer::Refused(Refusal::AreaLengths),
-                };
+                return unprepared(Refusal::AreaLengths);
             }
-            prepare_areas(n, m, card, ranks, pairs, live, down, estimates, elapsed)
+            let z = preparing::prepare_areas(
+                n,
+                m,
+                card,
+                ranks,
+                pairs,
+                live,
+                down,
+                estimates,
+                elapsed,
+            );
+            prepared(n, m, z)
         }
     }
 }
 
+// ---- the four calls
+
 impl Header {
+    // Question 9, and that the header is in range: no list of calls leaves one that is not.
+    fn fits(
+        self,
+        card: &[u8],
+        ranks: &[u32],
+        pairs: &[u32],
+        live: &[u32],
+        down: &[u32],
+        estimates: &[u32],
+        elapsed: &[u32],
+    ) -> bool
+        ensures { λ r. ⌜ r ≡ (leb (self .n) 4096 && leb (self .m) 16384 && fitting (now (card .entry))
+            (before (headerIn self) (areasOf (now (ranks .entry)) (now (pairs .entry)) (now (live .entry)) (now (down .entry)) (now (estimates .entry)) (now (elapsed .entry))))) ⌝ }
+    {
+        questions::fits(
+            self.n,
+            self.m,
+            self.pairs,
+            card.len(),
+            ranks.len(),
+            pairs.len(),
+            live.len(),
+            down.len(),
+            estimates.len(),
+            elapsed.len(),
+        )
+    }
+
     // Sets a road's live time, from its base time to 1,000,000, or closed.
     pub fn set(
         self,
@@ -344,18 +200,7 @@ impl Header {
     {
         let n = self.n;
         let m = self.m;
-        if !fits(
-            n,
-            m,
-            self.pairs,
-            card.len(),
-            ranks.len(),
-            pairs.len(),
-            live.len(),
-            down.len(),
-            estimates.len(),
-            elapsed.len(),
-        ) {
+        if !self.fits(card, ranks, pairs, live, down, estimates, elapsed) {
             return Answered {
                 header: self,
                 answer: Answer::Refused(Refusal::Lengths),
@@ -368,8 +213,8 @@ impl Header {
             };
         }
         let i = road as usize;
-        let base = network::base_of(roads_of(card, m), i);
-        if !allowed(base, time) {
+        let base = network::base_of(questions::roads_of(card, m), i);
+        if !questions::allowed(base, time) {
             return Answered {
                 header: self,
                 answer: Answer::Refused(Refusal::NotAllowed),
@@ -401,18 +246,7 @@ impl Header {
         let n = self.n;
         let m = self.m;
         let p = self.pairs;
-        if !fits(
-            n,
-            m,
-            p,
-            card.len(),
-            ranks.len(),
-            pairs.len(),
-            live.len(),
-            down.len(),
-            estimates.len(),
-            elapsed.len(),
-        ) {
+        if !self.fits(card, ranks, pairs, live, down, estimates, elapsed) {
             return Answered {
                 header: self,
                 answer: Answer::Refused(Refusal::Lengths),
@@ -424,7 +258,7 @@ impl Header {
                 answer: Answer::Refused(Refusal::NoJunction),
             };
         }
-        hierarchy::down_totals(n, p, order_of(card, n, m), pairs, down, j);
+        hierarchy::down_totals(n, p, questions::order_of(card, n, m), pairs, down, j);
         hierarchy::fill(estimates, Time::UNASKED);
         Answered {
             header: Header {
@@ -456,18 +290,7 @@ impl Header {
         let n = self.n;
         let m = self.m;
         let p = self.pairs;
-        if !fits(
-            n,
-            m,
-            p,
-            card.len(),
-            ranks.len(),
-            pairs.len(),
-            live.len(),
-            down.len(),
-            estimates.len(),
-            elapsed.len(),
-        ) {
+        if !self.fits(card, ranks, pairs, live, down, estimates, elapsed) {
             return Answered {
                 header: self,
                 answer: Answer::Refused(Refusal::Lengths),
@@ -489,7 +312,7 @@ impl Header {
                 let t = hierarchy::estimate(
                     n,
                     p,
-                    order_of(card, n, m),
+                    questions::order_of(card, n, m),
                     ranks,
                     pairs,
                     down,
@@ -525,18 +348,7 @@ impl Header {
         let n = self.n;
         let m = self.m;
         let p = self.pairs;
-        if !fits(
-            n,
-            m,
-            p,
-            card.len(),
-            ranks.len(),
-            pairs.len(),
-            live.len(),
-            down.len(),
-            estimates.len(),
-            elapsed.len(),
-        ) {
+        if !self.fits(card, ranks, pairs, live, down, estimates, elapsed) {
             return Answered {
                 header: self,
                 answer: Answer::Refused(Refusal::Lengths),
@@ -555,6 +367,12 @@ impl Header {
                 answer: Answer::Refused(Refusal::NoTarget),
             },
             Target::At(z) => {
+                if !questions::lent_fit(n, route.len(), log.len()) {
+                    return Answered {
+                        header: self,
+                        answer: Answer::Refused(Refusal::LentLengths),
+                    };
+                }
                 // no list of calls leaves such a target
                 if n <= z.0 {
                     return Answered {
@@ -562,14 +380,8 @@ impl Header {
                         answer: Answer::Refused(Refusal::Lengths),
                     };
                 }
-                if !lent_fit(n, route.len(), log.len()) {
-                    return Answered {
-                        header: self,
-                        answer: Answer::Refused(Refusal::LentLengths),
-                    };
-                }
-                let roads = roads_of(card, m);
-                let order = order_of(card, n, m);
+                let roads = questions::roads_of(card, m);
+                let order = questions::order_of(card, n, m);
                 let found = search::search(
                     n,
                     m,
@@ -591,6 +403,7 @@ impl Header {
             }
         }
     }
+
     // Any of the four calls. Route and log are go's; the others leave them as they are.
     pub fn call(
         self,
@@ -647,152 +460,5 @@ impl Header {
                 start,
             ),
         }
-    }
-}
-
-// ---- a script of calls
-
-// The call that three words of a script spell: 0 set, 1 aim, 2 estimate, any other go.
-fn call_of(kind: u32, one: u32, two: u32) -> Call
-    ensures { λ c. ⌜ ((l : Lent) → plain (callIn c l) ≡ spelled kind one two (length (l .route)) (length (l .log))) ⌝ }
-{
-    if kind == 0 {
-        return Call::Set(one, Time::of_word(two));
-    }
-    if kind == 1 {
-        return Call::Aim(Junction(one));
-    }
-    if kind == 2 {
-        return Call::Estimate(Junction(one));
-    }
-    Call::Go(Junction(one))
-}
-
-// Writes four words as record k.
-fn put_four(out: &mut [u64], k: usize, one: u64, two: u64, three: u64, four: u64)
-    requires { ⌜ 4 * k + 4 ≤ length (now out) ⌝ }
-    ensures { λ _. ⌜ now (out .exit) ≡ take (4 * k) (now (out .entry)) ++ (one ∷ two ∷ three ∷ four ∷ []) ++ drop (4 * k + 4) (now (out .entry)) ⌝ }
-{
-    let i = 4 * k;
-    out[i] = one;
-    out[i + 1] = two;
-    out[i + 2] = three;
-    out[i + 3] = four;
-}
-
-// Writes the words of answer k: the number of the question that refuses, or 0; estimate or total; count; number of roads.
-fn put_answer(out: &mut [u64], k: usize, x: Answer)
-    requires { ⌜ 4 * k + 4 ≤ length (now out) ⌝ }
-    ensures { λ _. ⌜ now (out .exit) ≡ take (4 * k) (now (out .entry)) ++ answerWords (answerIn x) ++ drop (4 * k + 4) (now (out .entry)) ⌝ }
-{
-    match x {
-        Answer::Refused(q) => put_four(
-            out,
-            k,
-            network::question_of(q) as u64,
-            0,
-            network::count_of(q) as u64,
-            0,
-        ),
-        Answer::Accepted => put_four(out, k, 0, 0, 0, 0),
-        Answer::Estimated(t) => put_four(out, k, 0, t.word() as u64, 0, 0),
-        Answer::Gone(t, c, r) => put_four(out, k, 0, t, c as u64, r as u64),
-    }
-}
-
-// How many calls of a script are made: three words each, where there is room for their answers, four words each.
-fn turns(script: usize, out: usize) -> usize
-    ensures { λ k. ⌜ (k ≡ min (script / 3) (out / 4)) × (3 * k ≤ script) × (4 * k ≤ out) × (k < 9223372036854775808) ⌝ }
-{
-    let a = script / 3;
-    let b = out / 4;
-    if a < b { a } else { b }
-}
-
-// Makes the calls of a script from a header and the areas that belong to it, and hands the last header back.
-fn make_calls(
-    start: Header,
-    card: &[u8],
-    ranks: &[u32],
-    pairs: &[u32],
-    live: &mut [u32],
-    down: &mut [u32],
-    estimates: &mut [u32],
-    elapsed: &mut [u32],
-    route: &mut [u32],
-    log: &mut [u32],
-    script: &[u32],
-    out: &mut [u64],
-) -> Header
-    ensures { λ h. ⌜ Turned (now (card .entry))
-        (before (headerIn start) (areasOf (now (ranks .entry)) (now (pairs .entry)) (now (live .entry)) (now (down .entry)) (now (estimates .entry)) (now (elapsed .entry))))
-        (length (now (route .entry))) (length (now (log .entry))) (now (script .entry)) (min (length (now (script .entry)) / 3) (length (now (out .entry)) / 4)) (now (out .entry)) (now (out .exit))
-        (before (headerIn h) (areasOf (now (ranks .entry)) (now (pairs .entry)) (now (live .exit)) (now (down .exit)) (now (estimates .exit)) (now (elapsed .exit)))) ⌝ }
-{
-    let n = turns(script.len(), out.len());
-    let mut h = start;
-    let mut k = 0;
-    while k < n {
-        let at = 3 * k;
-        let c = call_of(script[at], script[at + 1], script[at + 2]);
-        let r = h.call(
-            card,
-            ranks,
-            pairs,
-            live,
-            down,
-            estimates,
-            elapsed,
-            route,
-            log,
-            c,
-        );
-        h = r.header;
-        let x = r.answer;
-        put_answer(out, k, x);
-        k += 1;
-    }
-    h
-}
-
-// Prepares the card and makes the calls of a script, three words each, through `call`; writes four words for each answer. Hands back preparing's answer and the last header.
-pub fn replay(
-    card: &[u8],
-    ranks: &mut [u32],
-    pairs: &mut [u32],
-    live: &mut [u32],
-    down: &mut [u32],
-    estimates: &mut [u32],
-    elapsed: &mut [u32],
-    route: &mut [u32],
-    log: &mut [u32],
-    script: &[u32],
-    out: &mut [u64],
-) -> Answered
-    ensures { λ r. ⌜ ReplayContract (now (card .entry))
-        (areasOf (now (ranks .entry)) (now (pairs .entry)) (now (live .entry)) (now (down .entry)) (now (estimates .entry)) (now (elapsed .entry)))
-        (length (now (route .entry))) (length (now (log .entry))) (now (script .entry)) (min (length (now (script .entry)) / 3) (length (now (out .entry)) / 4)) (now (out .entry)) (now (out .exit)) (answeredIn r)
-        (areasOf (now (ranks .exit)) (now (pairs .exit)) (now (live .exit)) (now (down .exit)) (now (estimates .exit)) (now (elapsed .exit))) ⌝ }
-{
-    let prepared = prepare(card, ranks, pairs, live, down, estimates, elapsed);
-    let header = prepared.header;
-    let answer = prepared.answer;
-    let last = make_calls(
-        header,
-        card,
-        ranks,
-        pairs,
-        live,
-        down,
-        estimates,
-        elapsed,
-        route,
-        log,
-        script,
-        out,
-    );
-    Answered {
-        header: last,
-        answer: answer,
     }
 }

@@ -1,21 +1,21 @@
-use Rattle.unit.proofs.Bodies.{descended-at, estimated-at, order-length}
-use mathlib.Core.Path.{_∙_, ap, refl, sym}
+use mathlib.Core.Path.{_∙_, ap, sym}
 use borrow.Author.Tests.{not-false, not-true}
 use native.Mathlib.Omega.{arith}
 use Rattle.model.specs.Contracts.{areasOf, before}
 use Rattle.unit.specs.Shape.{headerIn, targetIn}
+use Rattle.model.specs.Calls.{estimateCall}
+use Rattle.unit.proofs.Bodies.{estimated-at, order-length}
 use Rattle.unit.proofs.Lengths.{Fits, fits-facts}
 use Rattle.unit.proofs.Ways.{estimate-12, estimate-13, estimate-made, refused-9}
-use Rattle.model.specs.Calls.{estimateCall}
 use borrow.Author.Needs.{needs}
 use Rattle.unit.proofs.Header.estimate.Statement.{statement}
 use Rattle.unit.proofs.Header.estimate.Tie as tie
 
-known : (c : tie.Else1) → Fits (c .before .before .before .before .before .before .before .before .before .args .card .now) (headerIn (c .before .before .before .before .before .before .before .before .before .args .self)) (areasOf (c .before .before .before .before .before .before .before .before .before .args .ranks .now) (c .before .before .before .before .before .before .before .before .before .args .pairs .now) (c .before .before .before .before .before .before .before .before .before .args .live .now) (c .before .before .before .before .before .before .before .before .before .args .down .now) (c .before .before .before .before .before .before .before .before .before .args .estimates .now) (c .before .before .before .before .before .before .before .before .before .args .elapsed .now))
+known : (c : tie.Else1) → Fits (c .before .before .before .before .before .before .before .before .before .before .args .card .now) (headerIn (c .before .before .before .before .before .before .before .before .before .before .args .self)) (areasOf (c .before .before .before .before .before .before .before .before .before .before .args .ranks .now) (c .before .before .before .before .before .before .before .before .before .before .args .pairs .now) (c .before .before .before .before .before .before .before .before .before .before .args .live .now) (c .before .before .before .before .before .before .before .before .before .before .args .down .now) (c .before .before .before .before .before .before .before .before .before .before .args .estimates .now) (c .before .before .before .before .before .before .before .before .before .before .args .elapsed .now))
 known c = fits-facts _ _ _ (sym (c .before .fits2 .ensures) ∙ not-false _ (c .if1 .left))
 
 returns : tie.Need-returns
-returns c = refused-9 _ (before (headerIn (c .before .before .before .before .before .before .before .before .before .args .self)) (areasOf (c .before .before .before .before .before .before .before .before .before .args .ranks .now) (c .before .before .before .before .before .before .before .before .before .args .pairs .now) (c .before .before .before .before .before .before .before .before .before .args .live .now) (c .before .before .before .before .before .before .before .before .before .args .down .now) (c .before .before .before .before .before .before .before .before .before .args .estimates .now) (c .before .before .before .before .before .before .before .before .before .args .elapsed .now))) (estimateCall (c .before .before .before .before .before .before .before .before .before .args .j .0)) (sym (c .before .fits2 .ensures) ∙ not-true _ (c .if1 .taken))
+returns c = refused-9 _ (before (headerIn (c .before .before .before .before .before .before .before .before .before .before .args .self)) (areasOf (c .before .before .before .before .before .before .before .before .before .before .args .ranks .now) (c .before .before .before .before .before .before .before .before .before .before .args .pairs .now) (c .before .before .before .before .before .before .before .before .before .before .args .live .now) (c .before .before .before .before .before .before .before .before .before .before .args .down .now) (c .before .before .before .before .before .before .before .before .before .before .args .estimates .now) (c .before .before .before .before .before .before .before .before .before .before .args .elapsed .now))) (estimateCall (c .before .before .before .before .before .before .before .before .before .before .args .j .0)) (sym (c .before .fits2 .ensures) ∙ not-true _ (c .if1 .taken))
 
 returns-2 : tie.Need-returns-2
 returns-2 c = estimate-12 _ _ _ (known (c .before .before) .fits) _ (c .if2 .taken)
@@ -37,12 +37,15 @@ estimate-spec =
     tie.close
     (tie.spec
     (λ c κs. search needs)
+    (λ c. search needs)
     returns
+    (λ c. search needs)
     returns-2
     (λ c. search needs)
     (λ c. search needs)
     order-of-requires
     estimate-requires
+    (λ c. search needs)
     returns-3
     (λ c. search needs)
     returns-4)

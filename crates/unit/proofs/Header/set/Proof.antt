@@ -1,23 +1,23 @@
-use mathlib.Core.Path.{_∙_, ap, refl, sym}
+use mathlib.Core.Path.{_∙_, ap, sym}
 use borrow.Author.Tests.{not-false, not-true}
 use native.Mathlib.Omega.{arith}
-use Rattle.model.specs.Contracts.{areasOf, before}
-use Rattle.unit.specs.Shape.{headerIn, targetIn}
-use Rattle.unit.proofs.Lengths.{Fits, base-known, fits-facts, word-allowed}
-use Rattle.unit.proofs.Ways.{refused-9, set-10, set-11, set-made}
-use Rattle.model.specs.Calls.{setCall}
-use Rattle.card.specs.Parts.{part-length}
 use lib.ListN.{length}
 use Prim.Native.Nat.{_*_}
+use Rattle.model.specs.Contracts.{areasOf, before}
+use Rattle.unit.specs.Shape.{headerIn}
+use Rattle.model.specs.Calls.{setCall}
+use Rattle.card.specs.Parts.{part-length}
+use Rattle.unit.proofs.Lengths.{Fits, base-known, fits-facts, word-allowed}
+use Rattle.unit.proofs.Ways.{refused-9, set-10, set-11, set-made}
 use borrow.Author.Needs.{needs}
 use Rattle.unit.proofs.Header.set.Statement.{statement}
 use Rattle.unit.proofs.Header.set.Tie as tie
 
-known : (c : tie.Else1) → Fits (c .before .before .before .before .before .before .before .before .before .args .card .now) (headerIn (c .before .before .before .before .before .before .before .before .before .args .self)) (areasOf (c .before .before .before .before .before .before .before .before .before .args .ranks .now) (c .before .before .before .before .before .before .before .before .before .args .pairs .now) (c .before .before .before .before .before .before .before .before .before .args .live .now) (c .before .before .before .before .before .before .before .before .before .args .down .now) (c .before .before .before .before .before .before .before .before .before .args .estimates .now) (c .before .before .before .before .before .before .before .before .before .args .elapsed .now))
+known : (c : tie.Else1) → Fits (c .before .before .before .before .before .before .before .before .before .before .args .card .now) (headerIn (c .before .before .before .before .before .before .before .before .before .before .args .self)) (areasOf (c .before .before .before .before .before .before .before .before .before .before .args .ranks .now) (c .before .before .before .before .before .before .before .before .before .before .args .pairs .now) (c .before .before .before .before .before .before .before .before .before .before .args .live .now) (c .before .before .before .before .before .before .before .before .before .before .args .down .now) (c .before .before .before .before .before .before .before .before .before .before .args .estimates .now) (c .before .before .before .before .before .before .before .before .before .before .args .elapsed .now))
 known c = fits-facts _ _ _ (sym (c .before .fits2 .ensures) ∙ not-false _ (c .if1 .left))
 
 returns : tie.Need-returns
-returns c = refused-9 _ (before (headerIn (c .before .before .before .before .before .before .before .before .before .args .self)) (areasOf (c .before .before .before .before .before .before .before .before .before .args .ranks .now) (c .before .before .before .before .before .before .before .before .before .args .pairs .now) (c .before .before .before .before .before .before .before .before .before .args .live .now) (c .before .before .before .before .before .before .before .before .before .args .down .now) (c .before .before .before .before .before .before .before .before .before .args .estimates .now) (c .before .before .before .before .before .before .before .before .before .args .elapsed .now))) (setCall (c .before .before .before .before .before .before .before .before .before .args .road) (c .before .before .before .before .before .before .before .before .before .args .time .0)) (sym (c .before .fits2 .ensures) ∙ not-true _ (c .if1 .taken))
+returns c = refused-9 _ (before (headerIn (c .before .before .before .before .before .before .before .before .before .before .args .self)) (areasOf (c .before .before .before .before .before .before .before .before .before .before .args .ranks .now) (c .before .before .before .before .before .before .before .before .before .before .args .pairs .now) (c .before .before .before .before .before .before .before .before .before .before .args .live .now) (c .before .before .before .before .before .before .before .before .before .before .args .down .now) (c .before .before .before .before .before .before .before .before .before .before .args .estimates .now) (c .before .before .before .before .before .before .before .before .before .before .args .elapsed .now))) (setCall (c .before .before .before .before .before .before .before .before .before .before .args .road) (c .before .before .before .before .before .before .before .before .before .before .args .time .0)) (sym (c .before .fits2 .ensures) ∙ not-true _ (c .if1 .taken))
 
 returns-2 : tie.Need-returns-2
 returns-2 c = set-10 _ _ _ (known (c .before) .fits) _ _ (c .if2 .taken)
@@ -26,7 +26,7 @@ roads-of-requires : tie.Need-roads-of-requires
 roads-of-requires c κs = (let k = known (c .before) in omega (arith, k .size))
 
 base-of-requires : tie.Need-base-of-requires
-base-of-requires c κs = (let k = known (c .before .before) in omega (arith, k .size, ap length (c .roads-of .ensures), part-length (c .before .before .before .before .before .before .before .before .before .before .before .args .card .now) 28 (12 * c .before .before .before .before .before .before .before .before .before .before .before .args .self .m) (omega (arith, k .size)), c .before .if2 .left))
+base-of-requires c κs = (let k = known (c .before .before) in omega (arith, k .size, ap length (c .roads-of .ensures), part-length (c .before .before .before .before .before .before .before .before .before .before .before .before .args .card .now) 28 (12 * c .before .before .before .before .before .before .before .before .before .before .before .before .args .self .m) (omega (arith, k .size)), c .before .if2 .left))
 
 returns-3 : tie.Need-returns-3
 returns-3 c = set-11 _ _ _ (known (c .before .before .before .before .before) .fits) _ _ (c .before .before .before .before .if2 .left) (word-allowed _ _ _ _ (base-known _ _ _ _ (c .before .before .before .roads-of .ensures) (c .before .before .base-of .ensures)) (c .before .allowed .ensures) ∙ not-true _ (c .if3 .taken))
@@ -42,11 +42,14 @@ set-spec =
     tie.close
     (tie.spec
     (λ c κs. search needs)
+    (λ c. search needs)
     returns
+    (λ c. search needs)
     returns-2
     roads-of-requires
     base-of-requires
     (λ c κs. search needs)
+    (λ c. search needs)
     returns-3
     (λ c κs. search needs)
     (λ c. search needs)

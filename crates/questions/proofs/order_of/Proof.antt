@@ -1,0 +1,21 @@
+use Prim.Native.Nat.{_*_, _+_}
+use Rattle.questions.proofs.Answers.{part-from}
+use borrow.Author.Needs.{needs}
+use Rattle.questions.proofs.order_of.Statement.{statement}
+use Rattle.questions.proofs.order_of.Tie as tie
+
+returns : tie.Need-returns
+returns c = part-from (c .before .args .card .now) (28 + 12 * c .before .args .m) (4 * c .before .args .n)
+
+pub order-of-spec : {M : Type 1} → statement M
+order-of-spec =
+    tie.close
+    (tie.spec
+    (λ c. search needs)
+    (λ c. search needs)
+    (λ c. search needs)
+    (λ c. search needs)
+    (λ c. search needs)
+    (λ c. search needs)
+    (λ c. search needs)
+    returns)
