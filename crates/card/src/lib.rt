@@ -1,16 +1,12 @@
 // The card: reading it by questions 1 to 6, and writing it by questions 4 to 7.
 ghost use mathlib.Core.Path.{_≡_};
 ghost use Prim.Native.Nat.{_+_, _*_, _≤_};
-ghost use lib.ListN.{drop, length, take};
-ghost use Rattle.model.specs.Bytes.{wordAt};
+ghost use lib.ListN.{length};
 ghost use Rattle.model.specs.Card.{cardOf, kindsOk, startsOk};
 ghost use Rattle.model.specs.Contracts.{ReadContract, WriteContract};
 ghost use Rattle.card.specs.Answers.{readingIn, rowsOf, writingIn};
 use network::Refusal;
-
-mod body;
-mod questions;
-mod row;
+use sections::Verdict;
 
 // What reading answers: n and m, or a refusal.
 pub enum Reading {
@@ -22,18 +18,6 @@ pub enum Reading {
 pub enum Writing {
     Refused(Refusal),
     Accepted,
-}
-
-// What questions 4 to 6 find.
-pub enum Verdict {
-    Passed,
-    Failed(Refusal),
-}
-
-// The first road or place that fails, if there is one.
-pub enum Failing {
-    Nothing,
-    At(u32),
 }
 
 // Question 2.
@@ -62,16 +46,6 @@ fn starts_ok(card: &[u8]) -> bool
     questions::starts_fit(roads, middle, order, end, card.len() as u64)
 }
 
-// The body of the section whose entry in the table of contents begins at byte `entry`: the part of the card that it names.
-fn body_of(card: &[u8], entry: usize) -> &[u8]
-    requires { ⌜ (entry ≤ 16) × (28 ≤ length (now card)) × (wordAt (now card) (entry + 4) + wordAt (now card) (entry + 8) ≤ length (now card)) ⌝ }
-    ensures { λ r. ⌜ now r ≡ take (wordAt (now (card .entry)) (entry + 8)) (drop (wordAt (now (card .entry)) (entry + 4)) (now (card .entry))) ⌝ }
-{
-    let start = network::word_at(card, entry + 4) as usize;
-    let end = start + network::word_at(card, entry + 8) as usize;
-    &card[start..end]
-}
-
 // Reading answers n and m, or a refusal by questions 1 to 6.
 pub fn read(card: &[u8]) -> Reading
     ensures { λ r. ⌜ ReadContract (now (card .entry)) (readingIn r) ⌝ }
@@ -85,11 +59,12 @@ pub fn read(card: &[u8]) -> Reading
     if !starts_ok(card) {
         return Reading::Unreadable(Refusal::Starts);
     }
-    let roads = body_of(card, 4);
-    let order = body_of(card, 16);
-    match body::check(roads, order) {
+    match reader::check(card) {
         Verdict::Failed(q) => Reading::Unreadable(q),
-        Verdict::Passed => Reading::Read((order.len() / 4) as u32, (roads.len() / 12) as u32),
+        Verdict::Passed => Reading::Read(
+            network::word_at(card, 24) / 4,
+            network::word_at(card, 12) / 12,
+        ),
     }
 }
 
@@ -110,7 +85,7 @@ fn put_card(roads: &[u32], order: &[u32], area: &mut [u8])
 pub fn write(roads: &[u32], order: &[u32], area: &mut [u8]) -> Writing
     ensures { λ r. ⌜ WriteContract (now (roads .entry)) (now (order .entry)) (now (area .entry)) (now (area .exit)) (writingIn r) ⌝ }
 {
-    match row::check(roads, order) {
+    match sections::row::check(roads, order) {
         Verdict::Failed(q) => Writing::Refused(q),
         Verdict::Passed => {
             if area.len() != 28 + 4 * roads.len() + 4 * order.len() {

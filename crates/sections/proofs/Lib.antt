@@ -1,0 +1,5 @@
+pub mod Firsts
+pub mod Seen
+pub mod Roads
+pub mod Verdicts
+pub mod Long
