@@ -1,10 +1,10 @@
 // The card: reading it by questions 1 to 6, and writing it by questions 4 to 7.
 ghost use mathlib.Core.Path.{_≡_};
-ghost use Prim.Native.Nat.{_+_, _*_, _≤_};
+ghost use Prim.Native.Nat.{_≤_};
 ghost use lib.ListN.{length};
-ghost use Rattle.model.specs.Card.{cardOf, kindsOk, startsOk};
+ghost use Rattle.model.specs.Card.{kindsOk, startsOk};
 ghost use Rattle.model.specs.Contracts.{ReadContract, WriteContract};
-ghost use Rattle.card.specs.Answers.{readingIn, rowsOf, writingIn};
+ghost use Rattle.card.specs.Answers.{readingIn, writingIn};
 use network::Refusal;
 use sections::Verdict;
 
@@ -68,30 +68,17 @@ pub fn read(card: &[u8]) -> Reading
     }
 }
 
-// Writes the table of contents and the two bodies.
-fn put_card(roads: &[u32], order: &[u32], area: &mut [u8])
-    requires { ⌜ (length (now roads) ≤ 49152) × (length (now order) ≤ 4096) × (length (now area) ≡ 28 + 4 * length (now roads) + 4 * length (now order)) ⌝ }
-    ensures { λ _. ⌜ now (area .exit) ≡ cardOf (rowsOf (now (roads .entry)) (now (order .entry))) ⌝ }
-{
-    let a = 4 * roads.len();
-    let b = 4 * order.len();
-    let table = [2, 1, 28, a as u32, 2, (28 + a) as u32, b as u32];
-    network::put_words(&mut area[0..28], &table);
-    network::put_words(&mut area[28..28 + a], roads);
-    network::put_words(&mut area[28 + a..28 + a + b], order);
-}
-
 // Makes the card of a map, which is lent as two rows of words, or refuses by questions 4 to 6 and then 7; a refusal leaves the area unaltered.
 pub fn write(roads: &[u32], order: &[u32], area: &mut [u8]) -> Writing
     ensures { λ r. ⌜ WriteContract (now (roads .entry)) (now (order .entry)) (now (area .entry)) (now (area .exit)) (writingIn r) ⌝ }
 {
-    match sections::row::check(roads, order) {
+    match writer::check(roads, order) {
         Verdict::Failed(q) => Writing::Refused(q),
         Verdict::Passed => {
             if area.len() != 28 + 4 * roads.len() + 4 * order.len() {
                 return Writing::Refused(Refusal::AreaLengths);
             }
-            put_card(roads, order, area);
+            writer::put_card(roads, order, area);
             Writing::Accepted
         }
     }

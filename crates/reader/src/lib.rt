@@ -76,5 +76,5 @@ pub fn check(card: &[u8]) -> Verdict
     let roads = body(first);
     let second = moved_on(first);
     let order = body(second);
-    sections::body::check(roads, order)
+    sections::check(roads, order)
 }

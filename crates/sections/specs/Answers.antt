@@ -1,10 +1,7 @@
 -- What questions 4 to 6 find, as document 01's refusal. Definitions only.
 use mathlib.Core.Option.{Option, none, some}
-use mathlib.Core.List.{List}
-use Prim.Native.Nat.{ℕ}
 use Rattle.graph.specs.Total.{Total}
 use Rattle.model.specs.Types as model
-use Rattle.model.specs.Card.{Rows}
 use Rattle.network.specs.Refusals.{refusalIn}
 use Rattle.sections.specs.declared.Verdict.{Verdict}
 use Rattle.sections.specs.declared.Verdict.the-variants.{Failed, Passed}
@@ -20,7 +17,3 @@ verdictIn (Failed q) = some (refusalIn q)
 abbrev pub failingIn : Failing → Total
 failingIn Nothing = none
 failingIn (At i) = some i
-
--- the map of two rows of words
-abbrev pub rowsOf : (roads order : List ℕ) → Rows
-rowsOf roads order = record { roads = roads; order = order }

@@ -1,4 +1,4 @@
--- `reader::check` meets its contract: a walk of its MIR, by hand. A reader is made in a local, asked for its body, moved on, and asked again; the two bodies go to `sections::body::check`. All that the proof knows of the five calls is that each function meets its contract.
+-- `reader::check` meets its contract: a walk of its MIR, by hand. A reader is made in a local, asked for its body, moved on, and asked again; the two bodies go to `sections::check`. All that the proof knows of the five calls is that each function meets its contract.
 -- The first reader is Copy: what it owns is had twice, for `body` and for `moved_on`. In a local MIR erases the lifetime of a type, so each value is shown to have its type at `erased`.
 -- Assumes nothing.
 use mathlib.Core.Path.{_≡_, refl, ap, ap₂, _∙_}
@@ -45,10 +45,10 @@ use Rattle.sections.specs.Answers.{verdictIn}
 use Rattle.sections.specs.declared.Verdict.{Verdict}
 use Rattle.sections.proofs.Verdict as S
 use Rattle.sections.proofs.Verdict.Laws as S′
-use Rattle.sections.proofs.body.check as asked
-use Rattle.sections.proofs.body.check.Symbol as asked-def
-use Rattle.sections.proofs.body.check.Symbol.{name as #sections·body·check}
-use Rattle.sections.proofs.body.check.Met as asked-thm
+use Rattle.sections.proofs.check as asked
+use Rattle.sections.proofs.check.Symbol as asked-def
+use Rattle.sections.proofs.check.Symbol.{name as #sections·check}
+use Rattle.sections.proofs.check.Met as asked-thm
 use Rattle.reader.specs.Walk.{bodyAt, placeAfter}
 use Rattle.reader.specs.declared.Reader.{Reader}
 use Rattle.reader.proofs.Reader as T
@@ -167,7 +167,7 @@ module _ {M : Type 1} (𝓤 : URA M) (H : Heap 𝓤) (A : Atoms 𝓤) (W : Given
   moved-on-said : (r r′ : Reader) → ent 𝓤 (ensured 𝓤 H A moved-on.ended (moved-on.clauses 𝓤 H A mem run) (κ, tt) (r, tt) tt r′) (fact 𝓤 (MovedIs r r′))
   moved-on-said r r′ = exE 𝓤 _ (λ ws. snd∗ 𝓤 (sem 𝓤 H A (lasts moved-on.ended (κ, tt) (r, tt) ws)) (fact 𝓤 (MovedIs r r′)))
 
-  -- the call of `sections::body::check`, at the bodies x and y with the machine values u and w
+  -- the call of `sections::check`, at the bodies x and y with the machine values u and w
   abbrev to-asked : (x y : RefT (List ℕ)) (u w : Val) → Asked 𝓤 H A mem run .Ghost
   to-asked x y u w = (((κ, tt), (q, tt), tt, (x, (y, tt)), (u ∷ [], (w ∷ [], tt))), tt)
 
@@ -190,7 +190,7 @@ module _ {M : Type 1} (𝓤 : URA M) (H : Heap 𝓤) (A : Atoms 𝓤) (W : Given
 
   module _ (C : Calls 𝓤 H) (Λ : Loops 𝓤 H) (fm : FmC 𝓤 H (W .laws) C)
       (known-new : Triple 𝓤 (C #reader·new) (New 𝓤 H A mem run)) (known-body : Triple 𝓤 (C #reader·body) (Body 𝓤 H A mem run))
-      (known-moved-on : Triple 𝓤 (C #reader·moved-on) (MovedOn 𝓤 H A mem run)) (known-asked : Triple 𝓤 (C #sections·body·check) (Asked 𝓤 H A mem run)) where
+      (known-moved-on : Triple 𝓤 (C #reader·moved-on) (MovedOn 𝓤 H A mem run)) (known-asked : Triple 𝓤 (C #sections·check) (Asked 𝓤 H A mem run)) where
     walk : Is Slice s (v ∷ []) → ent 𝓤 (onEntry 𝓤 H A check.signature (κ, tt) (q, tt) (s, tt) (v ∷ [], tt)) (WpFn 𝓤 H C Λ code.function (v ∷ []) Post)
     walk p =
         qed W (raw (onEntry 𝓤 H A check.signature (κ, tt) (q, tt) (s, tt) (v ∷ [], tt)) ∷ []) ∵ enter ! C Λ code.function (v ∷ []) _ $
@@ -245,13 +245,13 @@ module _ {M : Type 1} (𝓤 : URA M) (H : Heap 𝓤) (A : Atoms 𝓤) (W : Given
         by ! (exits t ut (et ∙ walked-bodies s r r′ (now x) (now y) e e′ ex ey)))))))))))))))))))))))))))))))
 
 module _ {M : Type 1} (𝓤 : URA M) (H : Heap 𝓤) (A : Atoms 𝓤) (W : Given 𝓤 H A) (mem : Memory → SProp 𝓤) (run : Routine → Fun 𝓤) where
-  check-walks : (C : Calls 𝓤 H) (Λ : Loops 𝓤 H) → FmC 𝓤 H (W .laws) C → Triple 𝓤 (C #reader·new) (New 𝓤 H A mem run) → Triple 𝓤 (C #reader·body) (Body 𝓤 H A mem run) → Triple 𝓤 (C #reader·moved-on) (MovedOn 𝓤 H A mem run) → Triple 𝓤 (C #sections·body·check) (Asked 𝓤 H A mem run)
+  check-walks : (C : Calls 𝓤 H) (Λ : Loops 𝓤 H) → FmC 𝓤 H (W .laws) C → Triple 𝓤 (C #reader·new) (New 𝓤 H A mem run) → Triple 𝓤 (C #reader·body) (Body 𝓤 H A mem run) → Triple 𝓤 (C #reader·moved-on) (MovedOn 𝓤 H A mem run) → Triple 𝓤 (C #sections·check) (Asked 𝓤 H A mem run)
       → Walks 𝓤 H A check.ended stayed (WpFn 𝓤 H C Λ code.function) (check.clauses 𝓤 H A mem run)
   check-walks C Λ fm known-new known-body known-moved-on known-asked = walked 𝓤 H A check.ended stayed (check.clauses 𝓤 H A mem run) (WpFn 𝓤 H C Λ code.function) (λ κs. (slice-vals, tt)) (λ κs. (shr-slice-tells (named 0) (κs .0) u8, tt))
       (λ κs qs bounds a g are. via 𝓤 _ (fst∗ 𝓤 _ (emp 𝓤)) (walk 𝓤 H A W mem run (κs .0) (qs .0) (a .0) C Λ fm known-new known-body known-moved-on known-asked (are .0)))
 
 check-meets : {M : Type 1} (𝓤 : URA M) (H : Heap 𝓤) (A : Atoms 𝓤) (W : Given 𝓤 H A) (mem : Memory → SProp 𝓤) (run : Routine → Fun 𝓤) (𝓣 : Tables 𝓤 H)
-    → Triple 𝓤 (𝓣 .C #reader·new) (New 𝓤 H A mem run) → Triple 𝓤 (𝓣 .C #reader·body) (Body 𝓤 H A mem run) → Triple 𝓤 (𝓣 .C #reader·moved-on) (MovedOn 𝓤 H A mem run) → Triple 𝓤 (𝓣 .C #sections·body·check) (Asked 𝓤 H A mem run)
+    → Triple 𝓤 (𝓣 .C #reader·new) (New 𝓤 H A mem run) → Triple 𝓤 (𝓣 .C #reader·body) (Body 𝓤 H A mem run) → Triple 𝓤 (𝓣 .C #reader·moved-on) (MovedOn 𝓤 H A mem run) → Triple 𝓤 (𝓣 .C #sections·check) (Asked 𝓤 H A mem run)
     → Meets 𝓤 H A check.signature (WpFn 𝓤 H (𝓣 .C) (𝓣 .Λ) code.function) (check.spec 𝓤 H A mem run)
 check-meets 𝓤 H A W mem run 𝓣 known-new known-body known-moved-on known-asked = walk-meets 𝓤 H A check.ended stayed W (goes-none-slice 𝓤 H A W 1 (0 ∷ []) tt (plain (λ _. u8)) yes, tt) (check.clauses 𝓤 H A mem run) (WpFn 𝓤 H (𝓣 .C) (𝓣 .Λ) code.function) (WpFn-mono 𝓤 H (W .laws) 𝓣 code.function)
     (check-walks 𝓤 H A W mem run (𝓣 .C) (𝓣 .Λ) (fmOf 𝓤 H (W .laws) 𝓣) known-new known-body known-moved-on known-asked)
@@ -265,4 +265,4 @@ check-spec 𝓤 H 𝓜 𝓖 𝓡 =
     (cited 𝓤 H (New 𝓤 H (𝓖 .A) (𝓜 .mem) (𝓡 .run)) 𝓜 𝓡 code.env #reader·new new-def.routine code.calls-reader·new (new-thm.met 𝓤 H 𝓜 𝓖 𝓡))
     (cited 𝓤 H (Body 𝓤 H (𝓖 .A) (𝓜 .mem) (𝓡 .run)) 𝓜 𝓡 code.env #reader·body body-def.routine code.calls-reader·body (body-thm.met 𝓤 H 𝓜 𝓖 𝓡))
     (cited 𝓤 H (MovedOn 𝓤 H (𝓖 .A) (𝓜 .mem) (𝓡 .run)) 𝓜 𝓡 code.env #reader·moved-on moved-on-def.routine code.calls-reader·moved-on (moved-on-thm.met 𝓤 H 𝓜 𝓖 𝓡))
-    (cited 𝓤 H (Asked 𝓤 H (𝓖 .A) (𝓜 .mem) (𝓡 .run)) 𝓜 𝓡 code.env #sections·body·check asked-def.routine code.calls-sections·body·check (asked-thm.met 𝓤 H 𝓜 𝓖 𝓡)))
+    (cited 𝓤 H (Asked 𝓤 H (𝓖 .A) (𝓜 .mem) (𝓡 .run)) 𝓜 𝓡 code.env #sections·check asked-def.routine code.calls-sections·check (asked-thm.met 𝓤 H 𝓜 𝓖 𝓡)))

@@ -6,8 +6,8 @@ use Rattle.network.specs.Bodies.{mapIn, rowsIn}
 use Rattle.sections.specs.Answers.{failingIn}
 use Rattle.sections.proofs.Verdicts.{any-roads, by-4, by-5, by-6, by-none}
 use borrow.Author.Needs.{needs}
-use Rattle.sections.proofs.body.check.Statement.{statement}
-use Rattle.sections.proofs.body.check.Tie as tie
+use Rattle.sections.proofs.check.Statement.{statement}
+use Rattle.sections.proofs.check.Tie as tie
 
 returns : tie.Need-returns
 returns c = by-4 _ _ (rowsIn (c .before .before .before .before .args .roads .now) (c .before .before .before .before .args .order .now)) (sym (c .before .sizes-ok .ensures) ∙ not-true _ (c .if1 .taken))

@@ -3,10 +3,10 @@ use Prim.Native.Nat.{_-_, _≤_}
 use borrow.Author.Needs.{needs}
 use borrow.Author.Tests.{not-false, not-true}
 use native.Mathlib.Omega.{arith}
-use Rattle.sections.specs.Answers.{rowsOf}
+use Rattle.writer.specs.Lent.{rowsOf}
 use Rattle.sections.proofs.Roads.{RoadsPass, road-known, roads-end, roads-fail, roads-start, roads-turn}
-use Rattle.sections.proofs.row.failing_road.Statement.{statement}
-use Rattle.sections.proofs.row.failing_road.Tie as tie
+use Rattle.writer.proofs.failing_road.Statement.{statement}
+use Rattle.writer.proofs.failing_road.Tie as tie
 
 abbrev Inv-loop : tie.InvT-loop
 Inv-loop roads order n m i₀ i = (i ≤ m) × RoadsPass (rowsOf roads order) n m i

@@ -2,11 +2,12 @@ use mathlib.Core.Path.{_∙_, ap, sym}
 use borrow.Author.Tests.{not-false, not-true}
 use native.Mathlib.Omega.{arith}
 use Rattle.model.specs.Accept.{sizes-facts}
-use Rattle.sections.specs.Answers.{failingIn, rowsOf}
+use Rattle.sections.specs.Answers.{failingIn}
+use Rattle.writer.specs.Lent.{rowsOf}
 use Rattle.sections.proofs.Verdicts.{any-roads, by-4, by-5, by-6, by-none}
 use borrow.Author.Needs.{needs}
-use Rattle.sections.proofs.row.check.Statement.{statement}
-use Rattle.sections.proofs.row.check.Tie as tie
+use Rattle.writer.proofs.check.Statement.{statement}
+use Rattle.writer.proofs.check.Tie as tie
 
 returns : tie.Need-returns
 returns c = by-4 _ _ (rowsOf (c .before .before .before .before .args .roads .now) (c .before .before .before .before .args .order .now)) (sym (c .before .sizes-ok .ensures) ∙ not-true _ (c .if1 .taken))

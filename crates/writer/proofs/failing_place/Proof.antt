@@ -5,10 +5,10 @@ use borrow.Author.Needs.{needs}
 use borrow.Author.Tests.{not-false, not-true}
 use lib.ListN.{length}
 use native.Mathlib.Omega.{arith}
-use Rattle.sections.specs.Answers.{rowsOf}
+use Rattle.writer.specs.Lent.{rowsOf}
 use Rattle.sections.proofs.Seen.{PlacesPass, places-end, places-fail, places-start, places-turn}
-use Rattle.sections.proofs.row.failing_place.Statement.{statement}
-use Rattle.sections.proofs.row.failing_place.Tie as tie
+use Rattle.writer.proofs.failing_place.Statement.{statement}
+use Rattle.writer.proofs.failing_place.Tie as tie
 
 abbrev Inv-loop : tie.InvT-loop
 Inv-loop order seen₀ n k₀ seen k = (k ≤ n) × (length seen ≡ 4096) × PlacesPass (rowsOf [] order) n k seen

@@ -8,8 +8,8 @@ use native.Mathlib.Omega.{arith}
 use Rattle.network.specs.Bodies.{rowsIn, word-in}
 use Rattle.sections.proofs.Roads.{junctions}
 use Rattle.sections.proofs.Seen.{PlacesPass, places-end, places-fail, places-start, places-turn}
-use Rattle.sections.proofs.body.failing_place.Statement.{statement}
-use Rattle.sections.proofs.body.failing_place.Tie as tie
+use Rattle.sections.proofs.failing_place.Statement.{statement}
+use Rattle.sections.proofs.failing_place.Tie as tie
 
 abbrev Inv-loop : tie.InvT-loop
 Inv-loop order seen₀ n k₀ seen k = (k ≤ n) × (length seen ≡ 4096) × PlacesPass (rowsIn [] order) n k seen

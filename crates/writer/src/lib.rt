@@ -1,15 +1,16 @@
-// Questions 4 to 6 on the rows of words that a map is lent as, with a row's length taken as 4 bytes a word.
+// The writer: questions 4 to 6 on the rows of words that a map is lent as, with a row's length taken as 4 bytes a word, and the card made of them.
 ghost use mathlib.Core.Path.{_≡_};
 ghost use mathlib.Core.Bool.{not};
 ghost use mathlib.Core.List.{[]};
-ghost use Prim.Native.Nat.{_*_, _≤_};
+ghost use Prim.Native.Nat.{_*_, _+_, _≤_};
 ghost use lib.ListN.{length};
 ghost use Rattle.graph.specs.Least.{firstBelow};
-ghost use Rattle.model.specs.Card.{mapOf, placeOk, roadOk, rowsRefusal, sizesOk};
-ghost use Rattle.sections.specs.Answers.{failingIn, rowsOf, verdictIn};
-use super::Failing;
-use super::Verdict;
+ghost use Rattle.model.specs.Card.{cardOf, mapOf, placeOk, roadOk, rowsRefusal, sizesOk};
+ghost use Rattle.sections.specs.Answers.{failingIn, verdictIn};
+ghost use Rattle.writer.specs.Lent.{rowsOf};
 use network::Refusal;
+use sections::Failing;
+use sections::Verdict;
 
 // Question 4, of two lengths in words; no product of a long row is taken.
 fn sizes_ok(roads: usize, order: usize) -> bool
@@ -74,4 +75,17 @@ pub fn check(roads: &[u32], order: &[u32]) -> Verdict
         return Verdict::Failed(Refusal::Place(k));
     }
     Verdict::Passed
+}
+
+// Writes the table of contents and the two bodies.
+pub fn put_card(roads: &[u32], order: &[u32], area: &mut [u8])
+    requires { ⌜ (length (now roads) ≤ 49152) × (length (now order) ≤ 4096) × (length (now area) ≡ 28 + 4 * length (now roads) + 4 * length (now order)) ⌝ }
+    ensures { λ _. ⌜ now (area .exit) ≡ cardOf (rowsOf (now (roads .entry)) (now (order .entry))) ⌝ }
+{
+    let a = 4 * roads.len();
+    let b = 4 * order.len();
+    let table = [2, 1, 28, a as u32, 2, (28 + a) as u32, b as u32];
+    network::put_words(&mut area[0..28], &table);
+    network::put_words(&mut area[28..28 + a], roads);
+    network::put_words(&mut area[28 + a..28 + a + b], order);
 }

@@ -1,7 +1,7 @@
-use Rattle.sections.proofs.Long.{long-order, long-roads}
+use Rattle.writer.proofs.Long.{long-order, long-roads}
 use borrow.Author.Needs.{needs}
-use Rattle.sections.proofs.row.sizes_ok.Statement.{statement}
-use Rattle.sections.proofs.row.sizes_ok.Tie as tie
+use Rattle.writer.proofs.sizes_ok.Statement.{statement}
+use Rattle.writer.proofs.sizes_ok.Tie as tie
 
 returns : tie.Need-returns
 returns c = long-roads _ _ (c .if1 .taken)

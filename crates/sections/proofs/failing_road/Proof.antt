@@ -5,8 +5,8 @@ use Prim.Native.Nat.{_-_, _≤_}
 use borrow.Author.Needs.{needs}
 use borrow.Author.Tests.{not-false, not-true}
 use native.Mathlib.Omega.{arith}
-use Rattle.sections.proofs.body.failing_road.Statement.{statement}
-use Rattle.sections.proofs.body.failing_road.Tie as tie
+use Rattle.sections.proofs.failing_road.Statement.{statement}
+use Rattle.sections.proofs.failing_road.Tie as tie
 
 abbrev Inv-loop : tie.InvT-loop
 Inv-loop roads order n m i₀ i = (i ≤ m) × RoadsPass (rowsIn roads order) n m i
