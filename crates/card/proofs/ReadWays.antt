@@ -12,7 +12,7 @@ use Rattle.model.specs.Types.{Kinds, Read, Refusal, Short, Starts, Unreadable}
 use Rattle.model.specs.Card.{Rows, cardRefusal, kindsOk, mapOf, mapOn, orderBytes, readCard, reading, roadBytes, rowsOf, rowsRefusal, startsOk}
 use Rattle.network.specs.Bodies.{rowsIn}
 use Rattle.sections.proofs.Roads.{arcs, junctions}
-use Rattle.reader.specs.Walk.{bodyAt, placeAfter}
+use Rattle.reader.specs.Walk.{bodyAt, firstBody, secondBody}
 use Rattle.reader.proofs.Places.{body-is, place}
 use Rattle.card.specs.Parts.{BodyFacts, body-facts, ends-within}
 
@@ -37,10 +37,10 @@ module _ (card : List ℕ) where
 
       module _ (s : startsOk card ≡ true) where
         -- the bodies at the reader's two places are the parts that the entries name
-        facts : BodyFacts card (bodyAt card 4) (bodyAt card (placeAfter card 4))
+        facts : BodyFacts card (firstBody card) (secondBody card)
         facts =
             let e = ends-within card k s in
-            body-facts card (bodyAt card 4) (bodyAt card (placeAfter card 4)) k s
+            body-facts card (firstBody card) (secondBody card) k s
             (body-is card 4 (omega arith) (wordAt card 8) (wordAt card 12) refl refl (e .0))
             (ap (bodyAt card) (sym (place card 4 (omega arith))) ∙ body-is card 16 (omega arith) (wordAt card 20) (wordAt card 24) refl refl (e .1))
 
@@ -54,7 +54,7 @@ module _ (card : List ℕ) where
               ap₂ (λ (a : ℕ) (b : ℕ). Read (a / 4) (b / 12)) (sym (f .order-size)) (sym (f .roads-size))
               ∙ ap₂ Read (sym (junctions roads order) ∙ ap (λ (r : Rows). mapOf r .vertices) (f .rows)) (sym (arcs roads order) ∙ ap (λ (r : Rows). mapOf r .base .arcs) (f .rows))
 
-        module _ (x : Option Refusal) (e : x ≡ rowsRefusal (length (bodyAt card 4)) (length (bodyAt card (placeAfter card 4))) (rowsIn (bodyAt card 4) (bodyAt card (placeAfter card 4)))) where
+        module _ (x : Option Refusal) (e : x ≡ rowsRefusal (length (firstBody card)) (length (secondBody card)) (rowsIn (firstBody card) (secondBody card))) where
           pub read-failed : (q : Refusal) → some q ≡ x → Unreadable q ≡ readCard card
           read-failed q t = ap (reading (mapOn card .vertices) (mapOn card .base .arcs)) (t ∙ e ∙ rest _ _ facts)
 

@@ -13,3 +13,10 @@ bodyAt card at = cond (leb (at + 12) (length card)) (cond (leb (wordAt card (at 
 -- where the entry after the one at byte at begins; the card's end if there is none
 unfoldable pub placeAfter : List ℕ → ℕ → ℕ
 placeAfter card at = cond (leb (at + 12) (length card)) (at + 12) (length card)
+
+-- the bodies at the two places of a walk: the roads, then the order
+abbrev pub firstBody : List ℕ → List ℕ
+firstBody card = bodyAt card 4
+
+abbrev pub secondBody : List ℕ → List ℕ
+secondBody card = bodyAt card (placeAfter card 4)

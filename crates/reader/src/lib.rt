@@ -4,7 +4,7 @@ ghost use lib.ListN.{length};
 ghost use Rattle.model.specs.Card.{rowsRefusal};
 ghost use Rattle.network.specs.Bodies.{rowsIn};
 ghost use Rattle.sections.specs.Answers.{verdictIn};
-ghost use Rattle.reader.specs.Walk.{bodyAt, placeAfter};
+ghost use Rattle.reader.specs.Walk.{bodyAt, firstBody, placeAfter, secondBody};
 use sections::Verdict;
 
 // The card, and the byte at which the entry of the next body begins in the table of contents.
@@ -70,7 +70,7 @@ pub fn moved_on<'a>(r: Reader<'a>) -> Reader<'a>
 
 // Questions 4 to 6 on the two bodies of a card, by a reader that walks from the one to the other.
 pub fn check(card: &[u8]) -> Verdict
-    ensures { λ r. ⌜ verdictIn r ≡ rowsRefusal (length (bodyAt (now (card .entry)) 4)) (length (bodyAt (now (card .entry)) (placeAfter (now (card .entry)) 4))) (rowsIn (bodyAt (now (card .entry)) 4) (bodyAt (now (card .entry)) (placeAfter (now (card .entry)) 4))) ⌝ }
+    ensures { λ r. ⌜ verdictIn r ≡ rowsRefusal (length (firstBody (now (card .entry)))) (length (secondBody (now (card .entry)))) (rowsIn (firstBody (now (card .entry))) (secondBody (now (card .entry)))) ⌝ }
 {
     let first = new(card);
     let roads = body(first);

@@ -49,7 +49,7 @@ use Rattle.sections.proofs.check as asked
 use Rattle.sections.proofs.check.Symbol as asked-def
 use Rattle.sections.proofs.check.Symbol.{name as #sections·check}
 use Rattle.sections.proofs.check.Met as asked-thm
-use Rattle.reader.specs.Walk.{bodyAt, placeAfter}
+use Rattle.reader.specs.Walk.{bodyAt, firstBody, placeAfter, secondBody}
 use Rattle.reader.specs.declared.Reader.{Reader}
 use Rattle.reader.proofs.Reader as T
 use Rattle.reader.proofs.Reader.Laws as T′
@@ -83,13 +83,13 @@ verdictOf roads order = rowsRefusal (length roads) (length order) (rowsIn roads 
 
 -- the two bodies are those at the reader's two places
 walked-bodies : (s : RefT (List ℕ)) (r r′ : Reader) (x y : List ℕ) → (r .card ≡ s) × (r .at ≡ 4) → (r′ .card ≡ r .card) × (r′ .at ≡ placeAfter (now (r .card)) (r .at))
-    → x ≡ bodyAt (now (r .card)) (r .at) → y ≡ bodyAt (now (r′ .card)) (r′ .at) → verdictOf x y ≡ verdictOf (bodyAt (now s) 4) (bodyAt (now s) (placeAfter (now s) 4))
+    → x ≡ bodyAt (now (r .card)) (r .at) → y ≡ bodyAt (now (r′ .card)) (r′ .at) → verdictOf x y ≡ verdictOf (firstBody (now s)) (secondBody (now s))
 walked-bodies s r r′ x y new-is moved-is ex ey = ap₂ verdictOf (ex ∙ first) (ey ∙ second)
   where
-    first : bodyAt (now (r .card)) (r .at) ≡ bodyAt (now s) 4
+    first : bodyAt (now (r .card)) (r .at) ≡ firstBody (now s)
     first = ap₂ (λ (c : RefT (List ℕ)) (k : ℕ). bodyAt (now c) k) (new-is .0) (new-is .1)
 
-    second : bodyAt (now (r′ .card)) (r′ .at) ≡ bodyAt (now s) (placeAfter (now s) 4)
+    second : bodyAt (now (r′ .card)) (r′ .at) ≡ secondBody (now s)
     second = ap₂ (λ (c : RefT (List ℕ)) (k : ℕ). bodyAt (now c) k) (moved-is .0 ∙ new-is .0) (moved-is .1 ∙ ap₂ (λ (c : RefT (List ℕ)) (k : ℕ). placeAfter (now c) k) (new-is .0) (new-is .1))
 
 module _ {M : Type 1} (𝓤 : URA M) (H : Heap 𝓤) (A : Atoms 𝓤) (mem : Memory → SProp 𝓤) (run : Routine → Fun 𝓤) where
@@ -180,7 +180,7 @@ module _ {M : Type 1} (𝓤 : URA M) (H : Heap 𝓤) (A : Atoms 𝓤) (W : Given
   asked-said x y t = exE 𝓤 _ (λ ws. snd∗ 𝓤 (sem 𝓤 H A (lasts asked.ended (κ, tt) (x, (y, tt)) ws)) (fact 𝓤 (verdictIn t ≡ verdictOf (now x) (now y))))
 
   abbrev found : Option Refusal
-  found = verdictOf (bodyAt (now s) 4) (bodyAt (now s) (placeAfter (now s) 4))
+  found = verdictOf (firstBody (now s)) (secondBody (now s))
 
   exits : (t : Verdict) (u : Val) → verdictIn t ≡ found → ent 𝓤 (⋆ 𝓤 H A (‵ (S.the-row .own t (u ∷ [])) ∷ (‵ (flft κ q) ⊛ ‵ ftrue) ∷ ‵ Own ∷ [])) (Post u)
   exits t u e =
