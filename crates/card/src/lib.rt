@@ -43,7 +43,7 @@ fn starts_ok(card: &[u8]) -> bool
     let middle = 28 + network::word_at(card, 12) as u64;
     let order = network::word_at(card, 20) as u64;
     let end = order + network::word_at(card, 24) as u64;
-    questions::starts_fit(roads, middle, order, end, card.len() as u64)
+    checks::starts_fit(roads, middle, order, end, card.len() as u64)
 }
 
 // Reading answers n and m, or a refusal by questions 1 to 6.

@@ -35,7 +35,7 @@ fn failing_road(roads: &[u8], order: &[u8]) -> Failing
         let tail = network::word_at(roads, at);
         let head = network::word_at(roads, at + 4);
         let base = network::word_at(roads, at + 8);
-        if !questions::road_ok(n, tail, head, base) {
+        if !checks::road_ok(n, tail, head, base) {
             return Failing::At(i);
         }
         i += 1;
@@ -53,7 +53,7 @@ fn failing_place(order: &[u8]) -> Failing
     let mut k: u32 = 0;
     while k < n {
         let j = network::word_at(order, 4 * (k as usize));
-        if !questions::place_ok(n, j, &mut seen) {
+        if !checks::place_ok(n, j, &mut seen) {
             return Failing::At(k);
         }
         k += 1;
@@ -65,7 +65,7 @@ fn failing_place(order: &[u8]) -> Failing
 pub fn check<'a>(roads: &'a [u8], order: &'a [u8]) -> Verdict
     ensures { λ r. ⌜ verdictIn r ≡ rowsRefusal (length (now (roads .entry))) (length (now (order .entry))) (rowsIn (now (roads .entry)) (now (order .entry))) ⌝ }
 {
-    if !questions::sizes_ok(roads.len(), order.len()) {
+    if !checks::sizes_ok(roads.len(), order.len()) {
         return Verdict::Failed(Refusal::Sizes);
     }
     if let Failing::At(i) = failing_road(roads, order) {

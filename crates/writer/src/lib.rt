@@ -22,7 +22,7 @@ fn sizes_ok(roads: usize, order: usize) -> bool
     if 4096 < order {
         return false;
     }
-    questions::sizes_ok(4 * roads, 4 * order)
+    checks::sizes_ok(4 * roads, 4 * order)
 }
 
 // The first road that question 5 refuses.
@@ -35,7 +35,7 @@ fn failing_road(roads: &[u32], order: &[u32]) -> Failing
     let mut i: u32 = 0;
     while i < m {
         let at = 3 * (i as usize);
-        if !questions::road_ok(n, roads[at], roads[at + 1], roads[at + 2]) {
+        if !checks::road_ok(n, roads[at], roads[at + 1], roads[at + 2]) {
             return Failing::At(i);
         }
         i += 1;
@@ -53,7 +53,7 @@ fn failing_place(order: &[u32]) -> Failing
     let mut k: u32 = 0;
     while k < n {
         let at = k as usize;
-        if !questions::place_ok(n, order[at], &mut seen) {
+        if !checks::place_ok(n, order[at], &mut seen) {
             return Failing::At(k);
         }
         k += 1;

@@ -1,6 +1,6 @@
-use Rattle.questions.proofs.Numbers.{starts-1, starts-2, starts-3, starts-4, starts-5}
-use Rattle.questions.proofs.starts_fit.Statement.{statement}
-use Rattle.questions.proofs.starts_fit.Tie as tie
+use Rattle.checks.proofs.Numbers.{starts-1, starts-2, starts-3, starts-4, starts-5}
+use Rattle.checks.proofs.starts_fit.Statement.{statement}
+use Rattle.checks.proofs.starts_fit.Tie as tie
 
 returns : tie.Need-returns
 returns c = starts-1 (c .before .args .roads) (c .before .args .middle) (c .before .args .order) (c .before .args .end) (c .before .args .size) (c .if1 .taken)

@@ -1,9 +1,9 @@
 use mathlib.Core.Path.{refl}
 use lib.ListN.{getD, length}
-use Rattle.questions.proofs.Numbers.{place-1, place-2, place-3, place-4}
+use Rattle.checks.proofs.Numbers.{place-1, place-2, place-3, place-4}
 use borrow.Author.Needs.{needs}
-use Rattle.questions.proofs.place_ok.Statement.{statement}
-use Rattle.questions.proofs.place_ok.Tie as tie
+use Rattle.checks.proofs.place_ok.Statement.{statement}
+use Rattle.checks.proofs.place_ok.Tie as tie
 
 returns : tie.Need-returns
 returns c = (place-1 _ _ (length (c .before .args .seen .now)) (getD (c .before .args .seen .now) (c .before .args .j) 0) (c .if1 .taken), refl)

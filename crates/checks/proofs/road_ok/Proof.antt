@@ -1,6 +1,6 @@
-use Rattle.questions.proofs.Numbers.{road-1, road-2, road-3, road-4, road-5}
-use Rattle.questions.proofs.road_ok.Statement.{statement}
-use Rattle.questions.proofs.road_ok.Tie as tie
+use Rattle.checks.proofs.Numbers.{road-1, road-2, road-3, road-4, road-5}
+use Rattle.checks.proofs.road_ok.Statement.{statement}
+use Rattle.checks.proofs.road_ok.Tie as tie
 
 returns : tie.Need-returns
 returns c = road-1 _ _ _ _ (c .if1 .taken)

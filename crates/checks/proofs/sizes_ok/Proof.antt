@@ -1,6 +1,6 @@
-use Rattle.questions.proofs.Numbers.{sizes-1, sizes-2, sizes-3, sizes-4, sizes-5}
-use Rattle.questions.proofs.sizes_ok.Statement.{statement}
-use Rattle.questions.proofs.sizes_ok.Tie as tie
+use Rattle.checks.proofs.Numbers.{sizes-1, sizes-2, sizes-3, sizes-4, sizes-5}
+use Rattle.checks.proofs.sizes_ok.Statement.{statement}
+use Rattle.checks.proofs.sizes_ok.Tie as tie
 
 returns : tie.Need-returns
 returns c = sizes-1 _ _ (c .if1 .taken)
