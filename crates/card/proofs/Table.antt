@@ -3,11 +3,10 @@ use mathlib.Core.Path.{_≡_, sym}
 use mathlib.Core.Logic.{_≢_}
 use mathlib.Core.Bool.{Bool, _&&_, false}
 use mathlib.Core.List.{List}
-use Prim.Native.Nat.{_+_, _-_, ℕ}
+use Prim.Native.Nat.{_+_, ℕ}
 use borrow.Author.Tests.{eq-eqb, ne-eqb}
 use lib.Dec.{eqb, ltb}
-use lib.ListN.{drop, length, take}
-use native.Mathlib.Nat.{add-sub-cancel-left}
+use lib.ListN.{length}
 use Rattle.model.specs.Bytes.{wordAt}
 use Rattle.model.specs.Card.{kindsOk, startsOk}
 
@@ -30,8 +29,3 @@ pub starts-known : (card : List ℕ) (a l o e : ℕ) (r : Bool) → a ≡ wordAt
     → r ≡ eqb a 28 && ltb (28 + l) 4294967296 && eqb o (28 + l) && ltb (o + e) 4294967296 && eqb (o + e) (length card) → r ≡ startsOk card
 unfolding startsOk
 starts-known card a l o e r ea el eo ee h = rw (← ea, ← el, ← eo, ← ee) h
-
--- the part that an entry names
-pub part-known : (card : List ℕ) (entry s l : ℕ) → s ≡ wordAt card (entry + 4) → l ≡ wordAt card (entry + 8)
-    → take (s + l - s) (drop s card) ≡ take (wordAt card (entry + 8)) (drop (wordAt card (entry + 4)) card)
-part-known card entry s l es el = rw (← es, ← el, add-sub-cancel-left)

@@ -1,16 +1,12 @@
 // The card: reading it by questions 1 to 6, and writing it by questions 4 to 7.
 ghost use mathlib.Core.Path.{_≡_};
-ghost use Prim.Native.Nat.{_+_, _*_, _≤_};
-ghost use lib.ListN.{drop, length, take};
-ghost use Rattle.model.specs.Bytes.{wordAt};
-ghost use Rattle.model.specs.Card.{cardOf, kindsOk, startsOk};
+ghost use Prim.Native.Nat.{_≤_};
+ghost use lib.ListN.{length};
+ghost use Rattle.model.specs.Card.{kindsOk, startsOk};
 ghost use Rattle.model.specs.Contracts.{ReadContract, WriteContract};
-ghost use Rattle.card.specs.Answers.{readingIn, rowsOf, writingIn};
+ghost use Rattle.card.specs.Answers.{readingIn, writingIn};
 use network::Refusal;
-
-mod body;
-mod questions;
-mod row;
+use sections::Verdict;
 
 // What reading answers: n and m, or a refusal.
 pub enum Reading {
@@ -22,18 +18,6 @@ pub enum Reading {
 pub enum Writing {
     Refused(Refusal),
     Accepted,
-}
-
-// What questions 4 to 6 find.
-pub enum Verdict {
-    Passed,
-    Failed(Refusal),
-}
-
-// The first road or place that fails, if there is one.
-pub enum Failing {
-    Nothing,
-    At(u32),
 }
 
 // Question 2.
@@ -59,17 +43,7 @@ fn starts_ok(card: &[u8]) -> bool
     let middle = 28 + network::word_at(card, 12) as u64;
     let order = network::word_at(card, 20) as u64;
     let end = order + network::word_at(card, 24) as u64;
-    questions::starts_fit(roads, middle, order, end, card.len() as u64)
-}
-
-// The body of the section whose entry in the table of contents begins at byte `entry`: the part of the card that it names.
-fn body_of(card: &[u8], entry: usize) -> &[u8]
-    requires { ⌜ (entry ≤ 16) × (28 ≤ length (now card)) × (wordAt (now card) (entry + 4) + wordAt (now card) (entry + 8) ≤ length (now card)) ⌝ }
-    ensures { λ r. ⌜ now r ≡ take (wordAt (now (card .entry)) (entry + 8)) (drop (wordAt (now (card .entry)) (entry + 4)) (now (card .entry))) ⌝ }
-{
-    let start = network::word_at(card, entry + 4) as usize;
-    let end = start + network::word_at(card, entry + 8) as usize;
-    &card[start..end]
+    checks::starts_fit(roads, middle, order, end, card.len() as u64)
 }
 
 // Reading answers n and m, or a refusal by questions 1 to 6.
@@ -85,38 +59,26 @@ pub fn read(card: &[u8]) -> Reading
     if !starts_ok(card) {
         return Reading::Unreadable(Refusal::Starts);
     }
-    let roads = body_of(card, 4);
-    let order = body_of(card, 16);
-    match body::check(roads, order) {
+    match reader::check(card) {
         Verdict::Failed(q) => Reading::Unreadable(q),
-        Verdict::Passed => Reading::Read((order.len() / 4) as u32, (roads.len() / 12) as u32),
+        Verdict::Passed => Reading::Read(
+            network::word_at(card, 24) / 4,
+            network::word_at(card, 12) / 12,
+        ),
     }
-}
-
-// Writes the table of contents and the two bodies.
-fn put_card(roads: &[u32], order: &[u32], area: &mut [u8])
-    requires { ⌜ (length (now roads) ≤ 49152) × (length (now order) ≤ 4096) × (length (now area) ≡ 28 + 4 * length (now roads) + 4 * length (now order)) ⌝ }
-    ensures { λ _. ⌜ now (area .exit) ≡ cardOf (rowsOf (now (roads .entry)) (now (order .entry))) ⌝ }
-{
-    let a = 4 * roads.len();
-    let b = 4 * order.len();
-    let table = [2, 1, 28, a as u32, 2, (28 + a) as u32, b as u32];
-    network::put_words(&mut area[0..28], &table);
-    network::put_words(&mut area[28..28 + a], roads);
-    network::put_words(&mut area[28 + a..28 + a + b], order);
 }
 
 // Makes the card of a map, which is lent as two rows of words, or refuses by questions 4 to 6 and then 7; a refusal leaves the area unaltered.
 pub fn write(roads: &[u32], order: &[u32], area: &mut [u8]) -> Writing
     ensures { λ r. ⌜ WriteContract (now (roads .entry)) (now (order .entry)) (now (area .entry)) (now (area .exit)) (writingIn r) ⌝ }
 {
-    match row::check(roads, order) {
+    match writer::check(roads, order) {
         Verdict::Failed(q) => Writing::Refused(q),
         Verdict::Passed => {
             if area.len() != 28 + 4 * roads.len() + 4 * order.len() {
                 return Writing::Refused(Refusal::AreaLengths);
             }
-            put_card(roads, order, area);
+            writer::put_card(roads, order, area);
             Writing::Accepted
         }
     }

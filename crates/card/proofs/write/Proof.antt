@@ -1,6 +1,6 @@
 use mathlib.Core.Path.{_∙_, ap, sym}
 use native.Mathlib.Omega.{arith}
-use Rattle.card.specs.Answers.{verdictIn}
+use Rattle.sections.specs.Answers.{verdictIn}
 use Rattle.card.proofs.WriteWays.{rows-low, write-7, write-made, write-refused}
 use borrow.Author.Needs.{needs}
 use Rattle.card.proofs.write.Statement.{statement}

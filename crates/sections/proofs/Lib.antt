@@ -1,0 +1,4 @@
+pub mod Firsts
+pub mod Seen
+pub mod Roads
+pub mod Verdicts
