@@ -1,0 +1,93 @@
+-- The line that an answer prints, and how it stands in a lent area. Definitions only.
+use mathlib.Core.Path.{_≡_}
+use mathlib.Core.Bool.{cond}
+use mathlib.Core.Option.{none, some}
+use mathlib.Core.List.{List, [], _++_, _∷_}
+use Prim.Native.Nat.{_%_, _+_, _/_, min, suc, zero, ℕ}
+use lib.Dec.{eqb, ltb}
+use lib.ListN.{drop, length, take}
+use Rattle.graph.specs.Total.{Total}
+use Rattle.model.specs.Types.{Accepted, Answer, Estimated, Gone, Refusal, Refused}
+use Rattle.model.specs.Word.{ofWord}
+use Rattle.model.specs.Card.{question}
+use Rattle.network.specs.Refusals.{placeOf}
+use Rattle.console.specs.Lines.{estWord, goWord}
+
+-- ---- decimal digits
+
+-- the decimal digits of n, at most f of them
+unfoldable pub digitsIn : ℕ → ℕ → List ℕ
+digitsIn zero n = []
+digitsIn (suc f) n = cond (ltb n 10) ((48 + n) ∷ []) (digitsIn f (n / 10) ++ ((48 + n % 10) ∷ []))
+
+-- a number of at most 20 digits
+unfoldable pub decimal : ℕ → List ℕ
+unfolding digitsIn
+decimal n = digitsIn 20 n
+
+-- numbers, one space before each
+unfoldable pub spaced : List ℕ → List ℕ
+spaced [] = []
+spaced (n ∷ l) = 32 ∷ (decimal n ++ spaced l)
+
+-- ---- the text of an answer
+
+abbrev pub okWord : List ℕ
+okWord = 111 ∷ 107 ∷ []
+
+abbrev pub noWord : List ℕ
+noWord = 110 ∷ 111 ∷ []
+
+-- " none"
+abbrev pub noneText : List ℕ
+noneText = 32 ∷ 110 ∷ 111 ∷ 110 ∷ 101 ∷ []
+
+-- "a missing estimate is `est none`"
+abbrev pub totalText : Total → List ℕ
+totalText none = noneText
+totalText (some t) = spaced (t ∷ [])
+
+abbrev pub timeText : (word : ℕ) → List ℕ
+timeText w = totalText (ofWord w)
+
+-- "with the place after 5 and 6"
+abbrev pub placesOf : Refusal → List ℕ
+placesOf q = cond (eqb (question q) 5) (placeOf q ∷ []) (cond (eqb (question q) 6) (placeOf q ∷ []) [])
+
+-- "a refusal is `no` and its number"
+abbrev pub refusalText : Refusal → List ℕ
+refusalText q = noWord ++ spaced (question q ∷ placesOf q)
+
+-- "`go` gives total, count, roads"
+abbrev pub tripText : (total count : ℕ) (roads : List ℕ) → List ℕ
+tripText total count roads = goWord ++ spaced (total ∷ count ∷ roads)
+
+-- an answer without the end of its line; a go's roads are the first k words of the route area
+abbrev pub worded : Answer → (route : List ℕ) → List ℕ
+worded (Refused q) route = refusalText q
+worded Accepted route = okWord
+worded (Estimated w) route = estWord ++ timeText w
+worded (Gone total count k) route = tripText total count (take k route)
+
+-- the line of an answer, with its newline
+abbrev pub answerText : Answer → (route : List ℕ) → List ℕ
+answerText a route = worded a route ++ (10 ∷ [])
+
+-- "an unreadable line prints `no 0`"
+abbrev pub unreadableText : List ℕ
+unreadableText = noWord ++ spaced (0 ∷ []) ++ (10 ∷ [])
+
+-- ---- in an area
+
+-- as much of the text as fits, then the rest of the area as it was
+unfoldable pub shown : (text area : List ℕ) → List ℕ
+shown text area = take (length area) text ++ drop (length text) area
+
+-- the text t, as much of it as fits, stands first in the area, which was o and is a; `at` is the place after it
+pub record Written (o t a : List ℕ) (at : ℕ) : Type 0 where
+  pub area : a ≡ shown t o
+  pub end : at ≡ min (length t) (length o)
+
+-- what was written is followed by s: of the area a and the place `at` the area z and the place r are made
+pub record Puts (s a : List ℕ) (at : ℕ) (z : List ℕ) (r : ℕ) : Type 0 where
+  pub then : (o t : List ℕ) → Written o t a at → Written o (t ++ s) z r
