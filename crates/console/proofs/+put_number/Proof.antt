@@ -1,3 +1,6 @@
+use borrow.Author.Needs.{needs}
+use native.Mathlib.Omega.{arith}
+use Rattle.console.proofs.Areas.{digit-put, digits-put}
 use Prim.Native.Nat.{ℕ, _<_}
 use borrow.Fn.Kinds.{In}
 use borrow.Fn.PlainCycle.{Measures, is, falls, and}
@@ -10,7 +13,7 @@ use Rattle.console.proofs.+put_number.{statement}
 use Rattle.console.proofs.+put_number.Tie.{close}
 
 abbrev μ-put-number : Measures 1 put-number-kinds.ps ℕ
-μ-put-number κs a = ?
+μ-put-number κs a = a .0
 
 abbrev put-number-at : ℕ → In 1 put-number-kinds.ps
 put-number-at t =
@@ -29,7 +32,7 @@ put-number-digit-requires : (t : ℕ) → put-number-lts.Need-digit-requires (
   put-number-below t,
   put-number.Post,
 ) (put-number-at t) put-number.Post
-put-number-digit-requires t c κs = ?
+put-number-digit-requires t c κs = search needs
 
 -- src/lib.rt:193:9
 put-number-put-byte-requires : (t : ℕ) → put-number-lts.Need-put-byte-requires (
@@ -40,7 +43,7 @@ put-number-put-byte-requires : (t : ℕ) → put-number-lts.Need-put-byte-requir
   put-number-below t,
   put-number.Post,
 ) (put-number-at t) put-number.Post
-put-number-put-byte-requires t c κs = ?
+put-number-put-byte-requires t c κs = search needs
 
 -- src/lib.rt:193:9
 put-number-same-length : (t : ℕ) → put-number-lts.Need-same-length (
@@ -51,7 +54,7 @@ put-number-same-length : (t : ℕ) → put-number-lts.Need-same-length (
   put-number-below t,
   put-number.Post,
 ) (put-number-at t) put-number.Post
-put-number-same-length t c = ?
+put-number-same-length t c = search needs
 
 -- src/lib.rt:193:9
 put-number-returns : (t : ℕ) → put-number-lts.Need-returns (
@@ -62,7 +65,7 @@ put-number-returns : (t : ℕ) → put-number-lts.Need-returns (
   put-number-below t,
   put-number.Post,
 ) (put-number-at t) put-number.Post
-put-number-returns t c = ?
+put-number-returns t c = digit-put (c .before .before .before .before .before .if1 .taken) (c .before .before .before .before .digit .ensures) (c .before .before .put-byte .ensures)
 
 -- src/lib.rt:195:9
 put-number-put-number-requires : (t : ℕ) → put-number-lts.Need-put-number-requires (
@@ -73,7 +76,7 @@ put-number-put-number-requires : (t : ℕ) → put-number-lts.Need-put-number-re
   put-number-below t,
   put-number.Post,
 ) (put-number-at t) put-number.Post
-put-number-put-number-requires t c κs = ?
+put-number-put-number-requires t c κs = search needs
 
 -- src/lib.rt:196:14
 put-number-digit-requires-2 : (t : ℕ) → put-number-lts.Need-digit-requires-2 (
@@ -84,7 +87,7 @@ put-number-digit-requires-2 : (t : ℕ) → put-number-lts.Need-digit-requires-2
   put-number-below t,
   put-number.Post,
 ) (put-number-at t) put-number.Post
-put-number-digit-requires-2 t c κs = ?
+put-number-digit-requires-2 t c κs = search needs
 
 -- src/lib.rt:196:5
 put-number-put-byte-requires-2 : (t : ℕ) → put-number-lts.Need-put-byte-requires-2 (
@@ -95,7 +98,7 @@ put-number-put-byte-requires-2 : (t : ℕ) → put-number-lts.Need-put-byte-requ
   put-number-below t,
   put-number.Post,
 ) (put-number-at t) put-number.Post
-put-number-put-byte-requires-2 t c κs = ?
+put-number-put-byte-requires-2 t c κs = search needs
 
 -- src/lib.rt:189:1
 put-number-same-length-2 : (t : ℕ) → put-number-lts.Need-same-length-2 (
@@ -106,7 +109,7 @@ put-number-same-length-2 : (t : ℕ) → put-number-lts.Need-same-length-2 (
   put-number-below t,
   put-number.Post,
 ) (put-number-at t) put-number.Post
-put-number-same-length-2 t c = ?
+put-number-same-length-2 t c = search needs
 
 -- src/lib.rt:189:1
 put-number-returns-2 : (t : ℕ) → put-number-lts.Need-returns-2 (
@@ -117,7 +120,7 @@ put-number-returns-2 : (t : ℕ) → put-number-lts.Need-returns-2 (
   put-number-below t,
   put-number.Post,
 ) (put-number-at t) put-number.Post
-put-number-returns-2 t c = ?
+put-number-returns-2 t c = digits-put (search needs) (search needs) (c .before .before .before .before .digit2 .ensures) (c .before .before .before .before .before .before .before .put-number .ensures) (c .before .before .put-byte2 .ensures)
 
 pub +put-number-spec : {M : Type 1} → statement M
 +put-number-spec = close μ-put-number λ t. put-number-lts.spec (

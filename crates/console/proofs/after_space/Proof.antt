@@ -1,3 +1,4 @@
+use Rattle.console.proofs.Parts.{after-is, after-none}
 use borrow.Author.Needs.{needs}
 use Rattle.console.proofs.after_space.Statement.{statement}
 use Rattle.console.proofs.after_space.Tie as tie
@@ -27,7 +28,7 @@ part-result-end c = search needs
 
 -- src/lib.rt:97:9
 returns : tie.Need-returns
-returns c = ?
+returns c = after-is _ _ (c .before .before .find .ensures .0)
 
 -- src/lib.rt:99:5
 sub-result-2 : tie.Need-sub-result-2
@@ -43,7 +44,7 @@ part-result-end-2 c = search needs
 
 -- src/lib.rt:91:1
 returns-2 : tie.Need-returns-2
-returns-2 c = ?
+returns-2 c = after-none _ _ (c .before .before .find .ensures .0) (search needs)
 
 pub after-space-spec : {M : Type 1} → statement M
 after-space-spec =

@@ -1,3 +1,4 @@
+use Rattle.console.proofs.Parts.{before-is}
 use borrow.Author.Needs.{needs}
 use Rattle.console.proofs.before_space.Statement.{statement}
 use Rattle.console.proofs.before_space.Tie as tie
@@ -23,7 +24,7 @@ part-result-end c = search needs
 
 -- src/lib.rt:83:1
 returns : tie.Need-returns
-returns c = ?
+returns c = before-is _ _ (c .before .find .ensures .0)
 
 pub before-space-spec : {M : Type 1} → statement M
 before-space-spec =

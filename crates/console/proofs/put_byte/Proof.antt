@@ -1,3 +1,4 @@
+use Rattle.console.proofs.Areas.{byte-fits, byte-lost}
 use borrow.Author.Needs.{needs}
 use Rattle.console.proofs.put_byte.Statement.{statement}
 use Rattle.console.proofs.put_byte.Tie as tie
@@ -18,11 +19,11 @@ same-length c = search needs
 
 -- src/lib.rt:162:9
 returns : tie.Need-returns
-returns c = ?
+returns c = byte-fits _ _ _ (c .if1 .taken)
 
 -- src/lib.rt:157:1
 returns-2 : tie.Need-returns-2
-returns-2 c = ?
+returns-2 c = byte-lost _ _ _ (c .if1 .left)
 
 pub put-byte-spec : {M : Type 1} → statement M
 put-byte-spec = tie.close (tie.spec slice-write-out add-result same-length returns returns-2)

@@ -1,3 +1,5 @@
+use mathlib.Core.Path.{ap₂, sym}
+use Rattle.console.specs.Lines.{two}
 use borrow.Author.Needs.{needs}
 use Rattle.console.proofs.read_set.Statement.{statement}
 use Rattle.console.proofs.read_set.Tie as tie
@@ -22,7 +24,7 @@ enum-told-2 c = search needs
 
 -- src/lib.rt:129:1
 returns : tie.Need-returns
-returns c = ?
+returns c = sym (ap₂ two (c .before .before .before .before .road .given .1) (c .before .time .given .1))
 
 -- src/lib.rt:129:1
 returns-2 : tie.Need-returns-2
