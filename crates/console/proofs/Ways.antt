@@ -29,12 +29,12 @@ module _ (w : ℕ) (b : Bool) (e : b ≡ eqb w noneWord) {a : List ℕ} {at : �
 
 -- ---- a refusal
 
-module _ (q : Refusal) (n p : ℕ) (hn : n ≡ question q) (hp : p ≡ placeOf q) {a : List ℕ} {at : ℕ} {k : List ℕ} {i : ℕ} {m : List ℕ} {j : ℕ} where
-  with-places : (l : List ℕ) → placesOf q ≡ l → spaced (n ∷ []) ++ spaced l ≡ spaced (question q ∷ placesOf q)
-  with-places l e = sym (spaced-append (n ∷ []) l) ∙ ap (λ (x : List ℕ). spaced (n ∷ x)) (sym e) ∙ ap (λ (x : ℕ). spaced (x ∷ placesOf q)) hn
+with-places : (q : Refusal) (n : ℕ) (l : List ℕ) → n ≡ question q → placesOf q ≡ l → spaced (n ∷ []) ++ spaced l ≡ spaced (question q ∷ placesOf q)
+with-places q n l hn e = sym (spaced-append (n ∷ []) l) ∙ ap (λ (x : List ℕ). spaced (n ∷ x)) (sym e) ∙ ap (λ (x : ℕ). spaced (x ∷ placesOf q)) hn
 
+module _ (q : Refusal) (n p : ℕ) (hn : n ≡ question q) (hp : p ≡ placeOf q) {a : List ℕ} {at : ℕ} {k : List ℕ} {i : ℕ} {m : List ℕ} {j : ℕ} where
   placed : {z : List ℕ} {r : ℕ} → placesOf q ≡ p ∷ [] → Puts noWord a at k i → Puts (spaced (n ∷ [])) k i m j → Puts (spaced (p ∷ [])) m j z r → Puts (refusalText q) a at z r
-  placed e x y v = puts-then x (puts-as (with-places (p ∷ []) e) (puts-then y v))
+  placed e x y v = puts-then x (puts-as (with-places q n (p ∷ []) hn e) (puts-then y v))
 
   pub refused-five : {z : List ℕ} {r : ℕ} → n ≡ 5 → Puts noWord a at k i → Puts (spaced (n ∷ [])) k i m j → Puts (spaced (p ∷ [])) m j z r → Puts (refusalText q) a at z r
   refused-five h x y v = placed (rw (eq-eqb (question q) 5 (sym hn ∙ h), hp)) x y v

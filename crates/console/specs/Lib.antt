@@ -1,3 +1,4 @@
 pub mod Lines
 pub mod Texts
 pub mod Decimals
+pub mod Bounds

@@ -204,6 +204,13 @@ fn put_spaced(n: u64, out: &mut [u8], at: usize) -> usize
     put_number(n, out, end)
 }
 
+// Puts a space and a word as a number.
+fn put_word(w: u32, out: &mut [u8], at: usize) -> usize
+    ensures { λ r. ⌜ Puts (spaced (w ∷ [])) (now (out .entry)) at (now (out .exit)) r ⌝ }
+{
+    put_spaced(w as u64, out, at)
+}
+
 // Puts each word as a number, one space before each.
 fn put_words(words: &[u32], out: &mut [u8], at: usize) -> usize
     ensures { λ r. ⌜ Puts (spaced (now (words .entry))) (now (out .entry)) at (now (out .exit)) r ⌝ }
@@ -211,7 +218,7 @@ fn put_words(words: &[u32], out: &mut [u8], at: usize) -> usize
     let mut end = at;
     let mut i = 0;
     while i < words.len() {
-        end = put_spaced(words[i] as u64, out, end);
+        end = put_word(words[i], out, end);
         i += 1;
     }
     end
@@ -224,7 +231,7 @@ fn put_time(t: Time, out: &mut [u8], at: usize) -> usize
     if t.is_none() {
         return put(b" none", out, at);
     }
-    put_spaced(t.word() as u64, out, at)
+    put_word(t.word(), out, at)
 }
 
 // Puts `no` and a refusal's number, with the place after 5 and 6.
@@ -234,12 +241,12 @@ fn put_refusal(q: Refusal, out: &mut [u8], at: usize) -> usize
     let number = network::question_of(q);
     let place = network::place_of(q);
     let word = put(b"no", out, at);
-    let end = put_spaced(number as u64, out, word);
+    let end = put_word(number, out, word);
     if number == 5 {
-        return put_spaced(place as u64, out, end);
+        return put_word(place, out, end);
     }
     if number == 6 {
-        return put_spaced(place as u64, out, end);
+        return put_word(place, out, end);
     }
     end
 }
@@ -262,7 +269,7 @@ fn put_trip(total: u64, count: u32, roads: &[u32], out: &mut [u8], at: usize) ->
 {
     let word = put(b"go", out, at);
     let end = put_spaced(total, out, word);
-    let last = put_spaced(count as u64, out, end);
+    let last = put_word(count, out, end);
     put_words(roads, out, last)
 }
 
