@@ -15,7 +15,8 @@ use Rattle.unit.specs.declared.Call.the-variants.{Aim, Estimate, Go}
 use Rattle.console.specs.declared.Number.{Number}
 use Rattle.console.specs.declared.Line.{Line}
 use Rattle.console.specs.declared.Line.the-variants.{Call, Unreadable}
-use Rattle.console.specs.Lines.{afterSpace, aimWord, beforeSpace, callOf, estWord, goWord, lineOf, numberOf, one, same, setWord, two}
+use Rattle.console.specs.Lines.{afterSpace, beforeSpace, callOf, lineOf, numberOf, one, same, two}
+use Rattle.console.specs.Ascii.{ascii}
 use Rattle.console.proofs.Numbers.{and-false}
 
 -- ---- two rows of bytes
@@ -68,27 +69,27 @@ module _ (s : List ℕ) (i : ℕ) (e : i ≡ 0 + indexOf 32 (slice 0 (length s) 
 -- ---- calls
 
 module _ (w : List ℕ) (v : ℕ) where
-  pub is-aim : true ≡ same w aimWord → Call (Aim (record { 0 = v })) ≡ callOf w v
+  pub is-aim : true ≡ same w (ascii "aim") → Call (Aim (record { 0 = v })) ≡ callOf w v
   unfolding callOf
   is-aim a = rw (← a)
 
-  pub is-estimate : false ≡ same w aimWord → true ≡ same w estWord → Call (Estimate (record { 0 = v })) ≡ callOf w v
+  pub is-estimate : false ≡ same w (ascii "aim") → true ≡ same w (ascii "est") → Call (Estimate (record { 0 = v })) ≡ callOf w v
   unfolding callOf
   is-estimate a e = rw (← a, ← e)
 
-  pub is-go : false ≡ same w aimWord → false ≡ same w estWord → true ≡ same w goWord → Call (Go (record { 0 = v })) ≡ callOf w v
+  pub is-go : false ≡ same w (ascii "aim") → false ≡ same w (ascii "est") → true ≡ same w (ascii "go") → Call (Go (record { 0 = v })) ≡ callOf w v
   unfolding callOf
   is-go a e g = rw (← a, ← e, ← g)
 
-  pub is-none : false ≡ same w aimWord → false ≡ same w estWord → false ≡ same w goWord → Unreadable ≡ callOf w v
+  pub is-none : false ≡ same w (ascii "aim") → false ≡ same w (ascii "est") → false ≡ same w (ascii "go") → Unreadable ≡ callOf w v
   unfolding callOf
   is-none a e g = rw (← a, ← e, ← g)
 
 module _ (s w r : List ℕ) (hw : w ≡ beforeSpace s) (hr : r ≡ afterSpace s) (x : Line) where
-  pub is-set : (u v : List ℕ) (m n : Number) → true ≡ same w setWord → u ≡ beforeSpace r → m ≡ numberOf u → v ≡ afterSpace r → n ≡ numberOf v → x ≡ two m n → x ≡ lineOf s
+  pub is-set : (u v : List ℕ) (m n : Number) → true ≡ same w (ascii "set") → u ≡ beforeSpace r → m ≡ numberOf u → v ≡ afterSpace r → n ≡ numberOf v → x ≡ two m n → x ≡ lineOf s
   unfolding lineOf
   is-set u v m n t hu hm hv hn e = rw (e, hm, hu, hn, hv, ← hw, ← hr, ← t)
 
-  pub is-one : (n : Number) → false ≡ same w setWord → n ≡ numberOf r → x ≡ one (callOf w) n → x ≡ lineOf s
+  pub is-one : (n : Number) → false ≡ same w (ascii "set") → n ≡ numberOf r → x ≡ one (callOf w) n → x ≡ lineOf s
   unfolding lineOf
   is-one n t hn e = rw (e, hn, ← hw, ← hr, ← t)

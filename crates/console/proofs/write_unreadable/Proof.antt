@@ -1,5 +1,4 @@
-use Rattle.console.proofs.Areas.{puts-as}
-use Rattle.console.proofs.Ways.{all-put, unreadable-is}
+use Rattle.console.proofs.Ways.{all-put}
 use borrow.Author.Needs.{needs}
 use Rattle.console.proofs.write_unreadable.Statement.{statement}
 use Rattle.console.proofs.write_unreadable.Tie as tie
@@ -21,7 +20,7 @@ same-length c = search needs
 
 -- src/lib.rt:294:1
 returns : tie.Need-returns
-returns c = all-put (puts-as unreadable-is (c .before .before .put .ensures))
+returns c = all-put (c .before .before .put .ensures)
 
 pub write-unreadable-spec : {M : Type 1} → statement M
 write-unreadable-spec = tie.close (tie.spec slice-aggregate-put put-requires same-length returns)
