@@ -3,3 +3,4 @@ pub mod Lines
 pub mod Texts
 pub mod Decimals
 pub mod Bounds
+pub mod Examples
