@@ -1,8 +1,8 @@
 -- Text after text in an area. Assumes nothing.
 use mathlib.Core.Path.{_∙_, _≡_, ap, refl, subst, sym}
 use mathlib.Core.List.{List, [], _++_, _∷_, append-assoc, append-nil}
-use Prim.Native.Nat.{_%_, _+_, _-_, _/_, _<_, _^_, _≤_, min, suc, zero, ℕ}
-use lib.ListN.{drop, getD, length, length-append, set, take}
+use Prim.Native.Nat.{_%_, _+_, _-_, _/_, _<_, _^_, _≤_, suc, ℕ}
+use lib.ListN.{getD, length, length-append, set, take}
 use lib.Seq.{take-all, take-nil, take-suc}
 use native.Mathlib.Nat.{le-of-suc-le-suc}
 use native.Mathlib.Numerals.{add-one}

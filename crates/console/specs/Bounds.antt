@@ -61,6 +61,7 @@ places-most q h = go (eqb (question q) 5) (eqb (question q) 6)
   where
     none-most : length (spaced []) ≤ 11
     none-most = omega (arith, spaced-most [] (λ i. omega arith))
+
     go : (b c : Bool) → length (spaced (cond b (placeOf q ∷ []) (cond c (placeOf q ∷ []) []))) ≤ 11
     go true c = spaced-one (placeOf q) h
     go false true = spaced-one (placeOf q) h
@@ -83,8 +84,16 @@ answer-length Accepted route h = omega arith
 answer-length (Estimated w) route h = omega (arith, length-append (ascii "est" ++ timeText w) newline, time-most w h)
 answer-length (Gone total count k) route h =
     let roads = take k route in
-    omega (arith, length-append (tripText total count roads) newline, decimal-few 19 total (omega (arith, h .0)), decimal-few 9 count (omega (arith, h .1)), h .2, spaced-most roads (h .3),
-      length-append (decimal total) (spaced (count ∷ roads)), length-append (decimal count) (spaced roads))
+    omega (
+      arith,
+      length-append (tripText total count roads) newline,
+      decimal-few 19 total (omega (arith, h .0)),
+      decimal-few 9 count (omega (arith, h .1)),
+      h .2,
+      spaced-most roads (h .3),
+      length-append (decimal total) (spaced (count ∷ roads)),
+      length-append (decimal count) (spaced roads),
+    )
 
 -- so an area of 4,096 bytes shows all of it, and the rest of the area is as it was
 pub answer-fits : (a : Answer) (route area : List ℕ) → Bounded a route → 4096 ≤ length area → shown (answerText a route) area ≡ first (answerText a route) area

@@ -1,7 +1,7 @@
 -- Worked lines, as one table each: what lines say, and what answers print. Assumes nothing.
 use mathlib.Core.Path.{_≡_, refl}
-use mathlib.Core.List.{List, [], _++_, _∷_, map}
-use Prim.Native.Nat.{_+_, ℕ}
+use mathlib.Core.List.{List, [], _∷_, map}
+use Prim.Native.Nat.{_+_}
 use Prim.Native.String.{String}
 use lib.ListN.{length, replicate}
 use Rattle.bytes.specs.Bytes.{indexAfter, indexOf}
@@ -12,7 +12,7 @@ use Rattle.console.specs.declared.Line.{Line}
 use Rattle.console.specs.declared.Line.the-variants.{Call, Unreadable}
 use Rattle.console.specs.Ascii.{ascii}
 use Rattle.console.specs.Lines.{afterSpace, allDigits, beforeSpace, callOf, isDigit, isNumber, lineOf, numberOf, same, valueFrom}
-use Rattle.console.specs.Texts.{answerText, decimal, digitsIn, newline, shown, spaced, unreadableText}
+use Rattle.console.specs.Texts.{answerText, decimal, digitsIn, shown, spaced, unreadableText}
 
 -- ---- lines that say a call: document 01's six, the ends of the width, leading zeros
 

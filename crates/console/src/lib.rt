@@ -284,7 +284,13 @@ fn put_answer(answer: Answer, route: &[u32], out: &mut [u8]) -> usize
             let word = put(b"est", out, 0);
             put_time(t, out, word)
         }
-        Answer::Gone(total, count, roads) => put_trip(total, count, first_roads(route, roads), out, 0),
+        Answer::Gone(total, count, roads) => put_trip(
+            total,
+            count,
+            first_roads(route, roads),
+            out,
+            0,
+        ),
     }
 }
 
