@@ -46,25 +46,25 @@ module _ (a b : List ℕ) (i : ℕ) (e : length a ≡ length b) (p : same a b �
 -- ---- parts
 
 -- the whole of a list as the range that `bytes::scan::find` searches
-found : (s : List ℕ) (i : ℕ) → i ≡ 0 + indexOf 32 (slice 0 (length s) s) → i ≡ indexOf 32 s
+pub found : (s : List ℕ) (i : ℕ) → i ≡ 0 + indexOf 32 (slice 0 (length s) s) → i ≡ indexOf 32 s
 unfolding slice
 found s i e = e ∙ zero-add (indexOf 32 (slice 0 (length s) s)) ∙ ap (indexOf 32) (take-length s)
 
-module _ (s : List ℕ) (i : ℕ) (e : i ≡ 0 + indexOf 32 (slice 0 (length s) s)) where
+module _ (s : List ℕ) (i : ℕ) (e : i ≡ indexOf 32 s) where
   pub before-is : take (i - 0) s ≡ beforeSpace s
   unfolding beforeSpace
-  before-is = let z : i - 0 ≡ i = omega arith in rw (z, found s i e)
+  before-is = let z : i - 0 ≡ i = omega arith in rw (z, e)
 
   pub after-is : take (length s - (i + 1)) (drop (i + 1) s) ≡ afterSpace s
   unfolding afterSpace
-  after-is = take-all (length s - (i + 1)) (drop (i + 1) s) (omega (arith, length-drop (i + 1) s)) ∙ rw (found s i e)
+  after-is = take-all (length s - (i + 1)) (drop (i + 1) s) (omega (arith, length-drop (i + 1) s)) ∙ rw e
 
   pub after-none : length s ≤ i → take (length s - length s) (drop (length s) s) ≡ afterSpace s
   unfolding afterSpace
   after-none h =
       take-all (length s - length s) (drop (length s) s) (omega (arith, length-drop (length s) s))
       ∙ drop-of-length-le s {i = length s} (omega arith)
-      ∙ sym (drop-of-length-le s {i = indexOf 32 s + 1} (omega (arith, found s i e)))
+      ∙ sym (drop-of-length-le s {i = indexOf 32 s + 1} (omega arith))
 
 -- ---- calls
 

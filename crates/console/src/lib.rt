@@ -1,8 +1,9 @@
 // Lines of the program: a line of input as a call, an answer as a line of text.
 ghost use mathlib.Core.Path.{_≡_};
 ghost use mathlib.Core.List.{[], _∷_};
-ghost use Prim.Native.Nat.{_+_, _<_, min};
+ghost use Prim.Native.Nat.{_+_, _<_, _≤_, min};
 ghost use lib.ListN.{length, take};
+ghost use Rattle.bytes.specs.Bytes.{indexOf};
 ghost use Rattle.unit.specs.Shape.{answerIn};
 ghost use Rattle.network.specs.Refusals.{refusalIn};
 ghost use Rattle.console.specs.Lines.{afterSpace, beforeSpace, callOf, lineOf, numberOf, one, same, two};
@@ -79,11 +80,18 @@ fn same_bytes(a: &[u8], b: &[u8]) -> bool
     true
 }
 
+// Where the first space stands; the length where there is none.
+fn space_in(s: &[u8]) -> usize
+    ensures { λ r. ⌜ (r ≡ indexOf 32 (now (s .entry))) × (r ≤ length (now (s .entry))) ⌝ }
+{
+    bytes::scan::find(s, 0, s.len(), 32)
+}
+
 // The part before the first space; all of it where there is none.
 fn before_space(s: &[u8]) -> &[u8]
     ensures { λ r. ⌜ now r ≡ beforeSpace (now (s .entry)) ⌝ }
 {
-    let i = bytes::scan::find(s, 0, s.len(), 32);
+    let i = space_in(s);
     &s[0..i]
 }
 
@@ -91,7 +99,7 @@ fn before_space(s: &[u8]) -> &[u8]
 fn after_space(s: &[u8]) -> &[u8]
     ensures { λ r. ⌜ now r ≡ afterSpace (now (s .entry)) ⌝ }
 {
-    let i = bytes::scan::find(s, 0, s.len(), 32);
+    let i = space_in(s);
     let end = s.len();
     if i < end {
         return &s[i + 1..end];

@@ -4,7 +4,7 @@ use Rattle.console.proofs.before_space.Statement.{statement}
 use Rattle.console.proofs.before_space.Tie as tie
 
 returns : tie.Need-returns
-returns c = before-is _ _ (c .before .find .ensures .0)
+returns c = before-is _ _ (c .before .space-in .ensures .0)
 
 pub before-space-spec : {M : Type 1} → statement M
 before-space-spec =
