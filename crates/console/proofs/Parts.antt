@@ -1,5 +1,5 @@
 -- The word of a line and the parts at its spaces. Assumes nothing.
-use mathlib.Core.Path.{_∙_, _≡_, ap, refl, sym}
+use mathlib.Core.Path.{_∙_, _≡_, ap, ap₂, refl, sym}
 use mathlib.Core.Bool.{_&&_, false, true}
 use mathlib.Core.List.{List, [], _∷_}
 use Prim.Native.Nat.{_+_, _-_, _<_, _≤_, ℕ}
@@ -11,8 +11,10 @@ use native.Mathlib.Nat.{zero-add}
 use native.Mathlib.Numerals.{add-one}
 use native.Mathlib.Omega.{arith}
 use Rattle.bytes.specs.Bytes.{indexOf, slice}
-use Rattle.unit.specs.declared.Call.the-variants.{Aim, Estimate, Go}
+use Rattle.unit.specs.declared.Call.the-variants.{Aim, Estimate, Go, Set}
+use Rattle.network.specs.declared.Time.{Time}
 use Rattle.console.specs.declared.Number.{Number}
+use Rattle.console.specs.declared.Number.the-variants.{Value}
 use Rattle.console.specs.declared.Line.{Line}
 use Rattle.console.specs.declared.Line.the-variants.{Call, Unreadable}
 use Rattle.console.specs.Lines.{afterSpace, beforeSpace, callOf, lineOf, numberOf, one, same, two}
@@ -84,6 +86,9 @@ module _ (w : List ℕ) (v : ℕ) where
   pub is-none : false ≡ same w (ascii "aim") → false ≡ same w (ascii "est") → false ≡ same w (ascii "go") → Unreadable ≡ callOf w v
   unfolding callOf
   is-none a e g = rw (← a, ← e, ← g)
+
+pub set-is : (m n : Number) (i t : ℕ) (x : Time) → m ≡ Value i → n ≡ Value t → x .0 ≡ t → Call (Set i x) ≡ two m n
+set-is m n i t x p q e = ap (λ (v : ℕ). Call (Set i (record { 0 = v }))) e ∙ sym (ap₂ two p q)
 
 module _ (s w r : List ℕ) (hw : w ≡ beforeSpace s) (hr : r ≡ afterSpace s) (x : Line) where
   pub is-set : (u v : List ℕ) (m n : Number) → true ≡ same w (ascii "set") → u ≡ beforeSpace r → m ≡ numberOf u → v ≡ afterSpace r → n ≡ numberOf v → x ≡ two m n → x ≡ lineOf s

@@ -2,10 +2,9 @@
 use mathlib.Core.Path.{_∙_, _≡_, ap, sym}
 use mathlib.Core.Bool.{Bool, false, true}
 use mathlib.Core.List.{List, [], _++_, _∷_}
-use Prim.Native.Nat.{min, ℕ}
+use Prim.Native.Nat.{ℕ}
 use borrow.Author.Tests.{eq-eqb, ne-eqb}
 use lib.Dec.{eqb}
-use lib.ListN.{length}
 use Rattle.model.specs.Types.{Refusal}
 use Rattle.model.specs.Word.{noneWord, ofWord}
 use Rattle.model.specs.Card.{question}
@@ -13,8 +12,8 @@ use Rattle.network.specs.Refusals.{placeOf}
 use Rattle.unit.specs.declared.Answer.{Answer}
 use Rattle.unit.specs.Shape.{answerIn}
 use Rattle.console.specs.Ascii.{ascii}
-use Rattle.console.specs.Texts.{Puts, placesOf, refusalText, shown, spaced, timeText, tripText, worded}
-use Rattle.console.proofs.Areas.{puts-as, puts-start, puts-then, spaced-append}
+use Rattle.console.specs.Texts.{Puts, placesOf, refusalText, spaced, timeText, tripText, worded}
+use Rattle.console.proofs.Areas.{puts-as, puts-then, spaced-append}
 
 -- ---- a time
 
@@ -57,7 +56,3 @@ trip-put t c l p q s u = puts-then p (puts-as (sym (spaced-append (t ∷ []) (c 
 
 pub answer-put : (x y : Answer) (route : List ℕ) {a : List ℕ} {at : ℕ} {z : List ℕ} {r : ℕ} → x ≡ y → Puts (worded (answerIn y) route) a at z r → Puts (worded (answerIn x) route) a at z r
 answer-put x y route e p = puts-as (ap (λ (u : Answer). worded (answerIn u) route) (sym e)) p
-
--- what is put from the start on is what the area shows
-pub all-put : {s a z : List ℕ} {r : ℕ} → Puts s a 0 z r → (z ≡ shown s a) × (r ≡ min (length s) (length a))
-all-put p = let w = puts-start p in (w .area, w .end)

@@ -76,11 +76,11 @@ unreadableText = ascii "no 0" ++ newline
 unfoldable pub shown : (text area : List ℕ) → List ℕ
 shown text area = take (length area) text ++ drop (length text) area
 
--- the text t, as much of it as fits, stands first in the area, which was o and is a; `at` is the place after it
-pub record Written (o t a : List ℕ) (at : ℕ) : Type 0 where
-  pub area : a ≡ shown t o
-  pub end : at ≡ min (length t) (length o)
+-- The area, which was `before`, shows the text, as much of it as fits; `end` bytes of it.
+pub record Written (before text after : List ℕ) (end : ℕ) : Type 0 where
+  pub area : after ≡ shown text before
+  pub count : end ≡ min (length text) (length before)
 
--- what was written is followed by s: of the area a and the place `at` the area z and the place r are made
-pub record Puts (s a : List ℕ) (at : ℕ) (z : List ℕ) (r : ℕ) : Type 0 where
-  pub then : (o t : List ℕ) → Written o t a at → Written o (t ++ s) z r
+-- text is followed by s: from the area a, written up to `at`, the area z is made, written up to `end`
+pub record Puts (s a : List ℕ) (at : ℕ) (z : List ℕ) (end : ℕ) : Type 0 where
+  pub then : (o t : List ℕ) → Written o t a at → Written o (t ++ s) z end
