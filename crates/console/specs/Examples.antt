@@ -16,11 +16,11 @@ use Rattle.console.specs.Texts.{answerText, decimal, digitsIn, shown, sp
 
 -- ---- lines that say a call: document 01's six, the ends of the width, leading zeros
 
-pub record Reading : Type 0 where
+pub record SaidLine : Type 0 where
   pub line : String
   pub says : Line
 
-abbrev pub readable : List Reading
+abbrev pub readable : List SaidLine
 readable =
     record { line = "aim 3"; says = Call (Aim (record { 0 = 3 })) }
     ∷ record { line = "est 0"; says = Call (Estimate (record { 0 = 0 })) }
@@ -33,7 +33,7 @@ readable =
     ∷ record { line = "set 00000000000000000001 00000000004294967295"; says = Call (Set 1 (record { 0 = noneWord })) }
     ∷ []
 
-pub readable-right : map (λ (r : Reading). lineOf (ascii (r .line))) readable ≡ map (λ (r : Reading). r .says) readable
+pub readable-right : map (λ (r : SaidLine). lineOf (ascii (r .line))) readable ≡ map (λ (r : SaidLine). r .says) readable
 unfolding lineOf callOf same beforeSpace afterSpace indexOf indexAfter numberOf isNumber allDigits isDigit valueFrom
 readable-right = refl
 
@@ -59,11 +59,11 @@ odd-bytes = (refl, refl)
 
 -- ---- what answers print, with the route area [0, 1, 7]: document 01's six, and the other kinds
 
-pub record Printing : Type 0 where
+pub record PrintedAnswer : Type 0 where
   pub answer : Answer
   pub prints : String
 
-abbrev pub printed : List Printing
+abbrev pub printed : List PrintedAnswer
 printed =
     record { answer = Accepted; prints = "ok\n" }
     ∷ record { answer = Estimated 20; prints = "est 20\n" }
@@ -79,7 +79,7 @@ printed =
     ∷ record { answer = Refused (NoPath 2); prints = "no 15\n" }
     ∷ []
 
-pub printed-right : map (λ (p : Printing). answerText (p .answer) (0 ∷ 1 ∷ 7 ∷ [])) printed ≡ map (λ (p : Printing). ascii (p .prints)) printed
+pub printed-right : map (λ (p : PrintedAnswer). answerText (p .answer) (0 ∷ 1 ∷ 7 ∷ [])) printed ≡ map (λ (p : PrintedAnswer). ascii (p .prints)) printed
 unfolding spaced decimal digitsIn ofWord
 printed-right = refl
 
