@@ -13,11 +13,11 @@ use Rattle.console.specs.declared.Number.the-variants.{Value}
 use Rattle.console.specs.Lines.{allDigits, isDigit, isNumber, numberOf, valueFrom}
 use Rattle.console.specs.Texts.{decimal, digitsIn}
 
-both-left : (a b : Bool) → a && b ≡ true → a ≡ true
+pub both-left : (a b : Bool) → a && b ≡ true → a ≡ true
 both-left true b e = refl
 both-left false b e = e
 
-both-right : (a b : Bool) → a && b ≡ true → b ≡ true
+pub both-right : (a b : Bool) → a && b ≡ true → b ≡ true
 both-right true b e = e
 both-right false b e = absurd (false≢true e)
 

@@ -2,10 +2,10 @@
 use mathlib.Core.Path.{_∙_, _≡_, ap, ap₂, refl, subst, sym}
 use mathlib.Core.Bool.{Bool, _&&_, cond, false, false≢true, true}
 use mathlib.Core.List.{List, [], _++_, _∷_}
-use Prim.Native.Nat.{_+_, ℕ}
+use Prim.Native.Nat.{_+_, _<_, _≤_, ℕ}
 use borrow.Author.Tests.{eqb-true, leb-true, ne-eqb}
 use lib.Dec.{eqb, leb}
-use lib.ListN.{drop, length, take}
+use lib.ListN.{drop, length, length-append, take}
 use lib.Seq.{drop-append-add, take-append-seam}
 use native.Mathlib.Omega.{arith}
 use native.Mathlib.Nat.{suc-add}
@@ -20,6 +20,7 @@ use Rattle.console.specs.declared.Number.the-variants.{NotOne, Value}
 use Rattle.console.specs.declared.Line.{Line}
 use Rattle.console.specs.declared.Line.the-variants.{Call, Unreadable}
 use Rattle.console.specs.Ascii.{ascii}
+use Rattle.console.specs.Decimals.{both-left, both-right}
 use Rattle.console.specs.Lines.{afterSpace, allDigits, beforeSpace, callOf, isDigit, isNumber, lineOf, numberOf, one, same, two, valueFrom}
 
 -- "a call's word and its numbers, one space before each"
@@ -30,14 +31,6 @@ pub data Readable (line : List ℕ) : call.Call → Type 0 where
   sets : (s t : List ℕ) (i v : ℕ) → line ≡ ascii "set " ++ (s ++ (ascii " " ++ t)) → numberOf s ≡ Value i → numberOf t ≡ Value v → Readable line (Set i (record { 0 = v }))
 
 -- ---- each of them says its call
-
-both-left : (a b : Bool) → a && b ≡ true → a ≡ true
-both-left true b e = refl
-both-left false b e = e
-
-both-right : (a b : Bool) → a && b ≡ true → b ≡ true
-both-right true b e = e
-both-right false b e = absurd (false≢true e)
 
 abbrev isValue : Number → Bool
 isValue (Value v) = true
@@ -177,3 +170,26 @@ says-readable line c e = go (decide (same (beforeSpace line) (ascii "set")))
     go : Tested (same (beforeSpace line) (ascii "set")) → Readable line c
     go (inl t) = says-two line (numberOf (beforeSpace (afterSpace line))) (numberOf (afterSpace (afterSpace line))) c (same-is (beforeSpace line) (ascii "set") t) refl refl (rw t at e)
     go (inr t) = says-one line (numberOf (afterSpace line)) c refl (rw t at e)
+
+-- ---- the longest readable line has 45 bytes
+
+number-length : (s : List ℕ) (v : ℕ) → numberOf s ≡ Value v → length s ≤ 20
+unfolding numberOf isNumber
+number-length s v e =
+    let sized = leb 1 (length s) && leb (length s) 20 in
+    let fits = leb (valueFrom 0 s) noneWord in
+    let p = both-left sized (allDigits s) (both-left (sized && allDigits s) fits (picked (sized && allDigits s && fits) (valueFrom 0 s) v e)) in
+    leb-true (length s) 20 (both-right (leb 1 (length s)) (leb (length s) 20) p)
+
+pub readable-length : (line : List ℕ) (c : call.Call) → Readable line c → length line ≤ 45
+readable-length line c (aims s v e n) = rw e (omega (arith, number-length s v n))
+readable-length line c (asks s v e n) = rw e (omega (arith, number-length s v n))
+readable-length line c (goes s v e n) = rw e (omega (arith, number-length s v n))
+readable-length line c (sets s t i v e n m) = rw e (omega (arith, number-length s i n, number-length t v m, length-append s (32 ∷ t)))
+
+pub long-unreadable : (line : List ℕ) → 45 < length line → lineOf line ≡ Unreadable
+long-unreadable line h = go (lineOf line) refl
+  where
+    go : (x : Line) → lineOf line ≡ x → lineOf line ≡ Unreadable
+    go Unreadable e = e
+    go (Call c) e = absurd (omega (arith, readable-length line c (says-readable line c e)))
