@@ -1,0 +1,5 @@
+-- Laws of the definitions, which several proofs cite.
+mod Numbers
+mod Parts
+mod Areas
+mod Ways

@@ -1,0 +1,32 @@
+use mathlib.Core.Path.{_∙_, sym}
+use Rattle.console.proofs.Parts.{is-aim, is-estimate, is-go, is-none}
+use borrow.Author.Needs.{needs}
+use Rattle.console.proofs.call_of.Statement.{statement}
+use Rattle.console.proofs.call_of.Tie as tie
+
+returns : tie.Need-returns
+returns c = is-aim _ _ (sym (c .if1 .taken) ∙ c .before .same-bytes .ensures)
+
+returns-2 : tie.Need-returns-2
+returns-2 c = is-estimate _ _ (sym (c .before .before .before .if1 .left) ∙ c .before .before .before .before .same-bytes .ensures) (sym (c .if2 .taken) ∙ c .before .same-bytes2 .ensures)
+
+returns-3 : tie.Need-returns-3
+returns-3 c = is-go _ _ (sym (c .before .before .before .before .before .before .if1 .left) ∙ c .before .before .before .before .before .before .before .same-bytes .ensures) (sym (c .before .before .before .if2 .left) ∙ c .before .before .before .before .same-bytes2 .ensures) (sym (c .if3 .taken) ∙ c .before .same-bytes3 .ensures)
+
+returns-4 : tie.Need-returns-4
+returns-4 c = is-none _ _ (sym (c .before .before .before .before .before .before .if1 .left) ∙ c .before .before .before .before .before .before .before .same-bytes .ensures) (sym (c .before .before .before .if2 .left) ∙ c .before .before .before .before .same-bytes2 .ensures) (sym (c .if3 .left) ∙ c .before .same-bytes3 .ensures)
+
+pub call-of-spec : {M : Type 1} → statement M
+call-of-spec =
+    tie.close
+    (tie.spec
+    (λ c. search needs)
+    (λ c κs. search needs)
+    returns
+    (λ c. search needs)
+    (λ c κs. search needs)
+    returns-2
+    (λ c. search needs)
+    (λ c κs. search needs)
+    returns-3
+    returns-4)
