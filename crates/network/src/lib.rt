@@ -6,7 +6,7 @@ ghost use Prim.Native.Nat.{_*_, _+_, _<_, _≤_, min};
 ghost use lib.Dec.{eqb};
 ghost use lib.ListN.{drop, getD, length, take};
 ghost use Rattle.graph.specs.Total.{_⊕_};
-ghost use Rattle.model.specs.Word.{noneWord, ofWord, unasked, word};
+ghost use Rattle.model.specs.Word.{closedWord, noneWord, ofWord, unasked, word};
 ghost use Rattle.model.specs.Bytes.{bytesOf, wordAt};
 ghost use Rattle.model.specs.Card.{question};
 ghost use Rattle.network.specs.Width.{fit};
@@ -64,13 +64,20 @@ impl Time {
     pub fn is_none(self) -> bool
         ensures { λ r. ⌜ r ≡ eqb (self .0) noneWord ⌝ }
     {
-        self.0 == NONE_WORD
+        self.0 == Time::NONE.0
     }
 
     pub fn is_unasked(self) -> bool
         ensures { λ r. ⌜ r ≡ eqb (self .0) unasked ⌝ }
     {
-        self.0 == UNASKED_WORD
+        self.0 == Time::UNASKED.0
+    }
+
+    // Is this the live time of a closed road?
+    pub fn is_closed(self) -> bool
+        ensures { λ r. ⌜ r ≡ eqb (self .0) closedWord ⌝ }
+    {
+        self.0 == Time::CLOSED.0
     }
 
     // One step of a minimum of sums: the least of this time and a + b, where a sum with none is none. The sum is taken in 64 bits.

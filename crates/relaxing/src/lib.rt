@@ -35,7 +35,7 @@ fn relax_road(
     ensures { λ _. ⌜ Relaxed (now (roads .entry)) (now (order .entry)) (now (ranks .entry)) (now (pairs .entry)) (now (live .entry)) (now (down .entry)) n m count (wordAt (now (roads .entry)) (12 * i)) (from .0) i (i + 1) (now (estimates .entry)) (now (elapsed .entry)) (now (keys .entry)) (now (vias .entry)) (now (wins .entry)) (now (estimates .exit)) (now (elapsed .exit)) (now (keys .exit)) (now (vias .exit)) (now (wins .exit)) ⌝ }
 {
     let cost = cost_of(live, i);
-    if cost.is_none() {
+    if cost.is_closed() {
         return;
     }
     let head = head_of(roads, i as usize);

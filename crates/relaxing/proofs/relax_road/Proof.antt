@@ -8,7 +8,7 @@ use Rattle.relaxing.proofs.relax_road.Tie as tie
 returns : tie.Need-returns
 returns c =
     let start = c .before .before .before .before .before .before .before .before .before .before .before .before .before .before in
-    road-closed _ _ _ _ _ _ _ _ _ _ _ (start .pre .0) _ (c .before .before .cost-of .ensures) _ _ _ _ _ (sym (c .before .is-none .ensures) ∙ c .if1 .taken)
+    road-closed _ _ _ _ _ _ _ _ _ _ _ (start .pre .0) _ (c .before .before .cost-of .ensures) _ _ _ _ _ (sym (c .before .is-closed .ensures) ∙ c .if1 .taken)
 
 returns-2 : tie.Need-returns-2
 returns-2 c =
@@ -37,10 +37,10 @@ returns-3 c =
     let at-if2 = at-estimate .before .before in
     let at-head-of = at-if2 .before .before in
     let at-if1 = at-head-of .before in
-    let at-is-none = at-if1 .before in
-    let at-cost-of = at-is-none .before in
+    let at-is-closed = at-if1 .before in
+    let at-cost-of = at-is-closed .before in
     let start = at-cost-of .before .before .before .before .before .before .before .before .before .before .before .before in
-    road-open _ _ _ _ _ _ _ _ _ _ _ (start .pre .0) _ (at-cost-of .cost-of .ensures) _ (at-head-of .head-of .ensures) _ _ _ _ _ _ _ _ _ _ _ _ (sym (at-is-none .is-none .ensures) ∙ at-if1 .if1 .left) (omega (arith, at-if2 .if2 .left)) (omega (arith, at-if2 .if2 .left, start .pre .4 .elapsed-is)) (omega (arith, at-if2 .if2 .left, start .pre .1)) (omega (arith, at-if2 .if2 .left, start .pre .2)) (at-estimate .estimate .ensures) (at-or-sum .or-sum .ensures) (at-improve .improve .ensures) (c .before .before .enter .ensures) (start .pre .1)
+    road-open _ _ _ _ _ _ _ _ _ _ _ (start .pre .0) _ (at-cost-of .cost-of .ensures) _ (at-head-of .head-of .ensures) _ _ _ _ _ _ _ _ _ _ _ _ (sym (at-is-closed .is-closed .ensures) ∙ at-if1 .if1 .left) (omega (arith, at-if2 .if2 .left)) (omega (arith, at-if2 .if2 .left, start .pre .4 .elapsed-is)) (omega (arith, at-if2 .if2 .left, start .pre .1)) (omega (arith, at-if2 .if2 .left, start .pre .2)) (at-estimate .estimate .ensures) (at-or-sum .or-sum .ensures) (at-improve .improve .ensures) (c .before .before .enter .ensures) (start .pre .1)
 
 pub relax-road-spec : {M : Type 1} → statement M
 relax-road-spec =
