@@ -83,7 +83,7 @@ pub fn fits(
 pub fn allowed(base: Time, t: Time) -> bool
     ensures { λ r. ⌜ r ≡ settable (some (base .0)) (ofWord (t .0)) ⌝ }
 {
-    if t.is_none() {
+    if t.is_closed() {
         return true;
     }
     if t.0 < base.0 {
