@@ -11,6 +11,7 @@
 //! ```
 #![deny(unsafe_code)]
 
+pub mod areas;
 pub mod both;
 #[cfg(test)]
 mod brute;

@@ -23,16 +23,16 @@ pub struct Header {
 
 /// What preparing and the calls return. A word that has nothing to say is 0.
 #[repr(C)]
-#[derive(Clone, Copy, Debug)]
-struct Returned {
-    header: Header,
+#[derive(Clone, Copy, Debug, Default)]
+pub(crate) struct Returned {
+    pub header: Header,
     /// 0 for accepted.
-    question: u32,
-    place: u32,
+    pub question: u32,
+    pub place: u32,
     /// A go's total, or an estimate.
-    total: u64,
-    count: u32,
-    roads: u32,
+    pub total: u64,
+    pub count: u32,
+    pub roads: u32,
 }
 
 const _: () = assert!(size_of::<Header>() == 20 && offset_of!(Header, target) == 16);
@@ -368,7 +368,7 @@ impl Unit {
     }
 
     /// Takes the header back, and an answer that refuses.
-    fn hand_back(&mut self, returned: Returned) -> Result<Returned, Refusal> {
+    pub(crate) fn hand_back(&mut self, returned: Returned) -> Result<Returned, Refusal> {
         self.header = returned.header;
         match returned {
             Returned { question: 0, .. } => Ok(returned),
@@ -381,7 +381,7 @@ impl Unit {
 }
 
 impl Returned {
-    fn done(self) -> Result<(), Refusal> {
+    pub(crate) fn done(self) -> Result<(), Refusal> {
         match self {
             Returned { place: 0, total: 0, count: 0, roads: 0, .. } => Ok(()),
             _ => panic!("more than an acceptance: {self:?}"),
