@@ -1,5 +1,7 @@
 //! Aim, estimate and set in plain Rust over the areas that document 01 names, and nothing else: records of
-//! four words in one slice, with no place for where each rank's begin.
+//! four words in one slice, with no place for where each rank's begin. Each is a function with the arguments,
+//! the answer and the questions of its export: a header by value that is handed back, and seven slices.
+#![allow(improper_ctypes_definitions, clippy::too_many_arguments)]
 
 use crate::calls::Refusal;
 use crate::card::{self, LONGEST, MOST_JUNCTIONS, MOST_ROADS};
@@ -7,12 +9,43 @@ use crate::order::MOST_PAIRS;
 use crate::time::{add, Time, CLOSED, NONE, UNASKED};
 use crate::unit::{Header, Returned, Unit};
 
-/// What an estimate reads.
-struct Prepared<'a> {
-    order: &'a [[u8; 4]],
-    ranks: &'a [u32],
-    records: &'a [[u32; 4]],
-    down: &'a [Time],
+/// Lends a unit's areas to a function.
+macro_rules! lend {
+    ($function:ident($unit:ident, $live:expr, $down:expr, $estimates:expr, $($last:ident),+)) => {{
+        let (header, elapsed) = ($unit.header, &$unit.elapsed);
+        let returned = $function(
+            header, &$unit.card, &$unit.ranks, &$unit.pairs, $live, $down, $estimates, elapsed, $($last),+
+        );
+        $unit.hand_back(returned)
+    }};
+}
+
+pub fn aim(unit: &mut Unit, target: u32) -> Result<(), Refusal> {
+    lend!(aim_on(unit, &unit.live, &mut unit.down, &mut unit.estimates, target))?.done()
+}
+
+pub fn estimate(unit: &mut Unit, junction: u32) -> Result<Time, Refusal> {
+    lend!(estimate_on(unit, &unit.live, &unit.down, &mut unit.estimates, junction))?.estimate()
+}
+
+pub fn set(unit: &mut Unit, road: u32, time: Time) -> Result<(), Refusal> {
+    lend!(set_on(unit, &mut unit.live, &unit.down, &unit.estimates, road, time))?.done()
+}
+
+fn answer(header: Header, question: u32) -> Returned {
+    Returned { header, question, ..Returned::default() }
+}
+
+/// Question 9.
+fn fits(header: Header, card: &[u8], pairs: &[u32], live: &[Time], others: [&[u32]; 4]) -> bool {
+    let (n, m) = (header.n as usize, header.m as usize);
+    n <= MOST_JUNCTIONS
+        && m <= MOST_ROADS
+        && card.len() == card::len(n, m)
+        && live.len() == m
+        && others.iter().all(|area| area.len() == n)
+        && pairs.len().is_multiple_of(4)
+        && (4 * header.pairs as usize..=4 * MOST_PAIRS).contains(&pairs.len())
 }
 
 /// The order of a card, from lowest rank to highest.
@@ -24,7 +57,7 @@ fn records(pairs: &[u32], header: Header) -> &[[u32; 4]] {
     &pairs.as_chunks().0[..header.pairs as usize]
 }
 
-fn junction(order: &[[u8; 4]], rank: u32) -> usize {
+fn junction_at(order: &[[u8; 4]], rank: u32) -> usize {
     u32::from_le_bytes(order[rank as usize]) as usize
 }
 
@@ -33,28 +66,69 @@ fn from(records: &[[u32; 4]], rank: u32) -> &[[u32; 4]] {
     &records[records.partition_point(|record| record[0] < rank)..]
 }
 
-pub fn aim(unit: &mut Unit, target: u32) {
-    let (order, down) = (order(&unit.card, unit.header), &mut unit.down[..]);
+#[inline(never)]
+extern "C" fn aim_on(
+    header: Header,
+    card: &[u8],
+    ranks: &[u32],
+    pairs: &[u32],
+    live: &[Time],
+    down: &mut [Time],
+    estimates: &mut [Time],
+    elapsed: &[Time],
+    target: u32,
+) -> Returned {
+    if !fits(header, card, pairs, live, [ranks, down, estimates, elapsed]) {
+        return answer(header, 9);
+    }
+    if target >= header.n {
+        return answer(header, 12);
+    }
+    let order = order(card, header);
     down.fill(NONE);
     down[target as usize] = 0;
-    let records = records(&unit.pairs, unit.header);
-    for &[low, high, _, time] in from(records, unit.ranks[target as usize]) {
-        let below = down[junction(order, low)];
-        let total = &mut down[junction(order, high)];
+    for &[low, high, _, time] in from(records(pairs, header), ranks[target as usize]) {
+        let below = down[junction_at(order, low)];
+        let total = &mut down[junction_at(order, high)];
         *total = add(time, below).min(*total);
     }
-    unit.estimates.fill(UNASKED);
-    unit.header = Header { aimed: 1, target, ..unit.header };
+    estimates.fill(UNASKED);
+    answer(Header { aimed: 1, target, ..header }, 0)
 }
 
-pub fn estimate(unit: &mut Unit, junction: u32) -> Time {
-    let prepared = Prepared {
-        order: order(&unit.card, unit.header),
-        ranks: &unit.ranks,
-        records: records(&unit.pairs, unit.header),
-        down: &unit.down,
-    };
-    prepared.estimate(&mut unit.estimates, junction as usize)
+#[inline(never)]
+extern "C" fn estimate_on(
+    header: Header,
+    card: &[u8],
+    ranks: &[u32],
+    pairs: &[u32],
+    live: &[Time],
+    down: &[Time],
+    estimates: &mut [Time],
+    elapsed: &[Time],
+    junction: u32,
+) -> Returned {
+    if !fits(header, card, pairs, live, [ranks, down, estimates, elapsed]) {
+        return answer(header, 9);
+    }
+    if junction >= header.n {
+        return answer(header, 12);
+    }
+    if header.aimed == 0 {
+        return answer(header, 13);
+    }
+    let (order, records) = (order(card, header), records(pairs, header));
+    let prepared = Prepared { order, ranks, records, down };
+    let total = prepared.estimate(estimates, junction as usize);
+    Returned { total: total.into(), ..answer(header, 0) }
+}
+
+/// What an estimate reads.
+struct Prepared<'a> {
+    order: &'a [[u8; 4]],
+    ranks: &'a [u32],
+    records: &'a [[u32; 4]],
+    down: &'a [Time],
 }
 
 impl Prepared<'_> {
@@ -69,7 +143,7 @@ impl Prepared<'_> {
                 break;
             }
             if up != NONE {
-                let above = self.estimate(estimates, junction(self.order, high));
+                let above = self.estimate(estimates, junction_at(self.order, high));
                 least = add(up, above).min(least);
             }
         }
@@ -78,25 +152,7 @@ impl Prepared<'_> {
     }
 }
 
-pub fn set(unit: &mut Unit, road: u32, time: Time) -> Result<(), Refusal> {
-    let returned = set_on(
-        unit.header,
-        &unit.card,
-        &unit.ranks,
-        &unit.pairs,
-        &mut unit.live,
-        &unit.down,
-        &unit.estimates,
-        &unit.elapsed,
-        road,
-        time,
-    );
-    unit.hand_back(returned)?.done()
-}
-
-/// As the export has it: a header by value that is handed back, seven slices, questions 9 to 11.
 #[inline(never)]
-#[allow(improper_ctypes_definitions, clippy::too_many_arguments)]
 extern "C" fn set_on(
     header: Header,
     card: &[u8],
@@ -109,29 +165,19 @@ extern "C" fn set_on(
     road: u32,
     time: Time,
 ) -> Returned {
-    let (n, m) = (header.n as usize, header.m as usize);
-    let by_junction = [ranks, down, estimates, elapsed];
-    let answer = |question| Returned { header, question, ..Returned::default() };
-    if n > MOST_JUNCTIONS
-        || m > MOST_ROADS
-        || card.len() != card::len(n, m)
-        || live.len() != m
-        || by_junction.iter().any(|area| area.len() != n)
-        || !pairs.len().is_multiple_of(4)
-        || !(4 * header.pairs as usize..=4 * MOST_PAIRS).contains(&pairs.len())
-    {
-        return answer(9);
+    if !fits(header, card, pairs, live, [ranks, down, estimates, elapsed]) {
+        return answer(header, 9);
     }
     if road >= header.m {
-        return answer(10);
+        return answer(header, 10);
     }
     let words = card[card::len(0, 0)..].as_chunks().0;
     let base = u32::from_le_bytes(words[3 * road as usize + 2]);
     if time != CLOSED && !(base..=LONGEST).contains(&time) {
-        return answer(11);
+        return answer(header, 11);
     }
     live[road as usize] = time;
-    answer(0)
+    answer(header, 0)
 }
 
 #[cfg(test)]
@@ -153,19 +199,20 @@ mod tests {
             let mut unit = Both::prepare(&map, order::pairs(&map)).unwrap().unit;
             let mut plain = unit.clone();
             for _ in 0..20 {
-                let [target, asked] = [(); 2].map(|()| random.below(map.n()) as u32);
+                let [target, asked] = [(); 2].map(|()| random.below(map.n() + 1) as u32);
                 let road = random.below(map.m() + 1) as u32;
                 let time = random.pick(&[1, 5, 60, LONGEST, LONGEST + 1, CLOSED]);
-                unit.aim(target).unwrap();
-                aim(&mut plain, target);
-                assert_eq!(unit.estimate(asked), Ok(estimate(&mut plain, asked)));
+                if random.chance(10) {
+                    let (which, len) = (random.below(6), random.below(60));
+                    unit.areas_mut()[which].resize(len);
+                    plain.areas_mut()[which].resize(len);
+                }
+                if random.chance(50) {
+                    assert_eq!(unit.aim(target), aim(&mut plain, target));
+                }
+                assert_eq!(unit.estimate(asked), estimate(&mut plain, asked));
                 assert_eq!(unit.set(road, time), set(&mut plain, road, time));
                 assert!(unit == plain, "the areas differ");
-                let (mut unit, mut plain) = (unit.clone(), plain.clone());
-                let (which, len) = (random.below(6), random.below(60));
-                unit.areas_mut()[which].resize(len);
-                plain.areas_mut()[which].resize(len);
-                assert_eq!(unit.set(road, time), set(&mut plain, road, time));
             }
         }
     }

@@ -388,7 +388,7 @@ impl Returned {
         }
     }
 
-    fn estimate(self) -> Result<Time, Refusal> {
+    pub(crate) fn estimate(self) -> Result<Time, Refusal> {
         match (self, Time::try_from(self.total)) {
             (Returned { place: 0, count: 0, roads: 0, .. }, Ok(estimate)) => Ok(estimate),
             _ => panic!("no estimate: {self:?}"),

@@ -279,10 +279,10 @@ fn timed_estimates_on_areas(
     target: u32,
     junctions: impl Iterator<Item = u32>,
 ) -> Duration {
-    areas::aim(unit, target);
+    areas::aim(unit, target).expect("a junction");
     timed(|| {
         for junction in junctions {
-            black_box(areas::estimate(unit, junction));
+            black_box(areas::estimate(unit, junction)).expect("a target");
         }
     })
 }
@@ -377,10 +377,9 @@ turn, and of each case the least of many runs counts. Made by
 - **Rust**: the same step as one would write it in Rust (`rust/src/router.rs`), over structures of its own, which document 01's areas have no
   place for: where the pairs of each rank begin, adjacency lists, a list of the lower ranks that a row has pairs with, a binary heap.
 - **areas**: the same step in Rust over the areas of document 01 and nothing else (`rust/src/areas.rs`): records of four words in one
-  slice, where a bisection finds those of a rank; the order read from the card.
-- **set**: nearly all of its time is the way in and out, and not the step: a header that goes in by value and comes back with the answer, so
-  that a call waits for the one before; seven slices, which the harness cuts out of guarded ones at each call; question 9 on
-  their lengths. Under *areas* stands a Rust function with the same arguments, answer and questions; under *Rust* an inlined method that has none of this.
+  slice, where a bisection finds those of a rank; the order read from the card. With the arguments, the answer and the questions of the unit's
+  function: a header that goes in by value and comes back, so that a call waits for the one before; seven slices; question 9 on their
+  lengths. Of a `set`, which stores one word, that is nearly all; the methods under *Rust* are inlined and have none of it.
 - **Dijkstra**: Dijkstra's algorithm with a binary heap, which finds the total alone.
 - **A\\***: A\\* with each junction's least base total to the target handed to it free. It logs what the unit logs.
 - **go**: 20 trips between any two junctions, each right after an aim, so with no estimate known; **again**: the same trips once more.
