@@ -15,6 +15,7 @@ use harness::order::{self, MOST_PAIRS};
 use harness::random::{setting, Random};
 use harness::time::{Time, CLOSED, NONE, UNASKED};
 use harness::unit::{lent_areas, Area, Unit};
+use std::thread;
 
 /// How often each call was answered with each number, 0 for accepted, and estimates with none.
 #[derive(Debug, Default)]
@@ -371,6 +372,27 @@ fn wrong_lengths_are_refused_first() {
         }
     }
     assert_eq!(refusals, 3 * 2 * (10 + 6 * 8) * 2 * 5);
+}
+
+/// The deepest map, a line in rank order, with no more stack than c/route_unit.h says.
+#[test]
+fn on_a_small_stack() {
+    let calls = || {
+        let map = maps::line(MOST_JUNCTIONS);
+        let (first, last) = (map.order[0], map.order[MOST_JUNCTIONS - 1]);
+        let pairs = order::pairs(&map);
+        let mut unit = Unit::new(&map.card().unwrap(), map.n(), map.m(), pairs);
+        unit.prepare().unwrap();
+        for _ in 0..2 {
+            unit.aim(last).unwrap();
+            let (mut route, mut log) = (vec![0; map.n()], vec![0; map.n()]);
+            let trip = unit.go(first, &mut route, &mut log).unwrap();
+            assert_eq!((trip.count, trip.roads), (4_096, 4_095));
+            unit.aim(last).unwrap();
+            assert_eq!(u64::from(unit.estimate(first).unwrap()), trip.total);
+        }
+    };
+    thread::Builder::new().stack_size(2 << 20).spawn(calls).unwrap().join().unwrap();
 }
 
 /// A refused preparing of a card without a body leaves a header of zeros, which that card and empty areas
