@@ -50,7 +50,10 @@ extern "C" {
 #define UNIT_CLOSED 4294967295u  /* the road is closed: live, the time of a set */
 #define UNIT_UNASKED 4294967294u /* not asked since the last aim: estimates */
 
-/* The header, which preparing makes and each call is handed and hands back. A caller keeps it and alters nothing in it. */
+/*
+ * The header, which preparing makes and each call is handed and hands back. A caller keeps it and alters nothing in it: the words
+ * handed out stand for the header itself. Of other words, any aimed but 0 is taken as 1, and with aimed 0 the target is not read.
+ */
 typedef struct UnitHeader {
     uint32_t n;      /* junctions */
     uint32_t m;      /* roads */

@@ -313,7 +313,7 @@ pub extern "C" fn unit_replay(
     script: &[u32],
     out: &mut [u64],
 ) -> UnitAnswer
-    ensures { λ r. ⌜ ((x : model.Answered) × (r ≡ answerWords x) × ReplayContract (now (card .entry)) (areasOf (now (ranks .entry)) (now (pairs .entry)) (now (live .entry)) (now (down .entry)) (now (estimates .entry)) (now (elapsed .entry))) (length (now (route .entry))) (length (now (log .entry))) (now (script .entry)) (min (length (now (script .entry)) / 3) (length (now (out .entry)) / 4)) (now (out .entry)) (now (out .exit)) x (areasOf (now (ranks .exit)) (now (pairs .exit)) (now (live .exit)) (now (down .exit)) (now (estimates .exit)) (now (elapsed .exit)))) ⌝ }
+    ensures { λ r. ⌜ ((x : model.Answered) × (r ≡ answerWords x) × ReplayContract (now (card .entry)) (areasOf (now (ranks .entry)) (now (pairs .entry)) (now (live .entry)) (now (down .entry)) (now (estimates .entry)) (now (elapsed .entry))) (lentOf (now (route .entry)) (now (log .entry))) (now (script .entry)) (min (length (now (script .entry)) / 3) (length (now (out .entry)) / 4)) (now (out .entry)) (now (out .exit)) x (areasOf (now (ranks .exit)) (now (pairs .exit)) (now (live .exit)) (now (down .exit)) (now (estimates .exit)) (now (elapsed .exit))) (lentOf (now (route .exit)) (now (log .exit)))) ⌝ }
 {
     answer_of(script::replay(
         card,
