@@ -2,7 +2,8 @@
 //!
 //! `unit` calls the archive that `rt staticlib unit_c` builds. `card`, `hierarchy`, `search`,
 //! `dijkstra` and `machine` are written from the document alone; `router` puts them together to the unit as
-//! one would write it in plain Rust, and `both` has the two side by side. `maps`, `order`, `traffic` and
+//! one would write it in plain Rust, `both` has the two side by side, and `areas` has some steps in plain Rust
+//! over the unit's own areas. `maps`, `order`, `traffic` and
 //! `damage` make what they are tried on, by fixed seeds. From the repository's root:
 //!
 //! ```text
@@ -11,6 +12,7 @@
 //! ```
 #![deny(unsafe_code)]
 
+pub mod areas;
 pub mod both;
 #[cfg(test)]
 mod brute;

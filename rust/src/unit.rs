@@ -1,9 +1,11 @@
 //! The proved functions. The only `unsafe` of the package.
 //!
-//! Nothing compares these declarations with the exports of `unit_c`: they stand in its order.
+//! The declarations stand in the order of `unit_c`'s exports. The header file for C has the same, with the same
+//! assertions on layout; `tests/c.rs` compares that one with `unit_c`.
 
 use crate::calls::{Call, Calls, Refusal, Trip};
 use crate::time::Time;
+use std::mem::offset_of;
 use std::ops::{Deref, DerefMut};
 
 /// The header that each call is handed and hands back.
@@ -21,17 +23,27 @@ pub struct Header {
 
 /// What preparing and the calls return. A word that has nothing to say is 0.
 #[repr(C)]
-#[derive(Clone, Copy, Debug)]
-struct Returned {
-    header: Header,
+#[derive(Clone, Copy, Debug, Default)]
+pub(crate) struct Returned {
+    pub header: Header,
     /// 0 for accepted.
-    question: u32,
-    place: u32,
+    pub question: u32,
+    pub place: u32,
     /// A go's total, or an estimate.
-    total: u64,
-    count: u32,
-    roads: u32,
+    pub total: u64,
+    pub count: u32,
+    pub roads: u32,
 }
+
+const _: () = assert!(size_of::<Header>() == 20 && offset_of!(Header, target) == 16);
+const _: () = assert!(
+    size_of::<Returned>() == 48
+        && offset_of!(Returned, question) == 20
+        && offset_of!(Returned, place) == 24
+        && offset_of!(Returned, total) == 32
+        && offset_of!(Returned, count) == 40
+        && offset_of!(Returned, roads) == 44
+);
 
 extern "C" {
     fn card_read(card: *const u8, len: usize, first: *mut u32, second: *mut u32) -> u32;
@@ -120,6 +132,20 @@ exports! {
         route: mut u32,
         log: mut u32;
         start
+    );
+    fn unit_replay(
+        ;
+        card: const u8,
+        ranks: mut u32,
+        pairs: mut u32,
+        live: mut u32,
+        down: mut u32,
+        estimates: mut u32,
+        elapsed: mut u32,
+        route: mut u32,
+        log: mut u32,
+        script: const u32,
+        out: mut u64;
     );
 }
 
@@ -315,8 +341,34 @@ impl Unit {
         self.hand_back(returned)?.done()
     }
 
+    /// Prepares, and makes the calls of a script, three words each; their answers go to `out`, four words
+    /// each.
+    pub fn replay(
+        &mut self,
+        route: &mut [u32],
+        log: &mut [u32],
+        script: &[u32],
+        out: &mut [u64],
+    ) -> Result<(), Refusal> {
+        let returned = lend!(unit_replay(
+            ;
+            self.card => as_ptr,
+            self.ranks => as_mut_ptr,
+            self.pairs => as_mut_ptr,
+            self.live => as_mut_ptr,
+            self.down => as_mut_ptr,
+            self.estimates => as_mut_ptr,
+            self.elapsed => as_mut_ptr,
+            route => as_mut_ptr,
+            log => as_mut_ptr,
+            script => as_ptr,
+            out => as_mut_ptr;
+        ));
+        self.hand_back(returned)?.done()
+    }
+
     /// Takes the header back, and an answer that refuses.
-    fn hand_back(&mut self, returned: Returned) -> Result<Returned, Refusal> {
+    pub(crate) fn hand_back(&mut self, returned: Returned) -> Result<Returned, Refusal> {
         self.header = returned.header;
         match returned {
             Returned { question: 0, .. } => Ok(returned),
@@ -329,14 +381,14 @@ impl Unit {
 }
 
 impl Returned {
-    fn done(self) -> Result<(), Refusal> {
+    pub(crate) fn done(self) -> Result<(), Refusal> {
         match self {
             Returned { place: 0, total: 0, count: 0, roads: 0, .. } => Ok(()),
             _ => panic!("more than an acceptance: {self:?}"),
         }
     }
 
-    fn estimate(self) -> Result<Time, Refusal> {
+    pub(crate) fn estimate(self) -> Result<Time, Refusal> {
         match (self, Time::try_from(self.total)) {
             (Returned { place: 0, count: 0, roads: 0, .. }, Ok(estimate)) => Ok(estimate),
             _ => panic!("no estimate: {self:?}"),

@@ -14,7 +14,8 @@ use harness::maps::{self, Map, Streets};
 use harness::order::{self, MOST_PAIRS};
 use harness::random::{setting, Random};
 use harness::time::{Time, CLOSED, NONE, UNASKED};
-use harness::unit::{lent_areas, Unit};
+use harness::unit::{lent_areas, Area, Unit};
+use std::thread;
 
 /// How often each call was answered with each number, 0 for accepted, and estimates with none.
 #[derive(Debug, Default)]
@@ -235,6 +236,83 @@ fn lists_on_the_largest_maps() {
     });
 }
 
+/// A call as three words of a script.
+fn call_words(random: &mut Random, call: Call) -> [u32; 3] {
+    let any = random.word();
+    match call {
+        Call::Set { road, time } => [0, road, time],
+        Call::Aim { junction } => [1, junction, any],
+        Call::Estimate { junction } => [2, junction, any],
+        Call::Go { start, .. } => [random.pick(&[3, 3, 4, u32::MAX]), start, any],
+    }
+}
+
+/// An answer as four words.
+fn answer_words(answer: Answer) -> [u64; 4] {
+    match answer {
+        Ok(Accepted::Done) => [0; 4],
+        Ok(Accepted::Estimate(estimate)) => [0, estimate.into(), 0, 0],
+        Ok(Accepted::Trip(trip)) => [0, trip.total, trip.count.into(), trip.roads.into()],
+        Err(Refusal::NoPath(count)) => [15, 0, count.into(), 0],
+        Err(refusal) => [refusal.number().into(), 0, 0, 0],
+    }
+}
+
+/// A script through the one function that makes all its calls: the machine's answers, and what the calls
+/// leave that are made one by one.
+fn run_script(random: &mut Random, map: &Map) -> usize {
+    let (n, len) = (map.n(), random.below(80));
+    let (mut route, mut log) = (Area::new(lent(random, n)), Area::new(lent(random, n)));
+    let (mut want_route, mut want_log) = (route.clone(), log.clone());
+    let calls: Vec<Call> = (0..len)
+        .map(|_| match random_call(random, map) {
+            Call::Go { start, .. } => Call::Go { start, route: route.len(), log: log.len() },
+            call => call,
+        })
+        .collect();
+    let mut script: Vec<u32> = calls.iter().flat_map(|&call| call_words(random, call)).collect();
+    script.extend_from_slice(&[1, 0][..random.below(3)]);
+    let room =
+        if random.chance(50) { 4 * len + random.below(9) } else { random.below(4 * len + 1) };
+    let mut out = vec![u64::MAX - 5; room];
+
+    let mut both = Both::prepare(map, order::pairs(map)).unwrap();
+    let mut unit = Unit::new(&both.unit.card, n, map.m(), order::pairs(map));
+    let mut machine = Machine::new(map);
+    let mut want = out.clone();
+    let made = len.min(room / 4);
+    for (&call, words) in calls.iter().zip(want.chunks_exact_mut(4)) {
+        let reply = both.call(call);
+        assert_eq!(reply, machine.answer(call), "{call:?}: proved (left), machine (right)");
+        want_route[..reply.route.len()].copy_from_slice(&reply.route);
+        want_log[..reply.log.len()].copy_from_slice(&reply.log);
+        words.copy_from_slice(&answer_words(reply.answer));
+    }
+    unit.replay(&mut route, &mut log, &script, &mut out).unwrap();
+    assert_eq!(out, want, "{calls:?}");
+    assert!(unit == both.unit, "the unit is left otherwise than by the calls one by one");
+    assert!((route, log) == (want_route, want_log), "route and log are left otherwise");
+    made
+}
+
+#[test]
+fn scripts() {
+    with_stack(|| {
+        let mut random = Random::new(4);
+        let mut calls = 0;
+        for most in [12; 400].into_iter().chain([200; 20]).chain([MOST_JUNCTIONS]) {
+            let map = random_map(&mut random, most);
+            calls += run_script(&mut random, &map);
+        }
+        assert!(calls > 10_000, "{calls} calls");
+        let mut refused = Unit::new(&[0; 28], 0, 0, 0);
+        let mut out = [1; 8];
+        let script = [0, 0, 0, 3, 0, 0];
+        let answer = refused.replay(&mut [], &mut [], &script, &mut out);
+        assert_eq!((answer, out), (Err(Refusal::Kinds), [10, 0, 0, 0, 12, 0, 0, 0]));
+    });
+}
+
 /// Changes to lengths, each of which question 9 refuses, by the call's header.
 fn wrong_lengths(unit: &Unit) -> Vec<(&'static str, Unit)> {
     let mut units = Vec::new();
@@ -294,6 +372,27 @@ fn wrong_lengths_are_refused_first() {
         }
     }
     assert_eq!(refusals, 3 * 2 * (10 + 6 * 8) * 2 * 5);
+}
+
+/// The deepest map, a line in rank order, with no more stack than c/route_unit.h says.
+#[test]
+fn on_a_small_stack() {
+    let calls = || {
+        let map = maps::line(MOST_JUNCTIONS);
+        let (first, last) = (map.order[0], map.order[MOST_JUNCTIONS - 1]);
+        let pairs = order::pairs(&map);
+        let mut unit = Unit::new(&map.card().unwrap(), map.n(), map.m(), pairs);
+        unit.prepare().unwrap();
+        for _ in 0..2 {
+            unit.aim(last).unwrap();
+            let (mut route, mut log) = (vec![0; map.n()], vec![0; map.n()]);
+            let trip = unit.go(first, &mut route, &mut log).unwrap();
+            assert_eq!((trip.count, trip.roads), (4_096, 4_095));
+            unit.aim(last).unwrap();
+            assert_eq!(u64::from(unit.estimate(first).unwrap()), trip.total);
+        }
+    };
+    thread::Builder::new().stack_size(2 << 20).spawn(calls).unwrap().join().unwrap();
 }
 
 /// A refused preparing of a card without a body leaves a header of zeros, which that card and empty areas

@@ -167,6 +167,28 @@ fn files_that_are_not_there() {
     }
 }
 
+/// Nothing but a file is replaced by a card, and not the text that it is made of.
+#[test]
+fn places_that_are_no_card() {
+    let folder = Folder::new("places");
+    fs::write(folder.path("text"), MAP_P).unwrap();
+    fs::create_dir(folder.path("deep")).unwrap();
+    for place in ["text", "deep", "deep/../text"] {
+        let output = run(&[&folder.path("text"), &folder.path(place)]);
+        assert_eq!((output.status.code(), told(&output.stdout)), (Some(1), ""));
+        assert!(told(&output.stderr).starts_with("make-card: "), "{}", told(&output.stderr));
+        assert_eq!(folder.names(), ["deep", "text"]);
+        assert_eq!(fs::read_to_string(folder.path("text")).unwrap(), MAP_P);
+    }
+}
+
+/// The map of document 01 that the repository has as a text.
+#[test]
+fn example() {
+    let text = Path::new(env!("CARGO_MANIFEST_DIR")).join("../examples/p.map");
+    assert_eq!(text::parse(&fs::read(text).unwrap()), Ok(maps::map_p()));
+}
+
 /// A card that the proved reader refuses.
 #[test]
 fn refused_cards() {
@@ -176,14 +198,18 @@ fn refused_cards() {
     bad_road[28 + 12 + 4] = 9;
     let mut bad_place = card.clone();
     bad_place[88 + 12] = 1;
-    for (bytes, told_of) in
-        [(&card[..27], "1"), (&card[..103], "3"), (&bad_road, "5 1"), (&bad_place, "6 3")]
-    {
+    for (bytes, told_of) in [
+        (&card[..27], "1: it is"),
+        (&card[..103], "3: it is"),
+        (&bad_road, "5: road 1"),
+        (&bad_place, "6: place 3"),
+    ] {
         fs::write(folder.path("CARD"), bytes).unwrap();
         let output = run(&["--text".as_ref(), &folder.path("CARD")]);
         let path = folder.path("CARD");
-        let want = format!("make-card: {}: refused by question {told_of}\n", path.display());
-        assert_eq!((told(&output.stderr), told(&output.stdout)), (&want[..], ""));
+        let want = format!("make-card: {}: refused by question {told_of} ", path.display());
+        assert!(told(&output.stderr).starts_with(&want), "{}", told(&output.stderr));
+        assert_eq!(told(&output.stdout), "");
         assert_eq!(output.status.code(), Some(1));
     }
 }

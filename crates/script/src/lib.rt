@@ -5,10 +5,10 @@ ghost use Prim.Native.Nat.{_*_, _+_, _/_, _<_, _≤_, min};
 ghost use lib.ListN.{drop, length, take};
 ghost use Rattle.model.specs.State.{Lent};
 ghost use Rattle.model.specs.Machine.{plain};
-ghost use Rattle.model.specs.Contracts.{areasOf, before};
+ghost use Rattle.model.specs.Contracts.{areasOf};
 ghost use Rattle.unit.specs.Calls.{callIn};
-ghost use Rattle.unit.specs.Shape.{answerIn, answeredIn, headerIn};
-ghost use Rattle.script.specs.Script.{ReplayContract, Turned, answerWords, spelled};
+ghost use Rattle.unit.specs.Shape.{answerIn, answeredIn, headerIn, lentOf};
+ghost use Rattle.script.specs.Script.{MakeContract, ReplayContract, answerWords, holding, spelled};
 use network::Junction;
 use network::Time;
 use unit::Answer;
@@ -88,10 +88,10 @@ fn make_calls(
     script: &[u32],
     out: &mut [u64],
 ) -> Header
-    ensures { λ h. ⌜ Turned (now (card .entry))
-        (before (headerIn start) (areasOf (now (ranks .entry)) (now (pairs .entry)) (now (live .entry)) (now (down .entry)) (now (estimates .entry)) (now (elapsed .entry))))
-        (length (now (route .entry))) (length (now (log .entry))) (now (script .entry)) (min (length (now (script .entry)) / 3) (length (now (out .entry)) / 4)) (now (out .entry)) (now (out .exit))
-        (before (headerIn h) (areasOf (now (ranks .entry)) (now (pairs .entry)) (now (live .exit)) (now (down .exit)) (now (estimates .exit)) (now (elapsed .exit)))) ⌝ }
+    ensures { λ h. ⌜ MakeContract (now (card .entry))
+        (holding (headerIn start) (areasOf (now (ranks .entry)) (now (pairs .entry)) (now (live .entry)) (now (down .entry)) (now (estimates .entry)) (now (elapsed .entry))) (lentOf (now (route .entry)) (now (log .entry))))
+        (now (script .entry)) (min (length (now (script .entry)) / 3) (length (now (out .entry)) / 4)) (now (out .entry)) (now (out .exit))
+        (holding (headerIn h) (areasOf (now (ranks .entry)) (now (pairs .entry)) (now (live .exit)) (now (down .exit)) (now (estimates .exit)) (now (elapsed .exit))) (lentOf (now (route .exit)) (now (log .exit)))) ⌝ }
 {
     let n = turns(script.len(), out.len());
     let mut h = start;
@@ -135,8 +135,8 @@ pub fn replay(
 ) -> Answered
     ensures { λ r. ⌜ ReplayContract (now (card .entry))
         (areasOf (now (ranks .entry)) (now (pairs .entry)) (now (live .entry)) (now (down .entry)) (now (estimates .entry)) (now (elapsed .entry)))
-        (length (now (route .entry))) (length (now (log .entry))) (now (script .entry)) (min (length (now (script .entry)) / 3) (length (now (out .entry)) / 4)) (now (out .entry)) (now (out .exit)) (answeredIn r)
-        (areasOf (now (ranks .exit)) (now (pairs .exit)) (now (live .exit)) (now (down .exit)) (now (estimates .exit)) (now (elapsed .exit))) ⌝ }
+        (lentOf (now (route .entry)) (now (log .entry))) (now (script .entry)) (min (length (now (script .entry)) / 3) (length (now (out .entry)) / 4)) (now (out .entry)) (now (out .exit)) (answeredIn r)
+        (areasOf (now (ranks .exit)) (now (pairs .exit)) (now (live .exit)) (now (down .exit)) (now (estimates .exit)) (now (elapsed .exit))) (lentOf (now (route .exit)) (now (log .exit))) ⌝ }
 {
     let prepared = unit::prepare(card, ranks, pairs, live, down, estimates, elapsed);
     let header = prepared.header;

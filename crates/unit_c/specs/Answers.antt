@@ -1,4 +1,5 @@
--- Headers and answers as C holds them. Definitions only.
+-- Headers and answers as C holds them. Definitions, and that a header comes back from its words.
+use mathlib.Core.Path.{_≡_, refl}
 use mathlib.Core.Bool.{cond}
 use Prim.Native.Nat.{ℕ}
 use lib.Dec.{eqb}
@@ -19,6 +20,14 @@ headerTo n m p (At z) = record { n = n; m = m; pairs = p; aimed = 1; target = z 
 -- the words that stand for a header
 abbrev pub headerWords : Header → UnitHeader
 headerWords h = headerTo (h .n) (h .m) (h .pairs) (h .target)
+
+header-to : (n m p : ℕ) (t : Target) → headerOf (headerTo n m p t) ≡ record { n = n; m = m; pairs = p; target = t }
+header-to n m p Absent = refl
+header-to n m p (At z) = refl
+
+-- so a caller that keeps the words it is handed makes a list of the unit's calls
+pub header-back : (h : Header) → headerOf (headerWords h) ≡ h
+header-back h = header-to (h .n) (h .m) (h .pairs) (h .target)
 
 abbrev pub answerTo : UnitHeader → Answer → UnitAnswer
 answerTo h (Refused q) = record { header = h; question = question q; place = placeOf q; total = 0; count = countOf q; roads = 0 }

@@ -1,6 +1,7 @@
 //! Times the proved unit beside plain Rust: one table, whose ratios are of times of one run. With
 //! `--write`, it goes to docs/BENCHMARK.md too.
 
+use harness::areas;
 use harness::both::Both;
 use harness::calls::{Calls, Refusal};
 use harness::card::{self, LONGEST, MOST_JUNCTIONS};
@@ -53,6 +54,7 @@ struct Line {
     step: String,
     proved: f64,
     plain: f64,
+    areas: Option<f64>,
     go: Option<Go>,
 }
 
@@ -103,7 +105,12 @@ struct Bench<'a> {
 
 impl Bench<'_> {
     fn line(&mut self, step: &str, [proved, plain]: [f64; 2]) {
-        self.lines.push(Line { step: step.to_string(), proved, plain, go: None });
+        self.lines.push(Line { step: step.to_string(), proved, plain, areas: None, go: None });
+    }
+
+    fn line_with_areas(&mut self, step: &str, [proved, plain, areas]: [f64; 3]) {
+        let areas = Some(areas);
+        self.lines.push(Line { step: step.to_string(), proved, plain, areas, go: None });
     }
 
     fn junctions(&mut self) -> Vec<u32> {
@@ -147,33 +154,45 @@ impl Bench<'_> {
 
     fn aim(&mut self) {
         let targets = self.junctions();
+        let mut areas = self.both.unit.clone();
         let Both { unit, router, .. } = &mut self.both;
         let times = measure(
             TRIPS,
-            [&mut |i| timed(|| unit.aim(targets[i])), &mut |i| timed(|| router.aim(targets[i]))],
+            [
+                &mut |i| timed(|| unit.aim(targets[i])),
+                &mut |i| timed(|| router.aim(targets[i])),
+                &mut |i| timed(|| areas::aim(&mut areas, targets[i])),
+            ],
         );
-        self.line("aim", times);
+        assert!(areas == *unit, "the areas differ");
+        self.line_with_areas("aim", times);
     }
 
     fn estimates(&mut self) {
         let (starts, targets) = (self.junctions(), self.junctions());
         let all = 0..self.map.n() as u32;
         let one = |i: usize| starts[i]..starts[i] + 1;
+        let mut areas = self.both.unit.clone();
         let Both { unit, router, .. } = &mut self.both;
         let of_one = measure(
             TRIPS,
-            [&mut |i| timed_estimates(unit, targets[i], one(i)), &mut |i| {
-                timed_estimates(router, targets[i], one(i))
-            }],
+            [
+                &mut |i| timed_estimates(unit, targets[i], one(i)),
+                &mut |i| timed_estimates(router, targets[i], one(i)),
+                &mut |i| timed_estimates_on_areas(&mut areas, targets[i], one(i)),
+            ],
         );
         let of_all = measure(
             TRIPS,
-            [&mut |i| timed_estimates(unit, targets[i], all.clone()), &mut |i| {
-                timed_estimates(router, targets[i], all.clone())
-            }],
+            [
+                &mut |i| timed_estimates(unit, targets[i], all.clone()),
+                &mut |i| timed_estimates(router, targets[i], all.clone()),
+                &mut |i| timed_estimates_on_areas(&mut areas, targets[i], all.clone()),
+            ],
         );
-        self.line("one estimate after aim", of_one);
-        self.line("all n estimates after aim", of_all);
+        assert!(areas == *unit, "the areas differ");
+        self.line_with_areas("one estimate after aim", of_one);
+        self.line_with_areas("all n estimates after aim", of_all);
     }
 
     /// A thousand roads are set to the longest time and back, so that all is as it was.
@@ -181,12 +200,18 @@ impl Bench<'_> {
         let road = |_| self.random.below(self.map.m()) as u32;
         let roads: Vec<u32> = (0..1_000).map(road).collect();
         let base = self.map.base();
+        let mut areas = self.both.unit.clone();
         let Both { unit, router, .. } = &mut self.both;
         let times = measure(
             1,
-            [&mut |_| timed_sets(unit, &roads, &base), &mut |_| timed_sets(router, &roads, &base)],
+            [
+                &mut |_| timed_sets(|road, time| unit.set(road, time), &roads, &base),
+                &mut |_| timed_sets(|road, time| router.set(road, time), &roads, &base),
+                &mut |_| timed_sets(|road, time| areas::set(&mut areas, road, time), &roads, &base),
+            ],
         );
-        self.line("set", times.map(|time| time / 2_000.0));
+        assert!(areas == *unit, "the areas differ");
+        self.line_with_areas("set", times.map(|time| time / 2_000.0));
     }
 
     /// Trips with so many percent of the roads changed: right after an aim, so with no estimate known,
@@ -230,7 +255,7 @@ impl Bench<'_> {
             );
             let step = format!("{name}, {percent} % of roads changed");
             let go = Some(Go { dijkstra, free, count, settled });
-            self.lines.push(Line { step, proved, plain, go });
+            self.lines.push(Line { step, proved, plain, areas: None, go });
         }
     }
 }
@@ -249,13 +274,30 @@ fn timed_estimates(
     })
 }
 
-fn timed_sets(unit: &mut impl Calls, roads: &[u32], base: &[Time]) -> Duration {
+fn timed_estimates_on_areas(
+    unit: &mut Unit,
+    target: u32,
+    junctions: impl Iterator<Item = u32>,
+) -> Duration {
+    areas::aim(unit, target).expect("a junction");
+    timed(|| {
+        for junction in junctions {
+            black_box(areas::estimate(unit, junction)).expect("a target");
+        }
+    })
+}
+
+fn timed_sets(
+    mut set: impl FnMut(u32, Time) -> Result<(), Refusal>,
+    roads: &[u32],
+    base: &[Time],
+) -> Duration {
     timed(|| {
         for &road in roads {
-            unit.set(road, LONGEST).expect("an allowed time");
+            set(road, LONGEST).expect("an allowed time");
         }
         for &road in roads {
-            unit.set(road, base[road as usize]).expect("an allowed time");
+            set(road, base[road as usize]).expect("an allowed time");
         }
     })
 }
@@ -332,8 +374,12 @@ turn, and of each case the least of many runs counts. Made by
 
     rt check && rt staticlib unit_c && cargo run --release --offline --manifest-path rust/Cargo.toml --target-dir target/cargo --bin bench -- --write
 
-- **Rust**: the same step as one would write it in Rust (`rust/src/router.rs`), over structures of its own: adjacency lists, a list of the
-  lower ranks that a row has pairs with, a binary heap.
+- **Rust**: the same step as one would write it in Rust (`rust/src/router.rs`), over structures of its own, which document 01's areas have no
+  place for: where the pairs of each rank begin, adjacency lists, a list of the lower ranks that a row has pairs with, a binary heap.
+- **areas**: the same step in Rust over the areas of document 01 and nothing else (`rust/src/areas.rs`): records of four words in one
+  slice, where a bisection finds those of a rank; the order read from the card. With the arguments, the answer and the questions of the unit's
+  function: a header that goes in by value and comes back, so that a call waits for the one before; seven slices; question 9 on their
+  lengths. Of a `set`, which stores one word, that is nearly all; the methods under *Rust* are inlined and have none of it.
 - **Dijkstra**: Dijkstra's algorithm with a binary heap, which finds the total alone.
 - **A\\***: A\\* with each junction's least base total to the target handed to it free. It logs what the unit logs.
 - **go**: 20 trips between any two junctions, each right after an aim, so with no estimate known; **again**: the same trips once more.
@@ -355,22 +401,35 @@ impl Display for Report {
 
 impl Report {
     fn table(&self, f: &mut Formatter) -> fmt::Result {
-        let heads =
-            ["junctions", "step", "unit", "Rust", "ratio", "Dijkstra", "ratio", "A\\*", "ratio"];
-        row(f, &[&heads[..], &["settled"]].concat())?;
-        f.write_str("|--:|:--|--:|--:|--:|--:|--:|--:|--:|--:|\n")?;
+        let heads = [
+            "junctions",
+            "step",
+            "unit",
+            "Rust",
+            "ratio",
+            "areas",
+            "ratio",
+            "Dijkstra",
+            "ratio",
+            "A\\*",
+            "ratio",
+            "settled",
+        ];
+        row(f, &heads)?;
+        f.write_str("|--:|:--|--:|--:|--:|--:|--:|--:|--:|--:|--:|--:|\n")?;
         for town in &self.towns {
             for line in &town.lines {
                 let mut cells = vec![town.map.n().to_string(), line.step.clone()];
                 let beside = |time: f64| [digits(time), digits(line.proved / time)];
                 cells.push(digits(line.proved));
                 cells.extend(beside(line.plain));
+                cells.extend(line.areas.map_or([String::new(), String::new()], beside));
                 if let Some(go) = &line.go {
                     cells.extend(beside(go.dijkstra));
                     cells.extend(beside(go.free));
                     cells.push(format!("{:.0} : {:.0}", go.count, go.settled));
                 }
-                cells.resize(heads.len() + 1, String::new());
+                cells.resize(heads.len(), String::new());
                 row(f, &cells)?;
             }
         }

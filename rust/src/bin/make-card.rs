@@ -5,6 +5,7 @@ use harness::card;
 use harness::maps::Map;
 use harness::order::{self, MOST_PAIRS};
 use harness::{text, unit};
+use std::io::{self, Write};
 use std::path::{Path, PathBuf};
 use std::{env, fs, process};
 
@@ -40,9 +41,13 @@ fn make_card(text: &Path, card: &Path) -> Result<(), String> {
     let (roads, order) = map.rows();
     let mut bytes = vec![0; card::len(map.n(), map.m())];
     unit::write(&roads, &order, &mut bytes).map_err(|refusal| about(&told(refusal)))?;
+    if fs::canonicalize(card)
+        .is_ok_and(|card| fs::canonicalize(text).is_ok_and(|text| card == text))
+    {
+        return Err(about(&"the card would take the place of the text"));
+    }
     put(card, &bytes)?;
-    println!("{}", summary(&map));
-    Ok(())
+    say(&(summary(&map) + "\n"))
 }
 
 fn print_text(card: &Path) -> Result<(), String> {
@@ -50,12 +55,19 @@ fn print_text(card: &Path) -> Result<(), String> {
     let bytes = fs::read(card).map_err(|error| about(&error))?;
     unit::read(&bytes).map_err(|refusal| about(&told(refusal)))?;
     let (roads, order) = card::map(&bytes).map_err(|refusal| about(&told(refusal)))?;
-    print!("{}", text::print(&Map::of_rows(&roads, order)));
-    Ok(())
+    say(&text::print(&Map::of_rows(&roads, order)))
 }
 
-/// Writes a file whole or not at all.
+fn say(words: &str) -> Result<(), String> {
+    let said = io::stdout().write_all(words.as_bytes()).and_then(|()| io::stdout().flush());
+    said.map_err(|error| format!("standard output: {error}"))
+}
+
+/// Writes a file whole or not at all, in the place of one that was there, but of nothing else.
 fn put(path: &Path, bytes: &[u8]) -> Result<(), String> {
+    if fs::metadata(path).is_ok_and(|there| !there.is_file()) {
+        return Err(format!("{}: is there and is no file", path.display()));
+    }
     let mut part = path.as_os_str().to_owned();
     part.push(".part");
     let written = fs::write(&part, bytes).and_then(|()| fs::rename(&part, path));
@@ -66,10 +78,22 @@ fn put(path: &Path, bytes: &[u8]) -> Result<(), String> {
     })
 }
 
-/// A refusal, as the unit's driver reads it.
+/// A refusal of a card or of a map, in words.
 fn told(refusal: Refusal) -> String {
-    let place = refusal.place().map_or(String::new(), |place| format!(" {place}"));
-    format!("refused by question {}{place}", refusal.number())
+    let why = match refusal {
+        Refusal::Short => "it is shorter than 28 bytes".to_string(),
+        Refusal::Kinds => "it does not begin as a card does".to_string(),
+        Refusal::Starts => {
+            "it is longer or shorter than it says, or its parts lie elsewhere".to_string()
+        }
+        Refusal::Sizes => "it has too many roads, or too many junctions or none".to_string(),
+        Refusal::Road(road) => format!("road {road} has a wrong end or a time out of range"),
+        Refusal::Place(place) => {
+            format!("place {place} of the order, from 0, has a wrong junction or one that stands before")
+        }
+        _ => "by no question on a card".to_string(),
+    };
+    format!("refused by question {}: {why}", refusal.number())
 }
 
 /// The size of a map, and where it fits.

@@ -1,0 +1,150 @@
+/* Map P of document 01 through route_unit.h: prints cases P1 to P10, and ends with 0 only if all are as document 01 has them. */
+#include "route_unit.h"
+
+#include <stdbool.h>
+#include <stdio.h>
+#include <string.h>
+
+enum { N = 4, M = 5, PAIRS = 5, CARD = 28 + 12 * M + 4 * N, LENT = N + 2 };
+
+#define UNTOUCHED 2779096485u
+
+static const uint32_t ROADS[3 * M] = {0, 1, 10, 1, 3, 10, 0, 2, 15, 2, 3, 10, 3, 0, 20};
+static const uint32_t ORDER[N] = {1, 2, 0, 3};
+static const uint32_t WORDS[7] = {2, 1, 28, 60, 2, 88, 16};
+static const uint32_t RECORDS[4 * PAIRS] = {
+    0, 2, UNIT_NONE, 10, 0, 3, 10, UNIT_NONE, 1, 2, UNIT_NONE, 15, 1, 3, 10, UNIT_NONE, 2, 3, 20, 20,
+};
+
+static uint8_t card[CARD];
+static uint32_t ranks[N], pairs[4 * PAIRS], live[M], down[N], estimates[N], elapsed[N], route[LENT], entries[LENT];
+static UnitHeader header;
+static bool all_right = true;
+
+static bool same(const uint32_t *words, const uint32_t *wanted, size_t len) {
+    return len == 0 || memcmp(words, wanted, len * sizeof *words) == 0;
+}
+
+static bool filled(const uint32_t *words, size_t len, uint32_t with) {
+    for (size_t i = 0; i < len; i++) {
+        if (words[i] != with) {
+            return false;
+        }
+    }
+    return true;
+}
+
+static void fill(uint32_t *words, size_t len, uint32_t with) {
+    for (size_t i = 0; i < len; i++) {
+        words[i] = with;
+    }
+}
+
+static void told(const char *what, bool right) {
+    printf("%-64s %s\n", what, right ? "ok" : "WRONG");
+    all_right = all_right && right;
+}
+
+/* Keeps the header for the next call. The number of the refusal, or 0. */
+static uint32_t handed(UnitAnswer answer) {
+    header = answer.header;
+    return answer.question;
+}
+
+static uint32_t prepare(size_t room) {
+    fill(ranks, N, UNTOUCHED);
+    return handed(unit_prepare(card, CARD, ranks, N, pairs, 4 * room, live, M, down, N, estimates, N, elapsed, N));
+}
+
+static uint32_t set(uint32_t road, uint32_t time) {
+    return handed(unit_set(header, card, CARD, ranks, N, pairs, 4 * PAIRS, live, M, down, N, estimates, N, elapsed, N,
+        road, time));
+}
+
+static uint32_t aim(uint32_t junction) {
+    return handed(unit_aim(header, card, CARD, ranks, N, pairs, 4 * PAIRS, live, M, down, N, estimates, N, elapsed, N,
+        junction));
+}
+
+/* A prepared map P with a target. */
+static bool prepared_at(uint32_t target) {
+    return prepare(PAIRS) == 0 && aim(target) == 0 && header.aimed == 1 && header.target == target;
+}
+
+static bool estimated(uint32_t junction, uint64_t wanted) {
+    UnitAnswer answer = unit_estimate(header, card, CARD, ranks, N, pairs, 4 * PAIRS, live, M, down, N, estimates, N,
+        elapsed, N, junction);
+    return handed(answer) == 0 && answer.total == wanted && estimates[junction] == wanted;
+}
+
+/* A go: its answer, the roads and the log, and the rest of both areas untouched. */
+static bool gone(uint32_t start, uint32_t question, uint64_t total, uint32_t roads, const uint32_t *way, uint32_t count,
+    const uint32_t *log) {
+    fill(route, LENT, UNTOUCHED);
+    fill(entries, LENT, UNTOUCHED);
+    UnitAnswer answer = unit_go(header, card, CARD, ranks, N, pairs, 4 * PAIRS, live, M, down, N, estimates, N, elapsed, N,
+        route, LENT, entries, LENT, start);
+    return handed(answer) == question && answer.place == 0 && answer.total == total && answer.roads == roads &&
+        answer.count == count && same(route, way, roads) && filled(route + roads, LENT - roads, UNTOUCHED) &&
+        same(entries, log, count) && filled(entries + count, LENT - count, UNTOUCHED);
+}
+
+static bool writes_and_reads(void) {
+    uint32_t first = UNTOUCHED, second = UNTOUCHED, place = UNTOUCHED;
+    bool written = card_write(ROADS, 3 * M, ORDER, N, card, CARD, &place) == 0 && place == 0;
+    for (size_t i = 0; i < 7; i++) {
+        const uint8_t *word = card + 4 * i;
+        written = written && (word[0] | (uint32_t)word[1] << 8 | (uint32_t)word[2] << 16 | (uint32_t)word[3] << 24) == WORDS[i];
+    }
+    written = written && card_read(card, CARD, &first, &second) == 0 && first == N && second == M;
+    uint8_t bad[CARD];
+    memcpy(bad, card, CARD);
+    bad[28 + 12 + 4] = 9;
+    return written && card_read(bad, CARD, &first, &second) == 5 && first == 1 && second == 0 &&
+        card_read(bad, 27, &first, &second) == 1 && first == 0 && second == 0;
+}
+
+static bool p2(void) {
+    bool refused = prepare(PAIRS - 1) == 8 && header.n == 0 && header.m == 0 && header.pairs == 0 && header.aimed == 0 &&
+        filled(ranks, N, 0) && filled(pairs, 4 * (PAIRS - 1), 0) && filled(live, M, 0) && filled(down, N, 0) &&
+        filled(estimates, N, 0) && filled(elapsed, N, 0);
+    return refused && prepare(PAIRS) == 0 && header.n == N && header.m == M && header.pairs == PAIRS && header.aimed == 0;
+}
+
+static bool p9(void) {
+    return prepare(PAIRS) == 0 && set(0, 9) == 11 && live[0] == 10 && set(0, 10) == 0 && live[0] == 10 &&
+        set(0, 1000001) == 11 && live[0] == 10;
+}
+
+/* The program's example as one script: aim 3, est 0, go 0, set 1 closed, go 0, set 1 9. */
+static bool replayed(void) {
+    static const uint32_t script[18] = {1, 3, 0, 2, 0, 0, 3, 0, 0, 0, 1, UNIT_CLOSED, 3, 0, 0, 0, 1, 9};
+    static const uint64_t wanted[24] = {0, 0, 0, 0, 0, 20, 0, 0, 0, 20, 3, 2, 0, 0, 0, 0, 0, 25, 4, 2, 11, 0, 0, 0};
+    uint64_t out[24] = {0};
+    UnitAnswer answer = unit_replay(card, CARD, ranks, N, pairs, 4 * PAIRS, live, M, down, N, estimates, N, elapsed, N, route,
+        LENT, entries, LENT, script, 18, out, 24);
+    return handed(answer) == 0 && header.target == 3 && header.aimed == 1 && memcmp(out, wanted, sizeof out) == 0;
+}
+
+int main(void) {
+    static const uint32_t roads_01[] = {0, 1}, roads_23[] = {2, 3};
+    static const uint32_t log_3[] = {0, 1, 3}, log_4[] = {0, 1, 2, 3}, log_of_3[] = {3}, log_2[] = {0, 1};
+
+    told("card: written, 104 bytes; read, 4 junctions, 5 roads", writes_and_reads());
+    told("P1  the five records", prepare(PAIRS) == 0 && same(pairs, RECORDS, 4 * PAIRS));
+    told("P2  room for 4 pairs: 8, for 5: accepted", p2());
+    told("P3  target 3: estimates 20, 10, 10, 0",
+        prepared_at(3) && estimated(0, 20) && estimated(1, 10) && estimated(2, 10) && estimated(3, 0));
+    told("P4  target 1: estimate of 3 is 30", prepared_at(1) && estimated(3, 30));
+    told("P5  go 0 to 3: 20, log 0, 1, 3, roads 0, 1", prepared_at(3) && gone(0, 0, 20, 2, roads_01, 3, log_3));
+    told("P6  road 1 closed: 25, log 0, 1, 2, 3, roads 2, 3",
+        prepared_at(3) && set(1, UNIT_CLOSED) == 0 && gone(0, 0, 25, 2, roads_23, 4, log_4));
+    told("P7  road 1 at 15: 25, log 0, 1, 2, 3, roads 0, 1",
+        prepared_at(3) && set(1, 15) == 0 && gone(0, 0, 25, 2, roads_01, 4, log_4));
+    told("P8  start 3, target 3: 0, count 1, no roads", prepared_at(3) && gone(3, 0, 0, 0, NULL, 1, log_of_3));
+    told("P9  road 0 to 9: 11; to 10: taken; to 1,000,001: 11", p9());
+    told("P10 roads 1 and 2 closed: 15, count 2",
+        prepared_at(3) && set(1, UNIT_CLOSED) == 0 && set(2, UNIT_CLOSED) == 0 && gone(0, 15, 0, 0, NULL, 2, log_2));
+    told("replay: the program's example as one script", replayed());
+    return all_right ? 0 : 1;
+}

@@ -1,0 +1,151 @@
+/*
+ * The route unit for C and C++: reading and writing a card, preparing it, the four calls, and a script of calls.
+ *
+ * Link with libunit_c.a (`rt staticlib unit_c` leaves it in target/staticlib). Words as "none" and "question 9" are
+ * those of document 01; the contract of each function, for every input, stands at its namesake in crates/unit_c.
+ *
+ * Areas. A slice is a pointer and, right after it, its length in elements (bytes of a card, words of all others). Each
+ * pointer is aligned for its type, is not null even where the length is 0, and points at as many elements as the length
+ * says; what is lent to be written overlaps nothing else that is lent. That is all that a caller has to see to: whatever
+ * the elements, the header and the numbers are, each function returns, reads and writes nothing outside the lengths
+ * given, and writes only through pointers that are not const. No function keeps a pointer, has a state of its own or
+ * allocates.
+ *
+ * Stack. Nothing proves how deep it goes: an estimate may ask for 4,095 others, one within the other, and so may a go. On the
+ * deepest map that is tried, a line of 4,096 junctions in rank order, 2 MiB are enough for every function.
+ *
+ * Lengths. With n junctions and m roads: card 28 + 12 m + 4 n bytes; ranks, down, estimates, elapsed n words; live m words;
+ * pairs a multiple of 4 words, four for each pair there is to be room for, at most 262,144; route and log at least n words.
+ *
+ * Refusals, by the number of the question that is answered with no, in order:
+ *    1  card: at least 28 bytes?
+ *    2  card: 2 sections, of kinds 1 and 2?
+ *    3  card: do the bodies follow the table one after the other up to the card's end?
+ *    4  card: 0 to 16,384 roads of 12 bytes, 1 to 4,096 junctions of 4 bytes?
+ *    5  card: has each road two different ends below n and a base time from 1 to 1,000,000? With the first road that has not.
+ *    6  card: is each entry of the order below n and new? With the first place, from 0, where it is not.
+ *    7  prepare, write: has each area its length?
+ *    8  prepare: do all kept pairs fit? If not, every area is filled with 0.
+ *    9  calls: have the card and the six areas the lengths that the header calls for?
+ *   10  set: is the road below m?
+ *   11  set: is the time from the road's base time to 1,000,000, or closed?
+ *   12  aim, estimate, go: is the junction below n?
+ *   13  estimate, go: is there a target?
+ *   14  go: have route and log at least n words?
+ *   15  go: does a chain of open roads exist? If not: with the count; log, elapsed and estimates as the search leaves them.
+ * All but 8 and 15 leave every area as it was, and a refused call leaves the header as it was.
+ */
+#ifndef ROUTE_UNIT_H
+#define ROUTE_UNIT_H
+
+#include <stddef.h>
+#include <stdint.h>
+
+#ifdef __cplusplus
+extern "C" {
+#endif
+
+/* The marks that stand in the place of a time. */
+#define UNIT_NONE 4294967295u    /* there is no chain: pairs, down, estimates, elapsed, an estimate's answer */
+#define UNIT_CLOSED 4294967295u  /* the road is closed: live, the time of a set */
+#define UNIT_UNASKED 4294967294u /* not asked since the last aim: estimates */
+
+/*
+ * The header, which preparing makes and each call is handed and hands back. A caller keeps it and alters nothing in it: the words
+ * handed out stand for the header itself. Of other words, any aimed but 0 is taken as 1, and with aimed 0 the target is not read.
+ */
+typedef struct UnitHeader {
+    uint32_t n;      /* junctions */
+    uint32_t m;      /* roads */
+    uint32_t pairs;  /* kept pairs */
+    uint32_t aimed;  /* 1 if there is a target, 0 if not */
+    uint32_t target; /* the target, or 0 */
+} UnitHeader;
+
+/* What preparing and the calls hand back. What does not apply is 0. */
+typedef struct UnitAnswer {
+    UnitHeader header; /* for the next call */
+    uint32_t question; /* 0 if accepted, or the number of the refusal */
+    uint32_t place;    /* the road of 5, the place of 6 */
+    uint64_t total;    /* go: the total; estimate: the least base total, or UNIT_NONE */
+    uint32_t count;    /* go: how many junctions stand first in log, also with 15 */
+    uint32_t roads;    /* go: how many roads stand first in route */
+} UnitAnswer;
+
+/* The layout that the archive was built for; an array of -1 elements if a compiler has another. */
+typedef char UnitHeader_is_20_bytes[sizeof(UnitHeader) == 20 && offsetof(UnitHeader, target) == 16 ? 1 : -1];
+typedef char UnitAnswer_is_48_bytes[sizeof(UnitAnswer) == 48 && offsetof(UnitAnswer, question) == 20 &&
+    offsetof(UnitAnswer, place) == 24 && offsetof(UnitAnswer, total) == 32 && offsetof(UnitAnswer, count) == 40 &&
+    offsetof(UnitAnswer, roads) == 44 ? 1 : -1];
+
+/*
+ * Reads a card: questions 1 to 6. Returns 0 and writes n and m to *first and *second; or returns the refusal and writes
+ * the place of 5 and 6, else 0, to *first and 0 to *second.
+ */
+uint32_t card_read(const uint8_t *card, size_t card_len, uint32_t *first, uint32_t *second);
+
+/*
+ * Writes the card of a map into area: roads has tail, head and base time of each road in turn, order the junctions from
+ * lowest rank to highest, area 28 + 4 roads_len + 4 order_len bytes. Returns 0; or a refusal by 4 to 7, with area
+ * as it was. *place gets the place of 5 and 6, else 0.
+ */
+uint32_t card_write(const uint32_t *roads, size_t roads_len, const uint32_t *order, size_t order_len,
+    uint8_t *area, size_t area_len, uint32_t *place);
+
+/*
+ * Prepares a card on the six areas: questions 1 to 8. Fills ranks (by junction) and pairs (low rank, high rank, up time, down
+ * time; unused records are 0), sets each live time to its base time, down totals and elapsed to UNIT_NONE, estimates to
+ * UNIT_UNASKED. A refusal hands back a header of zeros.
+ */
+UnitAnswer unit_prepare(const uint8_t *card, size_t card_len, uint32_t *ranks, size_t ranks_len,
+    uint32_t *pairs, size_t pairs_len, uint32_t *live, size_t live_len, uint32_t *down, size_t down_len,
+    uint32_t *estimates, size_t estimates_len, uint32_t *elapsed, size_t elapsed_len);
+
+/*
+ * The four calls. They are handed the header that the last call handed back and the card and the six areas it belongs to. Where
+ * the lengths are right but these are not what a list of calls has left together, the answer is free, 9 included.
+ */
+
+/* Sets a road's live time: questions 9, 10, 11. Writes that entry of live alone. */
+UnitAnswer unit_set(UnitHeader header, const uint8_t *card, size_t card_len, const uint32_t *ranks, size_t ranks_len,
+    const uint32_t *pairs, size_t pairs_len, uint32_t *live, size_t live_len, const uint32_t *down, size_t down_len,
+    const uint32_t *estimates, size_t estimates_len, const uint32_t *elapsed, size_t elapsed_len,
+    uint32_t road, uint32_t time);
+
+/* Aims at a junction, the new target: questions 9, 12. Writes down and estimates, which become unasked. */
+UnitAnswer unit_aim(UnitHeader header, const uint8_t *card, size_t card_len, const uint32_t *ranks, size_t ranks_len,
+    const uint32_t *pairs, size_t pairs_len, const uint32_t *live, size_t live_len, uint32_t *down, size_t down_len,
+    uint32_t *estimates, size_t estimates_len, const uint32_t *elapsed, size_t elapsed_len, uint32_t junction);
+
+/* A junction's least base total to the target: questions 9, 12, 13. Writes estimates: this one and those it asks for. */
+UnitAnswer unit_estimate(UnitHeader header, const uint8_t *card, size_t card_len, const uint32_t *ranks, size_t ranks_len,
+    const uint32_t *pairs, size_t pairs_len, const uint32_t *live, size_t live_len, const uint32_t *down, size_t down_len,
+    uint32_t *estimates, size_t estimates_len, const uint32_t *elapsed, size_t elapsed_len, uint32_t junction);
+
+/*
+ * The quickest way over open roads at their live times, from a start to the target: questions 9, 12, 13, 14, 15. Roads
+ * and logged junctions stand first in route and log; the rest of both is as it was, with 15 all of route. Writes estimates
+ * and elapsed too.
+ */
+UnitAnswer unit_go(UnitHeader header, const uint8_t *card, size_t card_len, const uint32_t *ranks, size_t ranks_len,
+    const uint32_t *pairs, size_t pairs_len, const uint32_t *live, size_t live_len, const uint32_t *down, size_t down_len,
+    uint32_t *estimates, size_t estimates_len, uint32_t *elapsed, size_t elapsed_len, uint32_t *route, size_t route_len,
+    uint32_t *log, size_t log_len, uint32_t start);
+
+/*
+ * Prepares a card and makes a list of calls. A call is three words of script: 0, road, time for set; 1, junction and any word for
+ * aim; 2, junction and any word for estimate; any other word, start and any word for go. Its answer is four words of out: the
+ * refusal or 0; estimate or total; count; number of roads. As many calls are made as there are three words in script and four
+ * in out; the rest of out is as it was. Each go writes into the same route and log. What is handed back is preparing's answer, with
+ * the header after the last call. After a refused preparing the calls are made all the same, on its header of zeros.
+ */
+UnitAnswer unit_replay(const uint8_t *card, size_t card_len, uint32_t *ranks, size_t ranks_len,
+    uint32_t *pairs, size_t pairs_len, uint32_t *live, size_t live_len, uint32_t *down, size_t down_len,
+    uint32_t *estimates, size_t estimates_len, uint32_t *elapsed, size_t elapsed_len, uint32_t *route, size_t route_len,
+    uint32_t *log, size_t log_len, const uint32_t *script, size_t script_len, uint64_t *out, size_t out_len);
+
+#ifdef __cplusplus
+}
+#endif
+
+#endif

@@ -1,0 +1,219 @@
+//! Aim, estimate and set in plain Rust over the areas that document 01 names, and nothing else: records of
+//! four words in one slice, with no place for where each rank's begin. Each is a function with the arguments,
+//! the answer and the questions of its export: a header by value that is handed back, and seven slices.
+#![allow(improper_ctypes_definitions, clippy::too_many_arguments)]
+
+use crate::calls::Refusal;
+use crate::card::{self, LONGEST, MOST_JUNCTIONS, MOST_ROADS};
+use crate::order::MOST_PAIRS;
+use crate::time::{add, Time, CLOSED, NONE, UNASKED};
+use crate::unit::{Header, Returned, Unit};
+
+/// Lends a unit's areas to a function.
+macro_rules! lend {
+    ($function:ident($unit:ident, $live:expr, $down:expr, $estimates:expr, $($last:ident),+)) => {{
+        let (header, elapsed) = ($unit.header, &$unit.elapsed);
+        let returned = $function(
+            header, &$unit.card, &$unit.ranks, &$unit.pairs, $live, $down, $estimates, elapsed, $($last),+
+        );
+        $unit.hand_back(returned)
+    }};
+}
+
+pub fn aim(unit: &mut Unit, target: u32) -> Result<(), Refusal> {
+    lend!(aim_on(unit, &unit.live, &mut unit.down, &mut unit.estimates, target))?.done()
+}
+
+pub fn estimate(unit: &mut Unit, junction: u32) -> Result<Time, Refusal> {
+    lend!(estimate_on(unit, &unit.live, &unit.down, &mut unit.estimates, junction))?.estimate()
+}
+
+pub fn set(unit: &mut Unit, road: u32, time: Time) -> Result<(), Refusal> {
+    lend!(set_on(unit, &mut unit.live, &unit.down, &unit.estimates, road, time))?.done()
+}
+
+fn answer(header: Header, question: u32) -> Returned {
+    Returned { header, question, ..Returned::default() }
+}
+
+/// Question 9.
+fn fits(header: Header, card: &[u8], pairs: &[u32], live: &[Time], others: [&[u32]; 4]) -> bool {
+    let (n, m) = (header.n as usize, header.m as usize);
+    n <= MOST_JUNCTIONS
+        && m <= MOST_ROADS
+        && card.len() == card::len(n, m)
+        && live.len() == m
+        && others.iter().all(|area| area.len() == n)
+        && pairs.len().is_multiple_of(4)
+        && (4 * header.pairs as usize..=4 * MOST_PAIRS).contains(&pairs.len())
+}
+
+/// The order of a card, from lowest rank to highest.
+fn order(card: &[u8], header: Header) -> &[[u8; 4]] {
+    card[card::len(0, header.m as usize)..].as_chunks().0
+}
+
+fn records(pairs: &[u32], header: Header) -> &[[u32; 4]] {
+    &pairs.as_chunks().0[..header.pairs as usize]
+}
+
+fn junction_at(order: &[[u8; 4]], rank: u32) -> usize {
+    u32::from_le_bytes(order[rank as usize]) as usize
+}
+
+/// The records of a rank's pairs with higher ones, and all after them.
+fn from(records: &[[u32; 4]], rank: u32) -> &[[u32; 4]] {
+    &records[records.partition_point(|record| record[0] < rank)..]
+}
+
+#[inline(never)]
+extern "C" fn aim_on(
+    header: Header,
+    card: &[u8],
+    ranks: &[u32],
+    pairs: &[u32],
+    live: &[Time],
+    down: &mut [Time],
+    estimates: &mut [Time],
+    elapsed: &[Time],
+    target: u32,
+) -> Returned {
+    if !fits(header, card, pairs, live, [ranks, down, estimates, elapsed]) {
+        return answer(header, 9);
+    }
+    if target >= header.n {
+        return answer(header, 12);
+    }
+    let order = order(card, header);
+    down.fill(NONE);
+    down[target as usize] = 0;
+    for &[low, high, _, time] in from(records(pairs, header), ranks[target as usize]) {
+        let below = down[junction_at(order, low)];
+        let total = &mut down[junction_at(order, high)];
+        *total = add(time, below).min(*total);
+    }
+    estimates.fill(UNASKED);
+    answer(Header { aimed: 1, target, ..header }, 0)
+}
+
+#[inline(never)]
+extern "C" fn estimate_on(
+    header: Header,
+    card: &[u8],
+    ranks: &[u32],
+    pairs: &[u32],
+    live: &[Time],
+    down: &[Time],
+    estimates: &mut [Time],
+    elapsed: &[Time],
+    junction: u32,
+) -> Returned {
+    if !fits(header, card, pairs, live, [ranks, down, estimates, elapsed]) {
+        return answer(header, 9);
+    }
+    if junction >= header.n {
+        return answer(header, 12);
+    }
+    if header.aimed == 0 {
+        return answer(header, 13);
+    }
+    let (order, records) = (order(card, header), records(pairs, header));
+    let prepared = Prepared { order, ranks, records, down };
+    let total = prepared.estimate(estimates, junction as usize);
+    Returned { total: total.into(), ..answer(header, 0) }
+}
+
+/// What an estimate reads.
+struct Prepared<'a> {
+    order: &'a [[u8; 4]],
+    ranks: &'a [u32],
+    records: &'a [[u32; 4]],
+    down: &'a [Time],
+}
+
+impl Prepared<'_> {
+    fn estimate(&self, estimates: &mut [Time], at: usize) -> Time {
+        if estimates[at] != UNASKED {
+            return estimates[at];
+        }
+        let rank = self.ranks[at];
+        let mut least = self.down[at];
+        for &[low, high, up, _] in from(self.records, rank) {
+            if low != rank {
+                break;
+            }
+            if up != NONE {
+                let above = self.estimate(estimates, junction_at(self.order, high));
+                least = add(up, above).min(least);
+            }
+        }
+        estimates[at] = least;
+        least
+    }
+}
+
+#[inline(never)]
+extern "C" fn set_on(
+    header: Header,
+    card: &[u8],
+    ranks: &[u32],
+    pairs: &[u32],
+    live: &mut [Time],
+    down: &[Time],
+    estimates: &[Time],
+    elapsed: &[Time],
+    road: u32,
+    time: Time,
+) -> Returned {
+    if !fits(header, card, pairs, live, [ranks, down, estimates, elapsed]) {
+        return answer(header, 9);
+    }
+    if road >= header.m {
+        return answer(header, 10);
+    }
+    let words = card[card::len(0, 0)..].as_chunks().0;
+    let base = u32::from_le_bytes(words[3 * road as usize + 2]);
+    if time != CLOSED && !(base..=LONGEST).contains(&time) {
+        return answer(header, 11);
+    }
+    live[road as usize] = time;
+    answer(header, 0)
+}
+
+#[cfg(test)]
+mod tests {
+    use super::*;
+    use crate::both::Both;
+    use crate::calls::Calls;
+    use crate::maps::{self, Streets};
+    use crate::order;
+    use crate::random::Random;
+
+    /// Answers and areas are the proved unit's.
+    #[test]
+    fn as_the_unit() {
+        let mut random = Random::new(1);
+        let mut maps: Vec<_> = (0..200).map(|_| maps::small(&mut random)).collect();
+        maps.push(maps::town(&mut random, 20, 25, Streets::USUAL));
+        for map in maps {
+            let mut unit = Both::prepare(&map, order::pairs(&map)).unwrap().unit;
+            let mut plain = unit.clone();
+            for _ in 0..20 {
+                let [target, asked] = [(); 2].map(|()| random.below(map.n() + 1) as u32);
+                let road = random.below(map.m() + 1) as u32;
+                let time = random.pick(&[1, 5, 60, LONGEST, LONGEST + 1, CLOSED]);
+                if random.chance(10) {
+                    let (which, len) = (random.below(6), random.below(60));
+                    unit.areas_mut()[which].resize(len);
+                    plain.areas_mut()[which].resize(len);
+                }
+                if random.chance(50) {
+                    assert_eq!(unit.aim(target), aim(&mut plain, target));
+                }
+                assert_eq!(unit.estimate(asked), estimate(&mut plain, asked));
+                assert_eq!(unit.set(road, time), set(&mut plain, road, time));
+                assert!(unit == plain, "the areas differ");
+            }
+        }
+    }
+}

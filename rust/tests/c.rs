@@ -1,0 +1,182 @@
+//! The header file for C: it declares what `crates/unit_c` exports, C and C++ take it, and a C program that
+//! includes it drives map P.
+
+use std::path::{Path, PathBuf};
+use std::process::{Command, Output};
+use std::{env, fs, process, str};
+
+const WARNINGS: [&str; 4] = ["-Wall", "-Wextra", "-pedantic", "-Werror"];
+
+fn root() -> PathBuf {
+    Path::new(env!("CARGO_MANIFEST_DIR")).join("..")
+}
+
+fn read(path: &str) -> String {
+    fs::read_to_string(root().join(path)).unwrap()
+}
+
+fn told(bytes: &[u8]) -> &str {
+    str::from_utf8(bytes).unwrap()
+}
+
+/// A text between two others, and what follows the second.
+fn between<'a>(text: &'a str, from: &str, to: &str) -> Option<(&'a str, &'a str)> {
+    text.split_once(from)?.1.split_once(to)
+}
+
+/// The text with one space for each row of spaces and newlines.
+fn spaced(text: &str) -> String {
+    text.split_whitespace().collect::<Vec<_>>().join(" ").replace("( ", "(").replace(" )", ")")
+}
+
+/// A parameter or a field of an export, as C declares it.
+fn declared(item: &str) -> String {
+    let (name, kind) = item.trim().trim_start_matches("pub ").split_once(": ").unwrap();
+    let number = |kind: &str| match kind {
+        "u8" | "u32" | "u64" => format!("uint{}_t", &kind[1..]),
+        other => other.to_string(),
+    };
+    let slice = |kind: &str| kind.strip_suffix(']').map(number);
+    if let Some(kind) = kind.strip_prefix("&mut [").and_then(slice) {
+        return format!("{kind} *{name}, size_t {name}_len");
+    }
+    if let Some(kind) = kind.strip_prefix("&[").and_then(slice) {
+        return format!("const {kind} *{name}, size_t {name}_len");
+    }
+    match kind.strip_prefix("&mut ") {
+        Some(kind) => format!("{} *{name}", number(kind)),
+        None => format!("{} {name}", number(kind)),
+    }
+}
+
+fn items<'a>(list: &'a str) -> impl Iterator<Item = String> + 'a {
+    list.split(',').filter(|item| !item.trim().is_empty()).map(declared)
+}
+
+/// The structs and functions of `unit_c`, as C declares them.
+fn exports() -> Vec<String> {
+    let code = read("crates/unit_c/src/lib.rt");
+    let mut declarations = Vec::new();
+    let mut rest = &code[..];
+    while let Some((structure, after)) = between(rest, "#[repr(C)]\npub struct ", "\n}") {
+        let (name, fields) = structure.split_once(" {").unwrap();
+        let fields: Vec<String> = items(fields).map(|field| field + ";").collect();
+        declarations.push(format!("typedef struct {name} {{ {} }} {name}", fields.join(" ")));
+        rest = after;
+    }
+    rest = &code;
+    while let Some((function, after)) = between(rest, "pub extern \"C\" fn ", "\n    ensures") {
+        let (name, rest_of_it) = function.split_once('(').unwrap();
+        let (parameters, result) = rest_of_it.rsplit_once(") -> ").unwrap();
+        let parameters: Vec<String> = items(parameters).collect();
+        let result = declared(&format!("{name}: {result}"));
+        declarations.push(format!("{result}({})", parameters.join(", ")));
+        rest = after;
+    }
+    declarations
+}
+
+/// The declarations of the header file, but for those that say what layout a struct has.
+fn declarations() -> Vec<String> {
+    let mut header = read("c/route_unit.h");
+    while let Some((before, rest)) = header.split_once("/*") {
+        header = format!("{before}{}", rest.split_once("*/").unwrap().1);
+    }
+    let lines =
+        header.lines().filter(|line| !line.starts_with('#') && !line.contains("extern \"C\""));
+    let text = lines.collect::<Vec<_>>().join("\n");
+    let mut declarations = Vec::new();
+    let mut begun = String::new();
+    for piece in text.split_inclusive(';') {
+        begun.push_str(piece);
+        if begun.matches('{').count() == begun.matches('}').count() {
+            declarations.push(spaced(begun.trim_end_matches(';')));
+            begun.clear();
+        }
+    }
+    declarations.retain(|declaration| !declaration.contains("sizeof"));
+    declarations
+}
+
+#[test]
+fn header_declares_the_exports() {
+    let exports = exports();
+    assert_eq!(exports.len(), 2 + 8);
+    assert_eq!(declarations(), exports, "c/route_unit.h (left), crates/unit_c (right)");
+}
+
+/// Taken by C, and by C++ if this machine has a compiler for it.
+#[test]
+fn header_is_taken() {
+    for (compiler, language, standard) in [
+        ("cc", "c", "-std=c99"),
+        ("cc", "c", "-std=c11"),
+        ("c++", "c++", "-std=c++98"),
+        ("c++", "c++", "-std=c++17"),
+    ] {
+        let mut command = Command::new(compiler);
+        command.args([standard, "-fsyntax-only", "-x", language]).args(WARNINGS);
+        match command.arg(root().join("c/route_unit.h")).output() {
+            Ok(output) => assert!(output.status.success(), "{}", told(&output.stderr)),
+            Err(error) if compiler == "c++" => eprintln!("c++ is not tried: {error}"),
+            Err(error) => panic!("{compiler}: {error}"),
+        }
+    }
+}
+
+/// Compiles a C program against the header and the archive, and runs it.
+fn run(name: &str, program: &str) -> Output {
+    let folder = env::temp_dir().join(format!("map_p-{}-{name}", process::id()));
+    fs::create_dir_all(&folder).unwrap();
+    let (source, binary) = (folder.join("map_p.c"), folder.join("map_p"));
+    fs::write(&source, program).unwrap();
+    let mut compile = Command::new("cc");
+    compile.args(["-std=c99", "-O2"]).args(WARNINGS).arg("-I").arg(root().join("c"));
+    compile.arg(source).arg(root().join("target/staticlib/libunit_c.a")).arg("-o").arg(&binary);
+    let compiled = compile.output().unwrap();
+    assert!(compiled.status.success(), "{}", told(&compiled.stderr));
+    let output = Command::new(binary).output().unwrap();
+    fs::remove_dir_all(folder).unwrap();
+    output
+}
+
+#[test]
+fn map_p() {
+    let output = run("right", &read("c/map_p.c"));
+    let said = told(&output.stdout);
+    assert_eq!(output.status.code(), Some(0), "{said}");
+    assert_eq!((said.matches(" ok\n").count(), said.lines().count()), (12, 12), "{said}");
+    for case in 1..=10 {
+        assert!(said.contains(&format!("P{case} ")), "{said}");
+    }
+}
+
+/// The C program sees an answer that is not the one it waits for, in each case.
+#[test]
+fn map_p_with_another_answer() {
+    let program = read("c/map_p.c");
+    for (i, (case, old, new)) in [
+        ("card", "2, 1, 28, 60,", "2, 1, 28, 61,"),
+        ("P1 ", "2, 3, 20, 20,", "2, 3, 20, 21,"),
+        ("P2 ", "header.pairs == PAIRS ", "header.pairs == M - 1 "),
+        ("P3 ", "estimated(1, 10)", "estimated(1, 11)"),
+        ("P4 ", "estimated(3, 30)", "estimated(3, 20)"),
+        ("P5 ", "gone(0, 0, 20, 2, roads_01, 3,", "gone(0, 0, 20, 2, roads_01, 2,"),
+        ("P6 ", "gone(0, 0, 25, 2, roads_23,", "gone(0, 0, 24, 2, roads_23,"),
+        ("P7 ", "gone(0, 0, 25, 2, roads_01,", "gone(0, 0, 25, 2, roads_23,"),
+        ("P8 ", "log_of_3[] = {3}", "log_of_3[] = {0}"),
+        ("P9 ", "set(0, 1000001) == 11", "set(0, 1000001) == 0"),
+        ("P10 ", "gone(0, 15,", "gone(0, 0,"),
+        ("replay", "25, 4, 2, 11,", "25, 4, 2, 12,"),
+    ]
+    .into_iter()
+    .enumerate()
+    {
+        assert_eq!(program.matches(old).count(), 1, "{old}");
+        let output = run(&format!("{i}"), &program.replace(old, new));
+        let said = told(&output.stdout);
+        assert_eq!(output.status.code(), Some(1), "{said}");
+        let wrong: Vec<&str> = said.lines().filter(|line| line.ends_with("WRONG")).collect();
+        assert!(wrong.len() == 1 && wrong[0].starts_with(case), "{case}: {said}");
+    }
+}
