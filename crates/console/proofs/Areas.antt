@@ -1,8 +1,8 @@
 -- Text after text in an area. Assumes nothing.
 use mathlib.Core.Path.{_∙_, _≡_, ap, refl, subst, sym}
 use mathlib.Core.List.{List, [], _++_, _∷_, append-assoc, append-nil}
-use Prim.Native.Nat.{_%_, _+_, _-_, _/_, _<_, _^_, _≤_, min, suc, zero, ℕ}
-use lib.ListN.{drop, getD, length, length-append, set, take}
+use Prim.Native.Nat.{_%_, _+_, _-_, _/_, _<_, _^_, _≤_, suc, ℕ}
+use lib.ListN.{getD, length, length-append, set, take}
 use lib.Seq.{take-all, take-nil, take-suc}
 use native.Mathlib.Nat.{le-of-suc-le-suc}
 use native.Mathlib.Numerals.{add-one}
@@ -50,9 +50,9 @@ module _ (b : ℕ) (a : List ℕ) (at : ℕ) where
       go : (o t : List ℕ) → Written o t a at → Written o (t ++ (b ∷ [])) (set a at b) (at + 1)
       go o t w =
           let k : length a ≡ length o = ap length (w .area) ∙ shown-length t o in
-          let q : at ≡ length t = omega (arith, w .end) in
+          let q : at ≡ length t = omega (arith, w .count) in
           let p : set a at b ≡ set (shown t o) (length t) b = rw (q, w .area) in
-          record { area = p ∙ shown-more t o b (omega (arith, w .end)); end = omega (arith, w .end, length-append t (b ∷ [])) }
+          record { area = p ∙ shown-more t o b (omega (arith, w .count)); count = omega (arith, w .count, length-append t (b ∷ [])) }
 
   pub byte-lost : length a ≤ at → Puts (b ∷ []) a at a at
   byte-lost h = record { then = go }
@@ -60,7 +60,7 @@ module _ (b : ℕ) (a : List ℕ) (at : ℕ) where
       go : (o t : List ℕ) → Written o t a at → Written o (t ++ (b ∷ [])) a at
       go o t w =
           let k : length a ≡ length o = ap length (w .area) ∙ shown-length t o in
-          record { area = w .area ∙ shown-same t o b (omega (arith, w .end)); end = omega (arith, w .end, length-append t (b ∷ [])) }
+          record { area = w .area ∙ shown-same t o b (omega (arith, w .count)); count = omega (arith, w .count, length-append t (b ∷ [])) }
 
 -- ---- text after text
 
@@ -75,7 +75,7 @@ puts-as e p = rw (← e) p
 
 -- at the start nothing is written
 pub puts-start : {s a z : List ℕ} {r : ℕ} → Puts s a 0 z r → Written a s z r
-puts-start {a = a} p = p .then a [] (record { area = sym (shown-none a); end = omega arith })
+puts-start {a = a} p = p .then a [] (record { area = sym (shown-none a); count = omega arith })
 
 -- ---- the loops
 

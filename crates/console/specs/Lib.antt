@@ -1,4 +1,7 @@
+pub mod Ascii
 pub mod Lines
 pub mod Texts
 pub mod Decimals
+pub mod Grammar
 pub mod Bounds
+pub mod Examples

@@ -8,6 +8,7 @@ use lib.ListN.{drop, length, take}
 use Rattle.bytes.specs.Bytes.{indexOf}
 use Rattle.model.specs.Word.{noneWord}
 use Rattle.unit.specs.declared.Call.the-variants.{Aim, Estimate, Go, Set}
+use Rattle.console.specs.Ascii.{ascii}
 use Rattle.console.specs.declared.Number.{Number}
 use Rattle.console.specs.declared.Number.the-variants.{NotOne, Value}
 use Rattle.console.specs.declared.Line.{Line}
@@ -50,26 +51,14 @@ beforeSpace s = take (indexOf 32 s) s
 unfoldable pub afterSpace : List ℕ → List ℕ
 afterSpace s = drop (indexOf 32 s + 1) s
 
-abbrev pub aimWord : List ℕ
-aimWord = 97 ∷ 105 ∷ 109 ∷ []
-
-abbrev pub estWord : List ℕ
-estWord = 101 ∷ 115 ∷ 116 ∷ []
-
-abbrev pub goWord : List ℕ
-goWord = 103 ∷ 111 ∷ []
-
-abbrev pub setWord : List ℕ
-setWord = 115 ∷ 101 ∷ 116 ∷ []
-
 -- ---- a line
 
 -- `aim`, `est` and `go` have one number
 unfoldable pub callOf : (word : List ℕ) → ℕ → Line
 callOf w v =
-    cond (same w aimWord) (Call (Aim (record { 0 = v })))
-    (cond (same w estWord) (Call (Estimate (record { 0 = v })))
-    (cond (same w goWord) (Call (Go (record { 0 = v }))) Unreadable))
+    cond (same w (ascii "aim")) (Call (Aim (record { 0 = v })))
+    (cond (same w (ascii "est")) (Call (Estimate (record { 0 = v })))
+    (cond (same w (ascii "go")) (Call (Go (record { 0 = v }))) Unreadable))
 
 abbrev pub one : (ℕ → Line) → Number → Line
 one call (Value v) = call v
@@ -84,6 +73,6 @@ two NotOne t = Unreadable
 -- "a call's word and its numbers, one space before each"
 unfoldable pub lineOf : List ℕ → Line
 lineOf s =
-    cond (same (beforeSpace s) setWord)
+    cond (same (beforeSpace s) (ascii "set"))
     (two (numberOf (beforeSpace (afterSpace s))) (numberOf (afterSpace (afterSpace s))))
     (one (callOf (beforeSpace s)) (numberOf (afterSpace s)))

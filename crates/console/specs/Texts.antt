@@ -11,7 +11,7 @@ use Rattle.model.specs.Types.{Accepted, Answer, Estimated, Gone, Refusal, Refus
 use Rattle.model.specs.Word.{ofWord}
 use Rattle.model.specs.Card.{question}
 use Rattle.network.specs.Refusals.{placeOf}
-use Rattle.console.specs.Lines.{estWord, goWord}
+use Rattle.console.specs.Ascii.{ascii}
 
 -- ---- decimal digits
 
@@ -32,19 +32,9 @@ spaced (n ∷ l) = 32 ∷ (decimal n ++ spaced l)
 
 -- ---- the text of an answer
 
-abbrev pub okWord : List ℕ
-okWord = 111 ∷ 107 ∷ []
-
-abbrev pub noWord : List ℕ
-noWord = 110 ∷ 111 ∷ []
-
--- " none"
-abbrev pub noneText : List ℕ
-noneText = 32 ∷ 110 ∷ 111 ∷ 110 ∷ 101 ∷ []
-
 -- "a missing estimate is `est none`"
 abbrev pub totalText : Total → List ℕ
-totalText none = noneText
+totalText none = ascii " none"
 totalText (some t) = spaced (t ∷ [])
 
 abbrev pub timeText : (word : ℕ) → List ℕ
@@ -56,26 +46,29 @@ placesOf q = cond (eqb (question q) 5) (placeOf q ∷ []) (cond (eqb (question q
 
 -- "a refusal is `no` and its number"
 abbrev pub refusalText : Refusal → List ℕ
-refusalText q = noWord ++ spaced (question q ∷ placesOf q)
+refusalText q = ascii "no" ++ spaced (question q ∷ placesOf q)
 
 -- "`go` gives total, count, roads"
 abbrev pub tripText : (total count : ℕ) (roads : List ℕ) → List ℕ
-tripText total count roads = goWord ++ spaced (total ∷ count ∷ roads)
+tripText total count roads = ascii "go" ++ spaced (total ∷ count ∷ roads)
 
 -- an answer without the end of its line; a go's roads are the first k words of the route area
 abbrev pub worded : Answer → (route : List ℕ) → List ℕ
 worded (Refused q) route = refusalText q
-worded Accepted route = okWord
-worded (Estimated w) route = estWord ++ timeText w
+worded Accepted route = ascii "ok"
+worded (Estimated w) route = ascii "est" ++ timeText w
 worded (Gone total count k) route = tripText total count (take k route)
+
+abbrev pub newline : List ℕ
+newline = 10 ∷ []
 
 -- the line of an answer, with its newline
 abbrev pub answerText : Answer → (route : List ℕ) → List ℕ
-answerText a route = worded a route ++ (10 ∷ [])
+answerText a route = worded a route ++ newline
 
 -- "an unreadable line prints `no 0`"
 abbrev pub unreadableText : List ℕ
-unreadableText = noWord ++ spaced (0 ∷ []) ++ (10 ∷ [])
+unreadableText = ascii "no 0" ++ newline
 
 -- ---- in an area
 
@@ -83,11 +76,11 @@ unreadableText = noWord ++ spaced (0 ∷ []) ++ (10 ∷ [])
 unfoldable pub shown : (text area : List ℕ) → List ℕ
 shown text area = take (length area) text ++ drop (length text) area
 
--- the text t, as much of it as fits, stands first in the area, which was o and is a; `at` is the place after it
-pub record Written (o t a : List ℕ) (at : ℕ) : Type 0 where
-  pub area : a ≡ shown t o
-  pub end : at ≡ min (length t) (length o)
+-- The area, which was `before`, shows the text, as much of it as fits; `end` bytes of it.
+pub record Written (before text after : List ℕ) (end : ℕ) : Type 0 where
+  pub area : after ≡ shown text before
+  pub count : end ≡ min (length text) (length before)
 
--- what was written is followed by s: of the area a and the place `at` the area z and the place r are made
-pub record Puts (s a : List ℕ) (at : ℕ) (z : List ℕ) (r : ℕ) : Type 0 where
-  pub then : (o t : List ℕ) → Written o t a at → Written o (t ++ s) z r
+-- text is followed by s: from the area a, written up to `at`, the area z is made, written up to `end`
+pub record Puts (s a : List ℕ) (at : ℕ) (z : List ℕ) (end : ℕ) : Type 0 where
+  pub then : (o t : List ℕ) → Written o t a at → Written o (t ++ s) z end

@@ -1,12 +1,13 @@
 // Lines of the program: a line of input as a call, an answer as a line of text.
 ghost use mathlib.Core.Path.{_≡_};
 ghost use mathlib.Core.List.{[], _∷_};
-ghost use Prim.Native.Nat.{_+_, _<_, min};
+ghost use Prim.Native.Nat.{_+_, _<_, _≤_};
 ghost use lib.ListN.{length, take};
+ghost use Rattle.bytes.specs.Bytes.{indexOf};
 ghost use Rattle.unit.specs.Shape.{answerIn};
 ghost use Rattle.network.specs.Refusals.{refusalIn};
 ghost use Rattle.console.specs.Lines.{afterSpace, beforeSpace, callOf, lineOf, numberOf, one, same, two};
-ghost use Rattle.console.specs.Texts.{Puts, answerText, decimal, refusalText, shown, spaced, timeText, tripText, unreadableText, worded};
+ghost use Rattle.console.specs.Texts.{Puts, Written, answerText, decimal, refusalText, spaced, timeText, tripText, unreadableText, worded};
 use network::Junction;
 use network::Refusal;
 use network::Time;
@@ -22,7 +23,7 @@ pub enum Line {
 }
 
 // What a part of a line spells.
-pub enum Number {
+enum Number {
     Value(u32),
     NotOne,
 }
@@ -79,11 +80,18 @@ fn same_bytes(a: &[u8], b: &[u8]) -> bool
     true
 }
 
+// Where the first space stands; the length where there is none.
+fn space_in(s: &[u8]) -> usize
+    ensures { λ r. ⌜ (r ≡ indexOf 32 (now (s .entry))) × (r ≤ length (now (s .entry))) ⌝ }
+{
+    bytes::scan::find(s, 0, s.len(), 32)
+}
+
 // The part before the first space; all of it where there is none.
 fn before_space(s: &[u8]) -> &[u8]
     ensures { λ r. ⌜ now r ≡ beforeSpace (now (s .entry)) ⌝ }
 {
-    let i = bytes::scan::find(s, 0, s.len(), 32);
+    let i = space_in(s);
     &s[0..i]
 }
 
@@ -91,7 +99,7 @@ fn before_space(s: &[u8]) -> &[u8]
 fn after_space(s: &[u8]) -> &[u8]
     ensures { λ r. ⌜ now r ≡ afterSpace (now (s .entry)) ⌝ }
 {
-    let i = bytes::scan::find(s, 0, s.len(), 32);
+    let i = space_in(s);
     let end = s.len();
     if i < end {
         return &s[i + 1..end];
@@ -131,7 +139,7 @@ fn read_set(road: Number, time: Number) -> Line
 {
     match road {
         Number::Value(i) => match time {
-            Number::Value(t) => Line::Call(Call::Set(i, Time(t))),
+            Number::Value(t) => Line::Call(Call::Set(i, Time::of_word(t))),
             Number::NotOne => Line::Unreadable,
         },
         Number::NotOne => Line::Unreadable,
@@ -284,14 +292,19 @@ fn put_answer(answer: Answer, route: &[u32], out: &mut [u8]) -> usize
             let word = put(b"est", out, 0);
             put_time(t, out, word)
         }
-        Answer::Gone(total, count, roads) => put_trip(total, count, first_roads(route, roads), out, 0),
+        Answer::Gone(total, count, roads) => put_trip(
+            total,
+            count,
+            first_roads(route, roads),
+            out,
+            0,
+        ),
     }
 }
 
 // Writes an answer's line: as much of it as fits stands first in `out`, the rest of which is untouched. Answers the number of bytes written.
 pub fn write_answer(answer: Answer, route: &[u32], out: &mut [u8]) -> usize
-    ensures { λ _. ⌜ now (out .exit) ≡ shown (answerText (answerIn answer) (now (route .entry))) (now (out .entry)) ⌝ }
-    ensures { λ r. ⌜ r ≡ min (length (answerText (answerIn answer) (now (route .entry)))) (length (now (out .entry))) ⌝ }
+    ensures { λ r. ⌜ Written (now (out .entry)) (answerText (answerIn answer) (now (route .entry))) (now (out .exit)) r ⌝ }
 {
     let end = put_answer(answer, route, out);
     put_byte(10, out, end)
@@ -299,8 +312,7 @@ pub fn write_answer(answer: Answer, route: &[u32], out: &mut [u8]) -> usize
 
 // Writes the line of an unreadable line, of a file that is too long and of a map that is too large: `no 0`.
 pub fn write_unreadable(out: &mut [u8]) -> usize
-    ensures { λ _. ⌜ now (out .exit) ≡ shown unreadableText (now (out .entry)) ⌝ }
-    ensures { λ r. ⌜ r ≡ min (length unreadableText) (length (now (out .entry))) ⌝ }
+    ensures { λ r. ⌜ Written (now (out .entry)) unreadableText (now (out .exit)) r ⌝ }
 {
     put(b"no 0\n", out, 0)
 }

@@ -1,5 +1,4 @@
 use borrow.Author.Needs.{needs}
-use native.Mathlib.Omega.{arith}
 use Rattle.console.proofs.Areas.{digit-put, digits-put}
 use Prim.Native.Nat.{ℕ, _<_}
 use borrow.Fn.Kinds.{In}
@@ -23,40 +22,6 @@ abbrev put-number-below : ℕ → In 1 put-number-kinds.ps
 put-number-below t =
     and 1 put-number-kinds.ps (falls 1 put-number-kinds.ps _<_ μ-put-number t) put-number.Pre
 
--- src/lib.rt:193:25
-put-number-digit-requires : (t : ℕ) → put-number-lts.Need-digit-requires (
-  digit-reads.Asked,
-  digit-reads.Learnt,
-  put-byte-reads.Asked,
-  put-byte-reads.Learnt,
-  put-number-below t,
-  put-number.Post,
-) (put-number-at t) put-number.Post
-put-number-digit-requires t c κs = search needs
-
--- src/lib.rt:193:9
-put-number-put-byte-requires : (t : ℕ) → put-number-lts.Need-put-byte-requires (
-  digit-reads.Asked,
-  digit-reads.Learnt,
-  put-byte-reads.Asked,
-  put-byte-reads.Learnt,
-  put-number-below t,
-  put-number.Post,
-) (put-number-at t) put-number.Post
-put-number-put-byte-requires t c κs = search needs
-
--- src/lib.rt:193:9
-put-number-same-length : (t : ℕ) → put-number-lts.Need-same-length (
-  digit-reads.Asked,
-  digit-reads.Learnt,
-  put-byte-reads.Asked,
-  put-byte-reads.Learnt,
-  put-number-below t,
-  put-number.Post,
-) (put-number-at t) put-number.Post
-put-number-same-length t c = search needs
-
--- src/lib.rt:193:9
 put-number-returns : (t : ℕ) → put-number-lts.Need-returns (
   digit-reads.Asked,
   digit-reads.Learnt,
@@ -67,51 +32,6 @@ put-number-returns : (t : ℕ) → put-number-lts.Need-returns (
 ) (put-number-at t) put-number.Post
 put-number-returns t c = digit-put (c .before .before .before .before .before .if1 .taken) (c .before .before .before .before .digit .ensures) (c .before .before .put-byte .ensures)
 
--- src/lib.rt:195:9
-put-number-put-number-requires : (t : ℕ) → put-number-lts.Need-put-number-requires (
-  digit-reads.Asked,
-  digit-reads.Learnt,
-  put-byte-reads.Asked,
-  put-byte-reads.Learnt,
-  put-number-below t,
-  put-number.Post,
-) (put-number-at t) put-number.Post
-put-number-put-number-requires t c κs = search needs
-
--- src/lib.rt:196:14
-put-number-digit-requires-2 : (t : ℕ) → put-number-lts.Need-digit-requires-2 (
-  digit-reads.Asked,
-  digit-reads.Learnt,
-  put-byte-reads.Asked,
-  put-byte-reads.Learnt,
-  put-number-below t,
-  put-number.Post,
-) (put-number-at t) put-number.Post
-put-number-digit-requires-2 t c κs = search needs
-
--- src/lib.rt:196:5
-put-number-put-byte-requires-2 : (t : ℕ) → put-number-lts.Need-put-byte-requires-2 (
-  digit-reads.Asked,
-  digit-reads.Learnt,
-  put-byte-reads.Asked,
-  put-byte-reads.Learnt,
-  put-number-below t,
-  put-number.Post,
-) (put-number-at t) put-number.Post
-put-number-put-byte-requires-2 t c κs = search needs
-
--- src/lib.rt:189:1
-put-number-same-length-2 : (t : ℕ) → put-number-lts.Need-same-length-2 (
-  digit-reads.Asked,
-  digit-reads.Learnt,
-  put-byte-reads.Asked,
-  put-byte-reads.Learnt,
-  put-number-below t,
-  put-number.Post,
-) (put-number-at t) put-number.Post
-put-number-same-length-2 t c = search needs
-
--- src/lib.rt:189:1
 put-number-returns-2 : (t : ℕ) → put-number-lts.Need-returns-2 (
   digit-reads.Asked,
   digit-reads.Learnt,
@@ -133,12 +53,12 @@ pub +put-number-spec : {M : Type 1} → statement M
 )
     (put-number-at t)
     put-number.Post
-    (put-number-digit-requires t)
-    (put-number-put-byte-requires t)
-    (put-number-same-length t)
+    (λ c κs. search needs)
+    (λ c κs. search needs)
+    (λ c. search needs)
     (put-number-returns t)
-    (put-number-put-number-requires t)
-    (put-number-digit-requires-2 t)
-    (put-number-put-byte-requires-2 t)
-    (put-number-same-length-2 t)
+    (λ c κs. search needs)
+    (λ c κs. search needs)
+    (λ c κs. search needs)
+    (λ c. search needs)
     (put-number-returns-2 t)

@@ -1,0 +1,179 @@
+-- The readable lines, as document 01's sentence lists them: `lineOf` says exactly the call of each, and any other line is unreadable. Assumes nothing.
+use mathlib.Core.Path.{_∙_, _≡_, ap, ap₂, refl, subst, sym}
+use mathlib.Core.Bool.{Bool, _&&_, cond, false, false≢true, true}
+use mathlib.Core.List.{List, [], _++_, _∷_}
+use Prim.Native.Nat.{_+_, ℕ}
+use borrow.Author.Tests.{eqb-true, leb-true, ne-eqb}
+use lib.Dec.{eqb, leb}
+use lib.ListN.{drop, length, take}
+use lib.Seq.{drop-append-add, take-append-seam}
+use native.Mathlib.Omega.{arith}
+use native.Mathlib.Nat.{suc-add}
+use mathlib.Core.Logic.{inl, inr}
+use Rattle.graph.specs.Total.{Tested, decide}
+use Rattle.bytes.specs.Bytes.{indexAfter, indexOf}
+use Rattle.model.specs.Word.{noneWord}
+use Rattle.unit.specs.declared.Call as call
+use Rattle.unit.specs.declared.Call.the-variants.{Aim, Estimate, Go, Set}
+use Rattle.console.specs.declared.Number.{Number}
+use Rattle.console.specs.declared.Number.the-variants.{NotOne, Value}
+use Rattle.console.specs.declared.Line.{Line}
+use Rattle.console.specs.declared.Line.the-variants.{Call, Unreadable}
+use Rattle.console.specs.Ascii.{ascii}
+use Rattle.console.specs.Lines.{afterSpace, allDigits, beforeSpace, callOf, isDigit, isNumber, lineOf, numberOf, one, same, two, valueFrom}
+
+-- "a call's word and its numbers, one space before each"
+pub data Readable (line : List ℕ) : call.Call → Type 0 where
+  aims : (s : List ℕ) (v : ℕ) → line ≡ ascii "aim " ++ s → numberOf s ≡ Value v → Readable line (Aim (record { 0 = v }))
+  asks : (s : List ℕ) (v : ℕ) → line ≡ ascii "est " ++ s → numberOf s ≡ Value v → Readable line (Estimate (record { 0 = v }))
+  goes : (s : List ℕ) (v : ℕ) → line ≡ ascii "go " ++ s → numberOf s ≡ Value v → Readable line (Go (record { 0 = v }))
+  sets : (s t : List ℕ) (i v : ℕ) → line ≡ ascii "set " ++ (s ++ (ascii " " ++ t)) → numberOf s ≡ Value i → numberOf t ≡ Value v → Readable line (Set i (record { 0 = v }))
+
+-- ---- each of them says its call
+
+both-left : (a b : Bool) → a && b ≡ true → a ≡ true
+both-left true b e = refl
+both-left false b e = e
+
+both-right : (a b : Bool) → a && b ≡ true → b ≡ true
+both-right true b e = e
+both-right false b e = absurd (false≢true e)
+
+abbrev isValue : Number → Bool
+isValue (Value v) = true
+isValue NotOne = false
+
+-- a number was found, so its test passed
+picked : (b : Bool) (x v : ℕ) → cond b (Value x) NotOne ≡ Value v → b ≡ true
+picked true x v e = refl
+picked false x v e = ap isValue e
+
+digits-of : (s : List ℕ) (v : ℕ) → numberOf s ≡ Value v → allDigits s ≡ true
+unfolding numberOf isNumber
+digits-of s v e =
+    let sized = leb 1 (length s) && leb (length s) 20 in
+    let fits = leb (valueFrom 0 s) noneWord in
+    both-right sized (allDigits s) (both-left (sized && allDigits s) fits (picked (sized && allDigits s && fits) (valueFrom 0 s) v e))
+
+-- no digit is a space
+no-space : (s t : List ℕ) → allDigits s ≡ true → indexOf 32 (s ++ 32 ∷ t) ≡ length s
+unfolding allDigits isDigit indexOf indexAfter
+no-space [] t d = refl
+no-space (b ∷ s) t d =
+    let h = leb-true 48 b (both-left (leb 48 b) (leb b 57) (both-left (isDigit b) (allDigits s) d)) in
+    let e : eqb b 32 ≡ false = ne-eqb b 32 (λ q. omega arith) in
+    rw (e, no-space s t (both-right (isDigit b) (allDigits s) d))
+
+-- the two parts of a line whose first space is the one shown
+module _ (w r : List ℕ) (e : indexOf 32 (w ++ 32 ∷ r) ≡ length w) where
+  before-of : beforeSpace (w ++ 32 ∷ r) ≡ w
+  unfolding beforeSpace
+  before-of = ap (λ (k : ℕ). take k (w ++ 32 ∷ r)) e ∙ take-append-seam w (32 ∷ r)
+
+  after-of : afterSpace (w ++ 32 ∷ r) ≡ r
+  unfolding afterSpace
+  after-of = ap (λ (k : ℕ). drop (k + 1) (w ++ 32 ∷ r)) e ∙ drop-append-add w (32 ∷ r) 1
+
+-- a readable line says its call
+pub readable-says : (line : List ℕ) (c : call.Call) → Readable line c → lineOf line ≡ Call c
+unfolding lineOf beforeSpace afterSpace indexOf indexAfter same callOf
+readable-says line c (aims s v e n) = ap lineOf e ∙ rw n
+readable-says line c (asks s v e n) = ap lineOf e ∙ rw n
+readable-says line c (goes s v e n) = ap lineOf e ∙ rw n
+readable-says line c (sets s t i v e n m) =
+    let q = no-space s t (digits-of s i n) in
+    ap lineOf e ∙ ap₂ two (ap numberOf (before-of s t q) ∙ n) (ap numberOf (after-of s t q) ∙ m)
+
+-- ---- and no other line does
+
+same-is : (a b : List ℕ) → same a b ≡ true → a ≡ b
+unfolding same
+same-is [] [] e = refl
+same-is [] (y ∷ b) e = absurd (false≢true e)
+same-is (x ∷ a) [] e = absurd (false≢true e)
+same-is (x ∷ a) (y ∷ b) e = ap₂ (λ (u : ℕ) (l : List ℕ). u ∷ l) (eqb-true x y (both-left (eqb x y) (same a b) e)) (same-is a b (both-right (eqb x y) (same a b) e))
+
+-- a line is its parts with a space between them, or has nothing after a space
+pub data Split (s : List ℕ) : Type 0 where
+  spaces : s ≡ beforeSpace s ++ 32 ∷ afterSpace s → Split s
+  nothing : afterSpace s ≡ [] → Split s
+
+split : (s : List ℕ) → Split s
+unfolding beforeSpace afterSpace indexOf indexAfter
+split [] = nothing refl
+split (b ∷ s) = go (decide (eqb b 32)) (split s)
+  where
+    go : Tested (eqb b 32) → Split s → Split (b ∷ s)
+    go (inl q) r = spaces (rw (q, eqb-true b 32 q))
+    go (inr q) (spaces e) = spaces (rw (q, suc-add) (ap (λ (l : List ℕ). b ∷ l) e))
+    go (inr q) (nothing e) = nothing (rw (q, suc-add) e)
+
+-- ---- the call that a line says
+
+abbrev isCall : Line → Bool
+isCall (Call c) = true
+isCall Unreadable = false
+
+abbrev callOr : call.Call → Line → call.Call
+callOr d (Call c) = c
+callOr d Unreadable = d
+
+not-readable : (c : call.Call) → Unreadable ≡ Call c → ⊥
+not-readable c e = false≢true (ap isCall e)
+
+said : (a c : call.Call) → Call a ≡ Call c → a ≡ c
+said a c e = ap (callOr a) e
+
+no-number : (v : ℕ) → numberOf [] ≡ Value v → ⊥
+unfolding numberOf isNumber
+no-number v e = false≢true (ap isValue e)
+
+-- a line of the word w and the number r
+one-says : (line w r : List ℕ) (v : ℕ) (c : call.Call) → line ≡ w ++ 32 ∷ r → numberOf r ≡ Value v → callOf w v ≡ Call c → Readable line c
+unfolding callOf
+one-says line w r v c e n h = first (decide (same w (ascii "aim")))
+  where
+    third : same w (ascii "aim") ≡ false → same w (ascii "est") ≡ false → Tested (same w (ascii "go")) → Readable line c
+    third p q (inl t) = subst (Readable line) (said (Go (record { 0 = v })) c (rw (p, q, t) at h)) (goes r v (e ∙ ap (λ (u : List ℕ). u ++ 32 ∷ r) (same-is w (ascii "go") t)) n)
+    third p q (inr t) = absurd (not-readable c (rw (p, q, t) at h))
+
+    second : same w (ascii "aim") ≡ false → Tested (same w (ascii "est")) → Readable line c
+    second p (inl t) = subst (Readable line) (said (Estimate (record { 0 = v })) c (rw (p, t) at h)) (asks r v (e ∙ ap (λ (u : List ℕ). u ++ 32 ∷ r) (same-is w (ascii "est") t)) n)
+    second p (inr t) = third p t (decide (same w (ascii "go")))
+
+    first : Tested (same w (ascii "aim")) → Readable line c
+    first (inl t) = subst (Readable line) (said (Aim (record { 0 = v })) c (rw t at h)) (aims r v (e ∙ ap (λ (u : List ℕ). u ++ 32 ∷ r) (same-is w (ascii "aim") t)) n)
+    first (inr t) = second t (decide (same w (ascii "est")))
+
+says-one : (line : List ℕ) (n : Number) (c : call.Call) → numberOf (afterSpace line) ≡ n → one (callOf (beforeSpace line)) n ≡ Call c → Readable line c
+says-one line NotOne c q e = absurd (not-readable c e)
+says-one line (Value v) c q e = go (split line)
+  where
+    go : Split line → Readable line c
+    go (spaces p) = one-says line (beforeSpace line) (afterSpace line) v c p q e
+    go (nothing p) = absurd (no-number v (sym (ap numberOf p) ∙ q))
+
+says-two : (line : List ℕ) (m n : Number) (c : call.Call) → beforeSpace line ≡ ascii "set" → numberOf (beforeSpace (afterSpace line)) ≡ m → numberOf (afterSpace (afterSpace line)) ≡ n → two m n ≡ Call c → Readable line c
+unfolding afterSpace indexOf
+says-two line NotOne n c w p q e = absurd (not-readable c e)
+says-two line (Value i) NotOne c w p q e = absurd (not-readable c e)
+says-two line (Value i) (Value v) c w p q e = go (split line) (split (afterSpace line))
+  where
+    r : List ℕ
+    r = afterSpace line
+
+    go : Split line → Split r → Readable line c
+    go (spaces x) (spaces y) =
+        subst (Readable line) (said (Set i (record { 0 = v })) c e)
+        (sets (beforeSpace r) (afterSpace r) i v (x ∙ ap₂ (λ (a b : List ℕ). a ++ 32 ∷ b) w y) p q)
+    go (spaces x) (nothing y) = absurd (no-number v (sym (ap numberOf y) ∙ q))
+    go (nothing x) s = absurd (no-number v (sym (ap (λ (a : List ℕ). numberOf (afterSpace a)) x) ∙ q))
+
+-- a line that says a call is a readable one
+pub says-readable : (line : List ℕ) (c : call.Call) → lineOf line ≡ Call c → Readable line c
+unfolding lineOf
+says-readable line c e = go (decide (same (beforeSpace line) (ascii "set")))
+  where
+    go : Tested (same (beforeSpace line) (ascii "set")) → Readable line c
+    go (inl t) = says-two line (numberOf (beforeSpace (afterSpace line))) (numberOf (afterSpace (afterSpace line))) c (same-is (beforeSpace line) (ascii "set") t) refl refl (rw t at e)
+    go (inr t) = says-one line (numberOf (afterSpace line)) c refl (rw t at e)
