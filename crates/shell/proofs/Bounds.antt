@@ -13,7 +13,7 @@ use Rattle.graph.specs.Total.{Tested, Total, decide}
 use Rattle.model.specs.Types.{Accepted, Answer, Estimated, Gone, Refusal, Refused}
 use Rattle.model.specs.Word.{ofWord}
 use Rattle.model.specs.Card.{question}
-use Rattle.console.specs.Texts.{answerText, decimal, digitsIn, noneText, placesOf, refusalText, shown, spaced, totalText, unreadableText, worded}
+use Rattle.console.specs.Texts.{Written, answerText, decimal, digitsIn, newline, placesOf, refusalText, shown, spaced, totalText, unreadableText, worded}
 
 digits-length : (f n : ℕ) → length (digitsIn f n) ≤ f
 unfolding digitsIn
@@ -53,15 +53,15 @@ worded-length (Estimated w) route h = omega (arith, total-length (ofWord w))
 worded-length (Gone t c k) route h = omega (arith, spaced-length (t ∷ c ∷ take k route), length-take k route)
 
 pub answer-length : (x : Answer) (route : List ℕ) → length route ≤ 200 → length (answerText x route) ≤ 8192
-answer-length x route h = omega (arith, worded-length x route h, length-append (worded x route) (10 ∷ []))
+answer-length x route h = omega (arith, worded-length x route h, length-append (worded x route) newline)
 
 pub unreadable-length : length unreadableText ≤ 8192
-unreadable-length = omega (arith, spaced-length (0 ∷ []), length-append (spaced (0 ∷ [])) (10 ∷ []))
+unreadable-length = omega arith
 
 -- a text that fits stands whole
-pub shown-text : (text area out : List ℕ) (k : ℕ) → length text ≤ 8192 → 8192 ≤ length area → out ≡ shown text area → k ≡ min (length text) (length area) → take k out ≡ text
+pub shown-text : (text area out : List ℕ) (k : ℕ) → length text ≤ 8192 → 8192 ≤ length area → Written area text out k → take k out ≡ text
 unfolding shown
-shown-text text area out k h g e f =
-    let q : length text ≡ k = omega arith in
-    let w : take (length area) text ≡ text = take-all (length area) text (omega arith) in
-    ap (take k) e ∙ rw w (take-at text (drop (length text) area) k q)
+shown-text text area out k h g w =
+    let q : length text ≡ k = omega (arith, w .count) in
+    let t : take (length area) text ≡ text = take-all (length area) text (omega arith) in
+    ap (take k) (w .area) ∙ rw t (take-at text (drop (length text) area) k q)

@@ -1,5 +1,5 @@
 -- The ways of a card. Assumes nothing.
-use mathlib.Core.Path.{_∙_, _≡_, ap, refl, sym}
+use mathlib.Core.Path.{_∙_, _≡_, ap, refl, subst, sym}
 use mathlib.Core.Logic.{_⊎_, _≢_, inl, inr}
 use mathlib.Core.Bool.{Bool, _||_, cond, false, not, true}
 use mathlib.Core.Option.{Option, none, some}
@@ -18,7 +18,7 @@ use Rattle.model.specs.Card.{andThen, ask, askEach, cardRefusal, kindsOk, mapOn
 use Rattle.model.specs.State.{Areas, Step, areasRefusal, fresh, lengthsOk, noneLent, prepare, roomRefusal, answering, unless, zeroHeader, zeroed}
 use Rattle.model.specs.Contracts.{after}
 use Rattle.model.specs.Good.{facts-lengths, lengths-facts}
-use Rattle.console.specs.Texts.{shown, unreadableText}
+use Rattle.console.specs.Texts.{Written, unreadableText}
 use Rattle.shell.specs.Opening.{Ends, Lends, Opening, judged, junctionRoom, larger, noLine, onCard, onRoom, opening, refusalLine, roadRoom}
 use Rattle.shell.proofs.Bounds.{answer-length, shown-text, unreadable-length}
 
@@ -71,22 +71,18 @@ refusal-length q = go (ℕ-discrete (question q) 7)
 -- ---- the ways
 
 module _ (q : Refusal) (n k : ℕ) (out₀ out : List ℕ) (asked : n ≡ question q) where
-  line-is : (text : List ℕ) → refusalLine q ≡ text → out ≡ shown text out₀ → k ≡ min (length text) (length out₀) → (out ≡ shown (refusalLine q) out₀) × (k ≡ min (length (refusalLine q)) (length out₀))
-  line-is text h e f = (e ∙ ap (λ (t : List ℕ). shown t out₀) (sym h), f ∙ ap (λ (t : List ℕ). min (length t) (length out₀)) (sym h))
+  pub larger-line : n ≡ 7 → Written out₀ unreadableText out k → Written out₀ (refusalLine q) out k
+  larger-line h = subst (λ (t : List ℕ). Written out₀ t out k) (sym (line-seven q (sym asked ∙ h)))
 
-  pub larger-line : n ≡ 7 → out ≡ shown unreadableText out₀ → k ≡ min (length unreadableText) (length out₀) → (out ≡ shown (refusalLine q) out₀) × (k ≡ min (length (refusalLine q)) (length out₀))
-  larger-line h = line-is unreadableText (line-seven q (sym asked ∙ h))
+  pub refused-line : n ≢ 7 → Written out₀ (noLine q) out k → Written out₀ (refusalLine q) out k
+  refused-line h = subst (λ (t : List ℕ). Written out₀ t out k) (sym (line-plain q (λ e. h (asked ∙ e))))
 
-  pub refused-line : n ≢ 7 → out ≡ shown (noLine q) out₀ → k ≡ min (length (noLine q)) (length out₀) → (out ≡ shown (refusalLine q) out₀) × (k ≡ min (length (refusalLine q)) (length out₀))
-  refused-line h = line-is (noLine q) (line-plain q (λ e. h (asked ∙ e)))
+pub refused-way : (q : Refusal) (h : Header) (x : Answer) (a : Areas) (k : ℕ) (out₀ out : List ℕ) → x ≡ Refused q → 8192 ≤ length out₀ → Written out₀ (refusalLine q) out k → Ends (take k out) ≡ judged h x a
+refused-way q h x a k out₀ out u g w = ap Ends (shown-text (refusalLine q) out₀ out k (refusal-length q) g w) ∙ ap (λ (y : Answer). judged h y a) (sym u)
 
-pub refused-way : (q : Refusal) (h : Header) (x : Answer) (a : Areas) (k : ℕ) (out₀ out : List ℕ) → x ≡ Refused q → 8192 ≤ length out₀ → out ≡ shown (refusalLine q) out₀ → k ≡ min (length (refusalLine q)) (length out₀)
-    → Ends (take k out) ≡ judged h x a
-refused-way q h x a k out₀ out u g e f = ap Ends (shown-text (refusalLine q) out₀ out k (refusal-length q) g e f) ∙ ap (λ (y : Answer). judged h y a) (sym u)
-
-pub over-way : (file out₀ out : List ℕ) (a : Areas) (k : ℕ) → 32768 < length file → 8192 ≤ length out₀ → out ≡ shown unreadableText out₀ → k ≡ min (length unreadableText) (length out₀) → Ends (take k out) ≡ opening file a
+pub over-way : (file out₀ out : List ℕ) (a : Areas) (k : ℕ) → 32768 < length file → 8192 ≤ length out₀ → Written out₀ unreadableText out k → Ends (take k out) ≡ opening file a
 unfolding opening
-over-way file out₀ out a k h g e f = rw (lt-ltb 32768 (length file) h) (ap Ends (shown-text unreadableText out₀ out k unreadable-length g e f))
+over-way file out₀ out a k h g w = rw (lt-ltb 32768 (length file) h) (ap Ends (shown-text unreadableText out₀ out k unreadable-length g w))
 
 -- what a preparing comes to
 abbrev judgedStep : Step → Opening

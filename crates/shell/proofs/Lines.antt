@@ -10,23 +10,23 @@ use Rattle.model.specs.Contracts.{areasOf, before}
 use Rattle.unit.specs.Calls.{Called}
 use Rattle.unit.specs.declared.Call as unit
 use Rattle.console.specs.Lines.{lineOf}
-use Rattle.console.specs.Texts.{answerText, shown, unreadableText}
+use Rattle.console.specs.Texts.{Written, answerText, unreadableText}
 use Rattle.console.specs.declared.Line as line
 use Rattle.console.specs.declared.Line.the-variants.{Call, Unreadable}
 use Rattle.shell.specs.Answering.{Answers}
 use Rattle.shell.proofs.Bounds.{answer-length, shown-text, unreadable-length}
 
 module _ (card text : List ℕ) (l : Lent) (x : line.Line) (says : x ≡ lineOf text) (out₀ out : List ℕ) (k : ℕ) (large : 8192 ≤ length out₀) where
-  pub unreadable-way : (h : Header) (a : Areas) → x ≡ Unreadable → out ≡ shown unreadableText out₀ → k ≡ min (length unreadableText) (length out₀) → Answers card (before h a) l (lineOf text) h a l (take k out)
-  unreadable-way h a u e f =
-      subst (λ (y : line.Line). Answers card (before h a) l y h a l (take k out)) (sym u ∙ says) (record { state = refl; lent = refl; printed = shown-text unreadableText out₀ out k unreadable-length large e f })
+  pub unreadable-way : (h : Header) (a : Areas) → x ≡ Unreadable → Written out₀ unreadableText out k → Answers card (before h a) l (lineOf text) h a l (take k out)
+  unreadable-way h a u w =
+      subst (λ (y : line.Line). Answers card (before h a) l y h a l (take k out)) (sym u ∙ says) (record { state = refl; lent = refl; printed = shown-text unreadableText out₀ out k unreadable-length large w })
 
   pub call-way : (s : State) (c : unit.Call) (r : Answered) (a : Areas) (z : Lent) → length (z .route) ≤ 200 → x ≡ Call c → Called card s l c r a z
-      → out ≡ shown (answerText (r .answer) (z .route)) out₀ → k ≡ min (length (answerText (r .answer) (z .route))) (length out₀) → Answers card s l (lineOf text) (r .header) a z (take k out)
-  call-way s c r a z h u w e f =
+      → Written out₀ (answerText (r .answer) (z .route)) out k → Answers card s l (lineOf text) (r .header) a z (take k out)
+  call-way s c r a z h u w v =
       subst (λ (y : line.Line). Answers card s l y (r .header) a z (take k out)) (sym u ∙ says)
-      (record { answer = r .answer; called = w; printed = shown-text (answerText (r .answer) (z .route)) out₀ out k (answer-length (r .answer) (z .route) h) large e f })
+      (record { answer = r .answer; called = w; printed = shown-text (answerText (r .answer) (z .route)) out₀ out k (answer-length (r .answer) (z .route) h) large v })
 
 -- a number of bytes that the area holds
-pub counted : (n k : ℕ) (out₀ out : List ℕ) → k ≡ min n (length out₀) → length out ≡ length out₀ → (k ≤ length out) × (k ≡ length (take k out))
-counted n k out₀ out e f = let h : k ≤ length out = omega arith in (h, omega (arith, h, length-take k out))
+pub counted : (text : List ℕ) (k : ℕ) (out₀ out : List ℕ) → Written out₀ text out k → length out ≡ length out₀ → (k ≤ length out) × (k ≡ length (take k out))
+counted text k out₀ out w f = let h : k ≤ length out = omega (arith, w .count, f) in (h, omega (arith, h, length-take k out))

@@ -10,7 +10,7 @@ ghost use Rattle.model.specs.Contracts.{areasOf, before};
 ghost use Rattle.network.specs.Refusals.{refusalIn};
 ghost use Rattle.unit.specs.Shape.{answerIn, headerIn, lentOf};
 ghost use Rattle.console.specs.Lines.{lineOf};
-ghost use Rattle.console.specs.Texts.{shown};
+ghost use Rattle.console.specs.Texts.{Written};
 ghost use Rattle.lines.specs.Holds.{Holds};
 ghost use Rattle.shell.specs.Opening.{Lends, judged, junctionRoom, openedIn, opening, refusalLine, roadRoom};
 ghost use Rattle.shell.specs.Answering.{Answers};
@@ -58,8 +58,7 @@ pub fn room_for(file: &[u8]) -> Sizes
 
 // The line of a refused preparing. Question 7 refuses a larger map, whose areas are not lent in full: `no 0`.
 fn write_refusal(q: Refusal, out: &mut [u8]) -> usize
-    ensures { λ _. ⌜ now (out .exit) ≡ shown (refusalLine (refusalIn q)) (now (out .entry)) ⌝ }
-    ensures { λ r. ⌜ r ≡ min (length (refusalLine (refusalIn q))) (length (now (out .entry))) ⌝ }
+    ensures { λ r. ⌜ Written (now (out .entry)) (refusalLine (refusalIn q)) (now (out .exit)) r ⌝ }
 {
     if network::question_of(q) == 7 {
         return console::write_unreadable(out);
@@ -82,7 +81,7 @@ fn judge(header: Header, answer: Answer, out: &mut [u8]) -> Opened
 }
 
 // Opens a card: its line stands first in `out`, or the areas are prepared.
-pub fn open(
+pub fn open_card(
     file: &[u8],
     ranks: &mut [u32],
     pairs: &mut [u32],

@@ -8,7 +8,7 @@ use Rattle.shell.proofs.judge.Statement.{statement}
 use Rattle.shell.proofs.judge.Tie as tie
 
 returns : tie.Need-returns
-returns c = λ a. refused-way _ _ _ a _ _ _ (ap answerIn (c .before .before .before .before .before .answer .given .1)) (c .before .before .before .before .before .before .before .before .pre) (c .before .before .write-refusal .ensures .0) (c .before .before .write-refusal .ensures .1)
+returns c = λ a. refused-way _ _ _ a _ _ _ (ap answerIn (c .before .before .before .before .before .answer .given .1)) (c .before .before .before .before .before .before .before .before .pre) (c .before .before .write-refusal .ensures)
 
 returns-2 : tie.Need-returns-2
 returns-2 c = λ a. ap (λ (x : Answer). judged (headerIn (c .before .before .before .args .header)) (answerIn x) a) (sym (c .enum-told .given .1))
