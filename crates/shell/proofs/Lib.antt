@@ -1,0 +1,4 @@
+mod Bounds
+mod Cards
+mod Lines
+mod Longs

@@ -1,0 +1,18 @@
+use Rattle.shell.proofs.Longs.{long-line, whole-line}
+use native.Mathlib.Omega.{arith}
+use borrow.Author.Needs.{needs}
+use Rattle.shell.proofs.kept_line.Statement.{statement}
+use Rattle.shell.proofs.kept_line.Tie as tie
+
+returns : tie.Need-returns
+returns c = λ xs h w. long-line _ _ xs h w (c .if1 .taken)
+
+returns-2 : tie.Need-returns-2
+returns-2 c = λ xs h w. let z : ⊥ = omega (arith, c .if2 .taken, w .fits) in absurd z
+
+returns-3 : tie.Need-returns-3
+returns-3 c = λ xs h w. whole-line _ _ xs h w (c .before .before .if1 .left)
+
+pub kept-line-spec : {M : Type 1} → statement M
+kept-line-spec =
+    tie.close (tie.spec returns returns-2 (λ c. search needs) (λ c. search needs) (λ c. search needs) returns-3)

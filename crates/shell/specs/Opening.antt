@@ -1,0 +1,79 @@
+-- What the program makes of its card. "The program reads `unit.card` (to 200 junctions, 800 roads) with room for 4,000 pairs". Definitions only.
+use mathlib.Core.Path.{_≡_}
+use mathlib.Core.Bool.{Bool, _||_, cond}
+use mathlib.Core.Option.{Option, none, some}
+use mathlib.Core.List.{List, []}
+use Prim.Native.Nat.{min, ℕ}
+use lib.Dec.{eqb, ltb}
+use lib.ListN.{length, take}
+use Rattle.graph.specs.Map.{Map}
+use Rattle.model.specs.Types as model
+use Rattle.model.specs.Card.{cardRefusal, mapOn, question, readCard}
+use Rattle.model.specs.State.{Areas, State, fresh, roomRefusal}
+use Rattle.model.specs.Contracts.{before}
+use Rattle.unit.specs.Shape.{headerIn}
+use Rattle.console.specs.Texts.{answerText, unreadableText}
+use Rattle.shell.specs.declared.Opened.{Opened}
+use Rattle.shell.specs.declared.Opened.the-variants.{Ended, Prepared}
+
+-- a line that is printed, "Each of these ends the program"; or the unit's state from which the lines are answered
+pub data Opening : Type 0 where
+  Ends : (line : List ℕ) → Opening
+  Opens : State → Opening
+
+-- `no`, the number, "with the place after 5 and 6"
+abbrev pub noLine : model.Refusal → List ℕ
+noLine q = answerText (model.Refused q) []
+
+abbrev pub larger : Map → Bool
+larger M = ltb 200 (M .vertices) || ltb 800 (M .base .arcs)
+
+-- "otherwise 8 prints its line"
+abbrev pub onRoom : Option model.Refusal → State → Opening
+onRoom none s = Opens s
+onRoom (some q) s = Ends (noLine q)
+
+-- "otherwise a card refused by 1 to 6, a missing file being an empty card, prints its line; otherwise a larger map prints `no 0`"
+abbrev pub onCard : Option model.Refusal → Map → Areas → Opening
+onCard (some q) M a = Ends (noLine q)
+onCard none M a = cond (larger M) (Ends unreadableText) (onRoom (roomRefusal M a) (fresh M a))
+
+-- "A file over 32,768 bytes prints `no 0`"
+unfoldable pub opening : (file : List ℕ) → Areas → Opening
+opening file a = cond (ltb 32768 (length file)) (Ends unreadableText) (onCard (cardRefusal file) (mapOn file) a)
+
+-- ---- the areas that are lent
+
+abbrev pub junctionRoom : model.Reading → ℕ
+junctionRoom (model.Read n m) = min n 200
+junctionRoom (model.Unreadable q) = 0
+
+abbrev pub roadRoom : model.Reading → ℕ
+roadRoom (model.Read n m) = min m 800
+roadRoom (model.Unreadable q) = 0
+
+-- "with room for 4,000 pairs"
+pub record Lends (file : List ℕ) (a : Areas) : Type 0 where
+  pub ranks : length (a .ranks) ≡ junctionRoom (readCard file)
+  pub pairs : length (a .pairs) ≡ 16000
+  pub live : length (a .live) ≡ roadRoom (readCard file)
+  pub down : length (a .down) ≡ junctionRoom (readCard file)
+  pub estimates : length (a .estimates) ≡ junctionRoom (readCard file)
+  pub elapsed : length (a .elapsed) ≡ junctionRoom (readCard file)
+
+-- ---- what the code hands back
+
+abbrev pub openedIn : Opened → (out : List ℕ) → Areas → Opening
+openedIn (Ended k) out a = Ends (take k out)
+openedIn (Prepared h) out a = Opens (before (headerIn h) a)
+
+-- the line of a refused preparing: by 7 the map is larger than the areas
+unfoldable pub refusalLine : model.Refusal → List ℕ
+refusalLine q = cond (eqb (question q) 7) unreadableText (noLine q)
+
+-- what preparing's answer and header come to
+abbrev pub judged : model.Header → model.Answer → Areas → Opening
+judged h (model.Refused q) a = Ends (refusalLine q)
+judged h model.Accepted a = Opens (before h a)
+judged h (model.Estimated t) a = Opens (before h a)
+judged h (model.Gone t c k) a = Opens (before h a)
