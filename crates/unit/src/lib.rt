@@ -198,7 +198,6 @@ impl Header {
             (areasOf (now (ranks .entry)) (now (pairs .entry)) (now (live .entry)) (now (down .entry)) (now (estimates .entry)) (now (elapsed .entry)))
             (now (live .exit)) road (time .0) (answeredIn r) ⌝ }
     {
-        let n = self.n;
         let m = self.m;
         if !self.fits(card, ranks, pairs, live, down, estimates, elapsed) {
             return Answered {
@@ -290,13 +289,14 @@ impl Header {
         let n = self.n;
         let m = self.m;
         let p = self.pairs;
+        let v = j.0;
         if !self.fits(card, ranks, pairs, live, down, estimates, elapsed) {
             return Answered {
                 header: self,
                 answer: Answer::Refused(Refusal::Lengths),
             };
         }
-        if n <= j.0 {
+        if n <= v {
             return Answered {
                 header: self,
                 answer: Answer::Refused(Refusal::NoJunction),

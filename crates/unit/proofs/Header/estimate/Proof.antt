@@ -18,19 +18,19 @@ returns : tie.Need-returns
 returns c = refused-9 _ (before (headerIn (c .before .before .before .before .before .before .before .before .before .before .args .self)) (areasOf (c .before .before .before .before .before .before .before .before .before .before .args .ranks .now) (c .before .before .before .before .before .before .before .before .before .before .args .pairs .now) (c .before .before .before .before .before .before .before .before .before .before .args .live .now) (c .before .before .before .before .before .before .before .before .before .before .args .down .now) (c .before .before .before .before .before .before .before .before .before .before .args .estimates .now) (c .before .before .before .before .before .before .before .before .before .before .args .elapsed .now))) (estimateCall (c .before .before .before .before .before .before .before .before .before .before .args .j .0)) (sym (c .before .fits2 .ensures) ∙ not-true _ (c .if1 .taken))
 
 returns-2 : tie.Need-returns-2
-returns-2 c = estimate-12 _ _ _ (known (c .before .before) .fits) _ (c .if2 .taken)
+returns-2 c = estimate-12 _ _ _ (known (c .before) .fits) _ (c .if2 .taken)
 
 order-of-requires : tie.Need-order-of-requires
-order-of-requires c κs = (let k = known (c .before .before .before .before) in omega (arith, k .size))
+order-of-requires c κs = (let k = known (c .before .before .before) in omega (arith, k .size))
 
 estimate-requires : tie.Need-estimate-requires
-estimate-requires c κs = (let k = known (c .before .before .before .before .before .before) in (c .before .before .before .before .if2 .left, k .n-high, order-length _ _ _ _ (c .before .order-of .ensures) (k .size), k .lengths .ranks, k .lengths .down, k .lengths .estimates, k .lengths .room, omega (arith, k .lengths .room, k .lengths .pairs-high)))
+estimate-requires c κs = (let k = known (c .before .before .before .before .before) in (c .before .before .before .before .if2 .left, k .n-high, order-length _ _ _ _ (c .before .order-of .ensures) (k .size), k .lengths .ranks, k .lengths .down, k .lengths .estimates, k .lengths .room, omega (arith, k .lengths .room, k .lengths .pairs-high)))
 
 returns-3 : tie.Need-returns-3
-returns-3 c = estimate-13 _ _ _ (known (c .before .before .before .before) .fits) _ (c .before .before .if2 .left) (ap targetIn (c .enum-told .given .1))
+returns-3 c = estimate-13 _ _ _ (known (c .before .before .before) .fits) _ (c .before .before .if2 .left) (ap targetIn (c .enum-told .given .1))
 
 returns-4 : tie.Need-returns-4
-returns-4 c = (let k = known (c .before .before .before .before .before .before .before .before .before) in estimate-made _ _ _ (k .fits) _ (c .before .before .before .before .before .before .before .if2 .left) _ (ap targetIn (c .before .before .before .before .before .enum-told2 .given .1)) _ _ (estimated-at _ _ _ _ _ _ _ _ _ _ (c .before .before .before .before .order-of .ensures) (c .before .before .estimate .ensures)))
+returns-4 c = (let k = known (c .before .before .before .before .before .before .before .before) in estimate-made _ _ _ (k .fits) _ (c .before .before .before .before .before .before .before .if2 .left) _ (ap targetIn (c .before .before .before .before .before .enum-told2 .given .1)) _ _ (estimated-at _ _ _ _ _ _ _ _ _ _ (c .before .before .before .before .order-of .ensures) (c .before .before .estimate .ensures)))
 
 pub estimate-spec : {M : Type 1} → statement M
 estimate-spec =
