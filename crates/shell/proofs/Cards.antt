@@ -15,11 +15,11 @@ use Rattle.graph.specs.Least.{firstBelow}
 use Rattle.graph.specs.Map.{Map, pairsOf}
 use Rattle.model.specs.Types.{Accepted, Answer, Answered, AreaLengths, Header, Kinds, Place, Read, Reading, Refusal, Refused, Road, Room, Short, Sizes, Starts, Unreadable}
 use Rattle.model.specs.Card.{andThen, ask, askEach, cardRefusal, kindsOk, mapOn, orderBytes, placeOk, question, readCard, reading, roadBytes, roadOk, rowsOf, rowsRefusal, sizesOk, startsOk}
-use Rattle.model.specs.State.{Areas, Step, areasRefusal, fresh, lengthsOk, noneLent, prepare, roomRefusal, answering, unless, zeroHeader, zeroed}
+use Rattle.model.specs.State.{Areas, State, Step, areasRefusal, fresh, lengthsOk, noneLent, prepare, roomRefusal, answering, unless, zeroHeader, zeroed}
 use Rattle.model.specs.Contracts.{after}
 use Rattle.model.specs.Good.{facts-lengths, lengths-facts}
 use Rattle.console.specs.Texts.{Written, unreadableText}
-use Rattle.shell.specs.Opening.{Ends, Lends, Opening, judged, junctionRoom, larger, noLine, onCard, onRoom, opening, refusalLine, roadRoom}
+use Rattle.shell.specs.Opening.{Ends, Lends, Opening, Opens, judged, junctionRoom, larger, noLine, onCard, onRoom, opening, refusalLine, roadRoom}
 use Rattle.shell.proofs.Bounds.{answer-length, shown-text, unreadable-length}
 
 -- ---- which questions refuse
@@ -88,6 +88,19 @@ over-way file out₀ out a k h g w = rw (lt-ltb 32768 (length file) h) (ap Ends 
 abbrev judgedStep : Step → Opening
 judgedStep u = judged (u .state .header) (u .answer) (u .state .areas)
 
+ends-opens : {x : Opening} {l : List ℕ} {s : State} → x ≡ Ends l → x ≡ Opens s → ⊥
+ends-opens p q = let z : _≡_ {A = ℕ} 0 1 = cc in omega arith
+
+opens-opens : {x : Opening} {s t : State} → x ≡ Opens s → x ≡ Opens t → s ≡ t
+opens-opens p q = cc
+
+accepted : (x y : Option Refusal) (b c s : State) (t : State)
+    → judgedStep (unless x b noneLent (unless y c noneLent (answering Accepted s))) ≡ Opens t
+    → (unless x b noneLent (unless y c noneLent (answering Accepted s)) .answer ≡ Accepted) × (unless x b noneLent (unless y c noneLent (answering Accepted s)) .state ≡ t)
+accepted none none b c s t e = (refl, opens-opens refl e)
+accepted none (some q) b c s t e = absurd (ends-opens refl e)
+accepted (some q) y b c s t e = absurd (ends-opens refl e)
+
 module _ (file : List ℕ) (a : Areas) (lends : Lends file a) where
   abbrev M : Map
   M = mapOn file
@@ -149,3 +162,14 @@ module _ (file : List ℕ) (a : Areas) (lends : Lends file a) where
   pub open-way : length file ≤ 32768 → (r : Answered) (b : Areas) (o : Areas → Opening) → after r b noneLent ≡ prepare file a → ((k : Areas) → o k ≡ judged (r .header) (r .answer) k) → o b ≡ opening file a
   unfolding opening prepare areasRefusal
   open-way h r b o e f = rw (le-ltb 32768 (length file) h) (f b ∙ ap judgedStep e ∙ after-questions (cardRefusal file) refl)
+
+  -- ---- a card that opens was prepared
+
+  opened-way : Tested (ltb 32768 (length file)) → (s : State) → opening file a ≡ Opens s → judgedStep (prepare file a) ≡ Opens s
+  unfolding opening prepare areasRefusal
+  opened-way (inl q) s e = absurd (ends-opens refl (rw q at e))
+  opened-way (inr q) s e = after-questions (cardRefusal file) refl ∙ (rw q at e)
+
+  pub opened-prepared : (s : State) → opening file a ≡ Opens s → (prepare file a .answer ≡ Accepted) × (prepare file a .state ≡ s)
+  unfolding prepare
+  opened-prepared s e = accepted (areasRefusal file a) (roomRefusal M a) _ _ _ s (opened-way (decide (ltb 32768 (length file))) s e)
