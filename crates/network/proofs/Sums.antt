@@ -1,22 +1,27 @@
 -- One step of a minimum of sums, by the ways through the code. Assumes nothing.
-use mathlib.Core.Path.{_≡_}
+use mathlib.Core.Path.{_∙_, _≡_, ap}
 use Prim.Native.Nat.{_+_, _<_, _≤_, min, ℕ}
 use mathlib.Core.Option.{some}
 use native.Mathlib.Omega.{arith}
 use Rattle.graph.specs.Total.{_⊕_, ⊕-none}
-use Rattle.model.specs.Word.{noneWord, ofWord, ofWord-none, ofWord-some, word}
-use Rattle.network.specs.Width.{fit}
+use Rattle.model.specs.Word.{Reads, noneWord, nothing, number, ofWord, ofWord-none, ofWord-some, reads, word}
+use Rattle.network.specs.Width.{fit, fit-out}
 
--- a sum with none is none
-pub or-left : (best x y : ℕ) → best ≤ noneWord → x ≡ noneWord → best ≡ min best (word (fit (ofWord x ⊕ ofWord y)))
-or-left best x y h e = rw (e, ofWord-none) (omega arith)
+-- the sum of two words, as the word of a total: a sum with the mark none does not fit
+sum-word : (x y : ℕ) → x ≤ noneWord → y ≤ noneWord → word (fit (some (x + y))) ≡ word (fit (ofWord x ⊕ ofWord y))
+sum-word x y hx hy = go (reads x hx) (reads y hy)
+  where
+    go : Reads x → Reads y → word (fit (some (x + y))) ≡ word (fit (ofWord x ⊕ ofWord y))
+    go (nothing e) s = rw (fit-out (x + y) (omega arith), e, ofWord-none)
+    go (number k) (nothing e) = rw (fit-out (x + y) (omega arith), e, ofWord-none, ⊕-none)
+    go (number k) (number l) = rw (ofWord-some x k, ofWord-some y l)
 
-pub or-right : (best x y : ℕ) → best ≤ noneWord → y ≡ noneWord → best ≡ min best (word (fit (ofWord x ⊕ ofWord y)))
-or-right best x y h e = rw (e, ofWord-none, ⊕-none) (omega arith)
+module _ (best x y t : ℕ) (hx : x ≤ noneWord) (hy : y ≤ noneWord) (e : t ≡ word (fit (some (x + y)))) where
+  step : t ≡ word (fit (ofWord x ⊕ ofWord y))
+  step = e ∙ sum-word x y hx hy
 
-module _ (best x y t : ℕ) (hx : x < noneWord) (hy : y < noneWord) (e : t ≡ word (fit (some (x + y)))) where
   pub or-less : t < best → t ≡ min best (word (fit (ofWord x ⊕ ofWord y)))
-  or-less l = rw (ofWord-some x hx, ofWord-some y hy, ← e) (omega arith)
+  or-less l = rw (← step) (omega arith)
 
   pub or-more : best ≤ t → best ≡ min best (word (fit (ofWord x ⊕ ofWord y)))
-  or-more l = rw (ofWord-some x hx, ofWord-some y hy, ← e) (omega arith)
+  or-more l = rw (← step) (omega arith)

@@ -80,22 +80,13 @@ impl Time {
         self.0 == Time::CLOSED.0
     }
 
-    // One step of a minimum of sums: the least of this time and a + b, where a sum with none is none. The sum is taken in 64 bits.
+    // One step of a minimum of sums: the least of this time and a + b, where a sum with none is none. The sum is taken in 64 bits; one with the mark none reaches past every time, so it comes out as none.
     pub fn or_sum(self, a: Time, b: Time) -> Self
         ensures { λ r. ⌜ r .0 ≡ min (self .0) (word (fit (ofWord (a .0) ⊕ ofWord (b .0)))) ⌝ }
     {
         let best = self.0;
-        let x = a.0;
-        let y = b.0;
-        if x == NONE_WORD {
-            return Time(best);
-        }
-        if y == NONE_WORD {
-            return Time(best);
-        }
-        let sum = Time::of_total((x as u64) + (y as u64));
-        let t = sum.0;
-        if t < best { Time(t) } else { Time(best) }
+        let sum = Time::of_total((a.0 as u64) + (b.0 as u64)).0;
+        if sum < best { Time(sum) } else { Time(best) }
     }
 }
 
