@@ -1,7 +1,7 @@
 #!/usr/bin/env python3
 """Checks docs/SENTENCES.md: each name stands in the place named before it. A name that does not is told with the places where it stands, and the status is 1.
 
-A place is `crate/File` (crates/crate/specs/File.antt), `crate/src`, `crate/must-fail`, `scenarios/data`, or a file of rust/ or crates/ by its path. Names in brackets are fields, and not looked for.
+A place is `crate/File` (crates/crate/specs/File.antt), `crate/src`, `crate/must-fail` (with tried/ beside it), `scenarios/data`, or a file of rust/ or crates/ by its path. Names in brackets are fields, and not looked for.
 """
 import glob
 import os
@@ -18,8 +18,10 @@ def files(place):
     crate, part = place.split('/', 1)
     if part == 'src':
         return sorted(glob.glob(f'crates/{crate}/src/*.rt'))
-    if part in ('must-fail', 'data'):
-        return sorted(glob.glob(f'crates/{crate}/{part}/*'))
+    if part == 'must-fail':
+        return sorted(glob.glob(f'crates/{crate}/must-fail/*') + glob.glob(f'crates/{crate}/tried/*'))
+    if part == 'data':
+        return sorted(glob.glob(f'crates/{crate}/data/*'))
     return [f'crates/{crate}/specs/{part}.antt']
 
 
@@ -41,7 +43,7 @@ def declared(name, file):
 
 def where(name):
     """The files that have the name."""
-    places = ('crates/*/must-fail/*', 'crates/*/specs/*.antt', 'crates/*/src/*.rt', 'rust/tests/*.rs')
+    places = ('crates/*/must-fail/*', 'crates/*/tried/*', 'crates/*/specs/*.antt', 'crates/*/src/*.rt', 'rust/tests/*.rs')
     return [file for place in places for file in sorted(glob.glob(place)) if declared(name, file)]
 
 
