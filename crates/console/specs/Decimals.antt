@@ -51,7 +51,7 @@ pub decimal-large : (n : ℕ) → 10 ≤ n → n < 10 ^ 20 → decimal n ≡ dec
 unfolding decimal
 decimal-large n h b = digits-large 19 n h ∙ ap (λ (x : List ℕ). x ++ ((48 + n % 10) ∷ [])) (sym (digits-enough 18 (n / 10) (omega arith)))
 
--- ---- lengths
+-- ---- lengths: a number below 10 ^ k has at most k digits
 
 digits-few : (f k n : ℕ) → n < 10 ^ suc k → length (digitsIn f n) ≤ suc k
 unfolding digitsIn
@@ -64,11 +64,6 @@ digits-few (suc f) k n h = go k h (decLt n 10) (λ j l. digits-few f j (n / 10) 
     go (suc k) h (no l) r =
         let few = r k (omega (arith, pow-suc 10 (suc k))) in
         rw (digits-large f n (omega arith), length-append (digitsIn f (n / 10)) ((48 + n % 10) ∷ [])) (omega (arith, few))
-
--- a number below 10 ^ k has at most k digits
-pub decimal-few : (k n : ℕ) → n < 10 ^ suc k → length (decimal n) ≤ suc k
-unfolding decimal
-decimal-few k n h = digits-few 20 k n h
 
 -- ---- there and back
 

@@ -3,5 +3,4 @@ pub mod Lines
 pub mod Texts
 pub mod Decimals
 pub mod Grammar
-pub mod Bounds
 pub mod Examples
