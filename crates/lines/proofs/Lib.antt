@@ -1,1 +1,3 @@
+mod Steps
 mod Taken
+mod Turns

@@ -1,7 +1,10 @@
 // Lines of the input: a line is taken byte by byte, out of chunks that are read from a descriptor.
 ghost use mathlib.Core.List.{List, [], _++_, _∷_};
-ghost use Prim.Native.Nat.{_-_, _<_, _≤_, ℕ};
+ghost use Prim.Native.Nat.{_<_, _≤_, ℕ};
+ghost use lib.ListN.{length};
+ghost use Rattle.io.specs.Counts.{clamped};
 ghost use Rattle.lines.specs.Holds.{Holds};
+ghost use Rattle.lines.specs.Input.{AtStart, NextLine, Refilled, Stepped, Took};
 
 // The longest readable line has 45 bytes: `set` and two numbers of 20 digits.
 pub const LINE_ROOM: usize = 46;
@@ -46,7 +49,9 @@ pub struct Reader {
 }
 
 // Before the first line.
-pub fn at_start() -> Reader {
+pub fn at_start() -> Reader
+    ensures { λ r. ⌜ AtStart r ⌝ }
+{
     Reader {
         at: 0,
         end: 0,
@@ -60,9 +65,9 @@ pub fn at_start() -> Reader {
 }
 
 // One byte: the end of the line, or a byte of it.
-fn take_one(r: Reader, b: u8, left: u64, line: &mut [u8; LINE_ROOM]) -> Reader
+fn take_one(r: Reader, b: u8, left: u64, line: &mut [u8]) -> Reader
     requires { ⌜ r .at < r .end ⌝ }
-    ensures { λ s. ⌜ s .turns ≤ left ⌝ }
+    ensures { λ s. ⌜ Took b left r (now (line .entry)) s (now (line .exit)) ⌝ }
 {
     let at = r.at + 1;
     let end = r.end;
@@ -86,13 +91,14 @@ fn take_one(r: Reader, b: u8, left: u64, line: &mut [u8; LINE_ROOM]) -> Reader
     }
 }
 
-// The next chunk. "A line ends at a newline or at the end of the input; after a last newline no further line follows": where the input ends, a line that has bytes is ready.
-fn refill(input: i32, r: Reader, left: u64, chunk: &mut [u8; CHUNK_ROOM]) -> Reader
-    ensures { λ s. ⌜ s .turns ≤ left ⌝ }
+// What a read answered. "A line ends at a newline or at the end of the input; after a last newline no further line follows": where the input ends, a line that has bytes is ready.
+fn take_read(r: Reader, got: isize, left: u64, chunk: &[u8]) -> Reader
+    ensures { λ s. ⌜ s .end ≤ length (now (chunk .entry)) ⌝ }
+    ensures { λ s. ⌜ Refilled (clamped got (length (now (chunk .entry)))) left r s ⌝ }
 {
     let part = r.part;
-    let got = libc::read(input, chunk);
-    if got <= 0 {
+    let n = io::count(got, chunk);
+    if n == 0 {
         return Reader {
             at: 0,
             end: 0,
@@ -101,7 +107,6 @@ fn refill(input: i32, r: Reader, left: u64, chunk: &mut [u8; CHUNK_ROOM]) -> Rea
             turns: 0,
         };
     }
-    let n = io::count(got, chunk);
     Reader {
         at: 0,
         end: n,
@@ -111,25 +116,34 @@ fn refill(input: i32, r: Reader, left: u64, chunk: &mut [u8; CHUNK_ROOM]) -> Rea
     }
 }
 
-fn step(input: i32, r: Reader, chunk: &mut [u8; CHUNK_ROOM], line: &mut [u8; LINE_ROOM]) -> Reader
+// The next chunk.
+fn refill(input: i32, r: Reader, left: u64, chunk: &mut [u8]) -> Reader
+    ensures { λ s. ⌜ (s .end ≤ length (now (chunk .exit))) × Refilled (s .end) left r s ⌝ }
+{
+    let got = libc::read(input, chunk);
+    take_read(r, got, left, chunk)
+}
+
+// Takes a byte, or reads the next chunk where none is left.
+fn step(input: i32, r: Reader, chunk: &mut [u8], line: &mut [u8]) -> Reader
     requires { ⌜ 0 < r .turns ⌝ }
-    ensures { λ s. ⌜ s .turns ≤ r .turns - 1 ⌝ }
+    ensures { λ s. ⌜ Stepped r (now (chunk .entry)) (now (line .entry)) s (now (chunk .exit)) (now (line .exit)) ⌝ }
 {
     let left = r.turns - 1;
     let at = r.at;
-    if at < r.end && at < CHUNK_ROOM {
-        return take_one(r, chunk[at], left, line);
+    if at < r.end {
+        if at < chunk.len() {
+            return take_one(r, chunk[at], left, line);
+        }
     }
     refill(input, r, left, chunk)
 }
 
 // Reads to the end of the next line. A proved loop has to end, and nothing says that an input does: so it counts its steps down, from a number that no run uses up.
-pub fn next_line(
-    input: i32,
-    from: Reader,
-    chunk: &mut [u8; CHUNK_ROOM],
-    line: &mut [u8; LINE_ROOM],
-) -> Reader {
+fn read_line(input: i32, from: Reader, chunk: &mut [u8], line: &mut [u8]) -> Reader
+    requires { ⌜ 0 < length (now line) ⌝ }
+    ensures { λ r. ⌜ NextLine from (now (chunk .entry)) r (now (chunk .exit)) (now (line .exit)) ⌝ }
+{
     let mut r = Reader {
         at: from.at,
         end: from.end,
@@ -144,4 +158,16 @@ pub fn next_line(
         r = step(input, r, chunk, line);
     }
     r
+}
+
+// The next line of the input.
+pub fn next_line(
+    input: i32,
+    from: Reader,
+    chunk: &mut [u8; CHUNK_ROOM],
+    line: &mut [u8; LINE_ROOM],
+) -> Reader
+    ensures { λ r. ⌜ NextLine from (now (chunk .entry)) r (now (chunk .exit)) (now (line .exit)) ⌝ }
+{
+    read_line(input, from, chunk, line)
 }

@@ -1,0 +1,10 @@
+-- `lines::at_start`. Assumes nothing.
+use Rattle.lines.proofs.Steps.{started}
+use Rattle.lines.proofs.at_start.Statement.{statement}
+use Rattle.lines.proofs.at_start.Tie as tie
+
+returns : tie.Need-returns
+returns c = started 0
+
+pub at-start-spec : {M : Type 1} → statement M
+at-start-spec = tie.close (tie.spec returns)

@@ -1,0 +1,42 @@
+-- `lines::read_line`: each step goes on with the line or ends it, and leaves fewer. Assumes nothing.
+use Rattle.lines.proofs.Turns.{Turned, fewer, turned, turned-end, turned-start}
+use mathlib.Core.Path.{_≡_, refl}
+use lib.ListN.{length}
+use native.Mathlib.Omega.{arith}
+use borrow.Author.Needs.{needs}
+use Rattle.lines.proofs.read_line.Statement.{statement}
+use Rattle.lines.proofs.read_line.Tie as tie
+
+abbrev Inv-loop : tie.InvT-loop
+Inv-loop input chunk₀ line₀ r₀ chunk line r = (length chunk ≡ length chunk₀) × (length line ≡ length line₀) × Turned r₀ chunk₀ r chunk line
+
+abbrev μ-loop : tie.MeasureT-loop
+μ-loop input chunk₀ line₀ r₀ chunk line r = r .turns
+
+loop-holds : tie.Need-loop-holds Inv-loop μ-loop
+loop-holds c = (refl, refl, turned-start _ _ _ _ refl refl refl refl)
+
+loop-less : tie.Need-loop-less Inv-loop μ-loop
+loop-less c = fewer _ _ _ _ _ _ (c .before .before .before .before .before .before .before .if1 .taken) (c .before .before .before .before .step .ensures)
+
+loop-again : tie.Need-loop-again Inv-loop μ-loop
+loop-again c =
+    let held = c .before .before .before .before .before .before .before .before .before .loop .inv in
+    (search needs, search needs, turned _ _ _ _ _ _ _ _ (c .before .before .before .before .before .before .before .if1 .taken) (omega (arith, c .before .before .before .before .before .before .before .before .before .before .before .before .pre, held .1)) (held .2) (c .before .before .before .before .step .ensures))
+
+returns : tie.Need-returns Inv-loop μ-loop
+returns c = turned-end _ _ _ _ _ _ refl (c .if1 .left) (c .before .before .loop .inv .2)
+
+pub read-line-spec : {M : Type 1} → statement M
+read-line-spec =
+    tie.close
+    (tie.spec
+    Inv-loop
+    μ-loop
+    loop-holds
+    (λ c κs. search needs)
+    loop-less
+    loop-again
+    (λ c. search needs)
+    (λ c. search needs)
+    returns)

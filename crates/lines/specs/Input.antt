@@ -1,0 +1,81 @@
+-- The lines of the input: what taking the bytes of a chunk, and reading the next one, does to a line. Definitions only.
+use mathlib.Core.Path.{_≡_}
+use mathlib.Core.Logic.{_≢_}
+use mathlib.Core.Bool.{Bool, false, true}
+use mathlib.Core.List.{List, [], _++_, _∷_}
+use Prim.Native.Nat.{_+_, _-_, _<_, _≤_, ℕ}
+use lib.Dec.{ltb}
+use lib.ListN.{drop, length, take}
+use Rattle.lines.specs.Holds.{Holds}
+use Rattle.lines.specs.declared.Reader.{Reader}
+
+abbrev pub newline : ℕ
+newline = 10
+
+-- the bytes of a chunk that are not taken yet
+abbrev pub unread : Reader → List ℕ → List ℕ
+unread r chunk = drop (r .at) (take (r .end) chunk)
+
+-- ---- one step
+
+-- before the first line: nothing is read, no line is begun
+pub record AtStart (r : Reader) : Type 0 where
+  pub nothing : (chunk : List ℕ) → unread r chunk ≡ []
+  pub no-line : (area : List ℕ) → Holds (r .part) area []
+  pub waits : r .ready ≡ false
+
+-- the byte b is taken: a newline ends the line, any other byte is its next one
+pub record Took (b left : ℕ) (r : Reader) (area : List ℕ) (s : Reader) (area′ : List ℕ) : Type 0 where
+  pub next : (s .at ≡ r .at + 1) × (s .end ≡ r .end)
+  pub ends : b ≡ newline → (s .ready ≡ true) × (s .turns ≡ 0) × (s .part ≡ r .part) × (area′ ≡ area)
+  pub goes-on : b ≢ newline → (s .ready ≡ false) × (s .turns ≡ left) × ((xs : List ℕ) → Holds (r .part) area xs → Holds (s .part) area′ (xs ++ (b ∷ [])))
+
+-- n bytes were read, and stand first in the chunk. Where there are none the input has ended, and so has a line that has bytes
+pub record Refilled (n left : ℕ) (r s : Reader) : Type 0 where
+  pub bytes : (s .at ≡ 0) × (s .end ≡ n)
+  pub line : s .part ≡ r .part
+  pub ends : n ≡ 0 → (s .ready ≡ ltb 0 (r .part .kept)) × (s .turns ≡ 0)
+  pub goes-on : 0 < n → (s .ready ≡ false) × (s .turns ≡ left)
+
+-- a step takes the next byte of the chunk; where there is none, it reads
+pub data Stepped (r : Reader) (chunk area : List ℕ) (s : Reader) (chunk′ area′ : List ℕ) : Type 0 where
+  took : (b : ℕ) → unread r chunk ≡ b ∷ unread s chunk′ → chunk′ ≡ chunk → Took b (r .turns - 1) r area s area′ → Stepped r chunk area s chunk′ area′
+  refilled : (n : ℕ) → unread r chunk ≡ [] → n ≤ length chunk′ → Refilled n (r .turns - 1) r s → area′ ≡ area → Stepped r chunk area s chunk′ area′
+
+-- ---- a line
+
+-- what was read, the last chunk first, as one row of bytes
+abbrev pub inOrder : List (List ℕ) → List ℕ
+inOrder [] = []
+inOrder (c ∷ earlier) = inOrder earlier ++ c
+
+-- each read gave bytes
+abbrev pub Gave : List (List ℕ) → Type 0
+Gave [] = Unit {0}
+Gave (c ∷ earlier) = (0 < length c) × Gave earlier
+
+-- the last chunk that was read stands in the area for chunks; where nothing was read, that area is as before
+abbrev pub Last : List (List ℕ) → (before : List ℕ) → Reader → (chunk : List ℕ) → Type 0
+Last [] before r chunk = chunk ≡ before
+Last (c ∷ earlier) before r chunk = c ≡ take (r .end) chunk
+
+-- no newline among the bytes
+abbrev pub Plain : List ℕ → Type 0
+Plain [] = Unit {0}
+Plain (b ∷ s) = (b ≢ newline) × Plain s
+
+-- "A line ends at a newline or at the end of the input; after a last newline no further line follows": the line, of the bytes `input`, and what is left of them; whether there is a line.
+-- The input ends where a read gives nothing. The third way takes 2 ^ 64 - 1 bytes and reads.
+pub data Ends (input line rest : List ℕ) : (reads : List (List ℕ)) → (ready : Bool) → Type 0 where
+  at-newline : {reads : List (List ℕ)} → Gave reads → input ≡ line ++ (newline ∷ rest) → Ends input line rest reads true
+  at-end : {earlier : List (List ℕ)} → Gave earlier → input ≡ line → rest ≡ [] → Ends input line rest ([] ∷ earlier) (ltb 0 (length line))
+  out-of-turns : {reads : List (List ℕ)} → Gave reads → input ≡ line ++ rest → length line + length reads ≡ 18446744073709551615 → Ends input line rest reads false
+
+-- the next line: of the bytes that were left, and then of those that were read
+pub record NextLine (from : Reader) (chunk : List ℕ) (to : Reader) (chunk′ area : List ℕ) : Type 0 where
+  pub line : List ℕ
+  pub reads : List (List ℕ)
+  pub last : Last reads chunk to chunk′
+  pub plain : Plain line
+  pub holds : Holds (to .part) area line
+  pub ends : Ends (unread from chunk ++ inOrder reads) line (unread to chunk′) reads (to .ready)
