@@ -1,2 +1,3 @@
+pub mod AllLines
 pub mod Holds
 pub mod Input
