@@ -12,6 +12,7 @@ use Rattle.lines.specs.declared.Reader.{Reader}
 
 -- ---- definitions
 
+-- the byte b before these lines: a newline is a line's end, any other byte stands first in the first line
 abbrev onFirst : Bool → ℕ → List (List ℕ) → List (List ℕ)
 onFirst true b lines = [] ∷ lines
 onFirst false b [] = (b ∷ []) ∷ []
@@ -22,6 +23,7 @@ abbrev pub linesOf : List ℕ → List (List ℕ)
 linesOf [] = []
 linesOf (b ∷ input) = onFirst (eqb b newline) b (linesOf input)
 
+-- a line, if there is one
 abbrev pub ifReady : Bool → List ℕ → List (List ℕ)
 ifReady true line = line ∷ []
 ifReady false line = []

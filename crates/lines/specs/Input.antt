@@ -44,7 +44,7 @@ pub data Stepped (r : Reader) (chunk area : List ℕ) (s : Reader) (chunk′ are
 
 -- ---- a line
 
--- what was read, the last chunk first, as one row of bytes
+-- the bytes of all reads in their order, of a list that has the last read first
 abbrev pub inOrder : List (List ℕ) → List ℕ
 inOrder [] = []
 inOrder (c ∷ earlier) = inOrder earlier ++ c
@@ -54,7 +54,7 @@ abbrev pub Gave : List (List ℕ) → Type 0
 Gave [] = Unit {0}
 Gave (c ∷ earlier) = (0 < length c) × Gave earlier
 
--- the last chunk that was read stands in the area for chunks; where nothing was read, that area is as before
+-- what the last read gave stands first in the chunk; where nothing was read, the chunk is as before
 abbrev pub Last : List (List ℕ) → (before : List ℕ) → Reader → (chunk : List ℕ) → Type 0
 Last [] before r chunk = chunk ≡ before
 Last (c ∷ earlier) before r chunk = c ≡ take (r .end) chunk
@@ -64,8 +64,8 @@ abbrev pub Plain : List ℕ → Type 0
 Plain [] = Unit {0}
 Plain (b ∷ s) = (b ≢ newline) × Plain s
 
--- "A line ends at a newline or at the end of the input; after a last newline no further line follows": the line, of the bytes `input`, and what is left of them; whether there is a line.
--- The input ends where a read gives nothing. The third way takes 2 ^ 64 - 1 bytes and reads.
+-- "A line ends at a newline or at the end of the input; after a last newline no further line follows": the bytes `input` are a line, and what is left; `ready` says whether there is a line.
+-- The input ends where a read gives nothing. The third case is a loop that has used up its steps, after 2 ^ 64 - 1 bytes and reads.
 pub data Ends (input line rest : List ℕ) : (reads : List (List ℕ)) → (ready : Bool) → Type 0 where
   at-newline : {reads : List (List ℕ)} → Gave reads → input ≡ line ++ (newline ∷ rest) → Ends input line rest reads true
   at-end : {earlier : List (List ℕ)} → Gave earlier → input ≡ line → rest ≡ [] → Ends input line rest ([] ∷ earlier) (ltb 0 (length line))

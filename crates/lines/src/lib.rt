@@ -116,7 +116,7 @@ fn take_read(r: Reader, got: isize, left: u64, chunk: &[u8]) -> Reader
     }
 }
 
-// The next chunk.
+// Reads the next chunk.
 fn refill(input: i32, r: Reader, left: u64, chunk: &mut [u8]) -> Reader
     ensures { λ s. ⌜ (s .end ≤ length (now (chunk .exit))) × Refilled (s .end) left r s ⌝ }
 {
@@ -160,7 +160,7 @@ fn read_line(input: i32, from: Reader, chunk: &mut [u8], line: &mut [u8]) -> Rea
     r
 }
 
-// The next line of the input.
+// The next line of the input. What is left of the chunk is for the line after it.
 pub fn next_line(
     input: i32,
     from: Reader,
