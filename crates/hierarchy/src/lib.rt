@@ -10,10 +10,10 @@ use network::Rank;
 use network::Time;
 use records::answer_of;
 use records::down_of;
-use records::first_of;
 use records::high_of;
 use records::leads_up;
 use records::low_of;
+use records::start_of;
 use records::up_of;
 
 // ---- down totals (document 01: aim)
@@ -139,7 +139,7 @@ fn walk_pairs(
     ensures { λ v. ⌜ Walked n (now (order .entry)) (now (pairs .entry)) count (now (down .entry)) (now (estimates .entry)) (now (estimates .exit)) (r .0) (own .0) count (v .0) ⌝ }
 {
     let mut best = own;
-    let mut k: u32 = first_of(pairs, count, r);
+    let mut k: u32 = start_of(pairs, count, r);
     while k < count {
         let i = k;
         k += 1;

@@ -17,7 +17,7 @@ use Rattle.hierarchy.proofs.walk_pairs.Kinds as walk-pairs-kinds
 use Rattle.hierarchy.proofs.+estimate_rank+walk_pairs.Lts-walk_pairs as walk-pairs-lts
 use Rattle.hierarchy.proofs.known_of.Reads as known-of-reads
 use Rattle.records.proofs.answer_of.Reads as answer-of-reads
-use Rattle.records.proofs.first_of.Reads as first-of-reads
+use Rattle.records.proofs.start_of.Reads as start-of-reads
 use Rattle.records.proofs.high_of.Reads as high-of-reads
 use Rattle.records.proofs.leads_up.Reads as leads-up-reads
 use Rattle.records.proofs.low_of.Reads as low-of-reads
@@ -104,8 +104,8 @@ pub +estimate-rank+walk-pairs-spec : {M : Type 1} → statement M
     (c .before .before .before .before .walk-pairs .ensures) (c .before .answer-of .ensures)
     (c .word .ensures)))
     λ t. walk-pairs-lts.spec (
-      first-of-reads.Asked,
-      first-of-reads.Learnt,
+      start-of-reads.Asked,
+      start-of-reads.Learnt,
       low-of-reads.Asked,
       low-of-reads.Learnt,
       high-of-reads.Asked,
@@ -128,7 +128,7 @@ pub +estimate-rank+walk-pairs-spec : {M : Type 1} → statement M
     walk-pairs-Inv-loop
     walk-pairs-μ-loop
     (λ c κs. search needs)
-    (λ c. (c .first-of .ensures .bound, search needs, walk-start _ _ _ _ _ _ _ _ (search needs) _ (c .first-of .ensures)))
+    (λ c. (c .start-of .ensures .bound, search needs, walk-start _ _ _ _ _ _ _ _ (search needs) _ (c .start-of .ensures)))
     (λ c. search needs)
     (λ c κs. search needs)
     (λ c. search needs)
