@@ -5,6 +5,7 @@ use mathlib.Core.Bool.{false, true}
 use mathlib.Core.Option.{none, some}
 use mathlib.Core.List.{List}
 use Prim.Native.Nat.{_*_, _+_, _<_, _≤_, min, suc, ℕ}
+use borrow.Author.Tests.{le-ltb, lt-ltb}
 use lib.ListN.{getD, length, length-set, set}
 use lib.Seq.{getD-set-other, getD-set-same}
 use native.Mathlib.Decide.{decLt, ℕ-discrete}
@@ -27,7 +28,7 @@ use Rattle.model.specs.Good.{AimFacts, Filled, filled-no, filled-yes}
 use Rattle.model.specs.Use.{pairIn}
 use Rattle.network.specs.Width.{fit, fit-is, fit-min}
 use Rattle.hierarchy.specs.Estimates.{aim-filled}
-use Rattle.hierarchy.specs.Walks.{Climbed, Holds, Risen, Walked, above, estimateAt, over}
+use Rattle.hierarchy.specs.Walks.{Climbed, Holds, Risen, Walked, above, estimateAt, over, standing}
 use Rattle.records.specs.Words.{Starts, answer, highIn, leads, lowIn, upIn}
 use Rattle.records.specs.Tests.{Leads, answer-asked, answer-other, leads-facts}
 use Rattle.hierarchy.proofs.Facts.{Ranked, above-closed, above-here, above-link, ascending, climbs, down-small, estimate-small, idle, order-rank, over-all, over-here, over-idle, over-other, placed, ranked, up-small}
@@ -271,3 +272,33 @@ module _ (n : ℕ) (order pairs : List ℕ) (count : ℕ) (down e : List ℕ) (r
 
           apart : (u : ℕ) → u < M .vertices → above M r u ≡ false → getD (set z i v) u 0 ≡ getD e u 0
           apart u lu p = getD-set-other z i u v 0 (λ q. true-false (above-here M r u (ap (rank M) q ∙ ranks o)) p) ∙ s .apart u lu p
+
+-- ---- what stands for a rank
+
+module _ (n : ℕ) (order e : List ℕ) (r i : ℕ) (i-is : i ≡ wordAt order (4 * r)) where
+  pub standing-none : n ≤ i → noneWord ≡ standing n order e r
+  unfolding standing
+  standing-none h = rw (le-ltb (wordAt order (4 * r)) n (omega (arith, h, i-is)))
+
+  pub standing-entry : i < n → (v : ℕ) → v ≡ getD e i 0 → v ≡ standing n order e r
+  unfolding standing
+  standing-entry h v q = q ∙ ap (λ (y : ℕ). getD e y 0) i-is ∙ rw (lt-ltb (wordAt order (4 * r)) n (omega (arith, h, i-is)))
+
+  pub unasked-entry : standing n order e r ≡ unasked → (i < n) × (getD e i 0 ≡ unasked)
+  unasked-entry u = go (decLt i n)
+    where
+      go : Dec (i < n) → (i < n) × (getD e i 0 ≡ unasked)
+      go (yes h) = (h, standing-entry h (getD e i 0) refl ∙ u)
+      go (no h) = let z = standing-none (omega (arith, h)) in absurd (omega (arith, z, u))
+
+-- what stands for a rank and is not unasked is the answer
+pub stands : (n : ℕ) (order pairs : List ℕ) (count : ℕ) (down e : List ℕ) (r : ℕ) → r < n → length e ≡ n → (v : ℕ) → v ≡ standing n order e r → (v ≡ unasked → ⊥)
+    → Climbed n order pairs count down e e r v
+stands n order pairs count down e r lr len v q h = go (decLt (wordAt order (4 * r)) n)
+  where
+    go : Dec (wordAt order (4 * r) < n) → Climbed n order pairs count down e e r v
+    go (yes l) = known n order pairs count down e r lr (wordAt order (4 * r)) refl v (q ∙ sym (standing-entry n order e r (wordAt order (4 * r)) refl l _ refl)) len h
+    go (no l) =
+        let z : n ≤ wordAt order (4 * r) = omega (arith, l) in
+        subst (λ (y : ℕ). Climbed n order pairs count down e e r y) (standing-none n order e r (wordAt order (4 * r)) refl z ∙ sym q)
+        (astray n order pairs count down e r lr (wordAt order (4 * r)) refl z)

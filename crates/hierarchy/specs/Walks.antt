@@ -47,6 +47,10 @@ over M t r i =
     let p = pairIn (pairsOf M) i in
     cond (eqb (p .low) r) (p .upTime ⊕ estimateAt M t (p .high)) none
 
+-- what stands in the estimates e for rank r: the entry of the junction that the order has there; none, if that is none of the n
+unfoldable pub standing : (n : ℕ) (order e : List ℕ) (r : ℕ) → ℕ
+standing n order e r = cond (ltb (wordAt order (4 * r)) n) (getD e (wordAt order (4 * r)) 0) noneWord
+
 -- filled entries stay
 abbrev pub Kept : (e z : List ℕ) → Type 0
 Kept e z = (i : ℕ) → (getD e i 0 ≡ unasked → ⊥) → getD z i 0 ≡ getD e i 0

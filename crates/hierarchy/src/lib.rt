@@ -3,17 +3,17 @@ ghost use mathlib.Core.Path.{_≡_};
 ghost use Prim.Native.Nat.{_*_, _+_, _<_, _≤_};
 ghost use lib.ListN.{length, replicate};
 ghost use Rattle.hierarchy.specs.Estimates.{Estimated};
-ghost use Rattle.hierarchy.specs.Walks.{Climbed, Walked};
+ghost use Rattle.hierarchy.specs.Walks.{Climbed, Walked, standing};
 ghost use Rattle.hierarchy.specs.Downs.{Descended, Handed};
 use network::Junction;
 use network::Rank;
 use network::Time;
 use records::answer_of;
 use records::down_of;
-use records::first_of;
 use records::high_of;
 use records::leads_up;
 use records::low_of;
+use records::start_of;
 use records::up_of;
 
 // ---- down totals (document 01: aim)
@@ -86,6 +86,18 @@ pub fn down_totals(
 
 // ---- estimates (document 01: estimate)
 
+// What stands in the estimates for rank r: none where the order has no junction of the n there.
+fn known_of(n: u32, order: &[u8], estimates: &[u32], r: Rank) -> Time
+    requires { ⌜ (r .0 < n) × (n ≤ 4096) × (length (now order) ≡ 4 * n) × (length (now estimates) ≡ n) ⌝ }
+    ensures { λ v. ⌜ v .0 ≡ standing n (now (order .entry)) (now (estimates .entry)) (r .0) ⌝ }
+{
+    let j = network::junction_of(order, r);
+    if n <= j.0 {
+        return Time::NONE;
+    }
+    Time::of_word(estimates[j.0 as usize])
+}
+
 // The estimate of the junction of rank r, filled with those that it asks for.
 fn estimate_rank(
     n: u32,
@@ -99,15 +111,12 @@ fn estimate_rank(
     requires { ⌜ (r .0 < n) × (n ≤ 4096) × (length (now order) ≡ 4 * n) × (length (now down) ≡ n) × (length (now estimates) ≡ n) × (4 * count ≤ length (now pairs)) × (count ≤ 65536) ⌝ }
     ensures { λ v. ⌜ Climbed n (now (order .entry)) (now (pairs .entry)) count (now (down .entry)) (now (estimates .entry)) (now (estimates .exit)) (r .0) (v .0) ⌝ }
 {
-    let j = network::junction_of(order, r);
-    if n <= j.0 {
-        return Time::NONE;
-    }
-    let i = j.0 as usize;
-    let known = Time::of_word(estimates[i]);
+    let known = known_of(n, order, estimates, r);
     if !known.is_unasked() {
         return known;
     }
+    let j = network::junction_of(order, r);
+    let i = j.0 as usize;
     let own = Time::of_word(down[i]);
     let best = walk_pairs(n, count, order, pairs, down, estimates, r, own);
     let v = answer_of(best);
@@ -115,7 +124,7 @@ fn estimate_rank(
     v
 }
 
-// The least of own and, over the records that lead up from rank r, the up time plus the estimate of the higher rank.
+// The least of own and, over the records that lead up from rank r, the up time plus the estimate of the higher rank. Most of these are known, and taken without a call.
 fn walk_pairs(
     n: u32,
     count: u32,
@@ -130,7 +139,7 @@ fn walk_pairs(
     ensures { λ v. ⌜ Walked n (now (order .entry)) (now (pairs .entry)) count (now (down .entry)) (now (estimates .entry)) (now (estimates .exit)) (r .0) (own .0) count (v .0) ⌝ }
 {
     let mut best = own;
-    let mut k: u32 = first_of(pairs, count, r);
+    let mut k: u32 = start_of(pairs, count, r);
     while k < count {
         let i = k;
         k += 1;
@@ -141,8 +150,13 @@ fn walk_pairs(
         let high = high_of(pairs, i);
         let up = up_of(pairs, i);
         if leads_up(n, r, low, high, up) {
-            let e = estimate_rank(n, count, order, pairs, down, estimates, high);
-            best = best.or_sum(up, e);
+            let known = known_of(n, order, estimates, high);
+            if known.is_unasked() {
+                let asked = estimate_rank(n, count, order, pairs, down, estimates, high);
+                best = best.or_sum(up, asked);
+            } else {
+                best = best.or_sum(up, known);
+            }
         }
     }
     best

@@ -32,8 +32,12 @@ answer x = cond (eqb x unasked) noneWord x
 abbrev pub Ascending : List ℕ → ℕ → Type 0
 Ascending pairs count = (i k : ℕ) → i ≤ k → k < count → lowIn pairs i ≤ lowIn pairs k
 
--- s is the place of the first record whose low is not below r, if the records ascend; the number of records, if there is none
+-- whether the low of record i is below r, as a number
+unfoldable pub belowIn : List ℕ → ℕ → ℕ → ℕ
+belowIn pairs r i = cond (ltb (lowIn pairs i) r) 1 0
+
+-- if the records ascend, all before s are below r, and from s + 3 on none is
 pub record Starts (pairs : List ℕ) (count r s : ℕ) : Type 0 where
   pub bound : s ≤ count
   pub before : Ascending pairs count → (i : ℕ) → i < s → lowIn pairs i < r
-  pub onward : Ascending pairs count → (i : ℕ) → s ≤ i → i < count → r ≤ lowIn pairs i
+  pub onward : Ascending pairs count → (i : ℕ) → s + 3 ≤ i → i < count → r ≤ lowIn pairs i

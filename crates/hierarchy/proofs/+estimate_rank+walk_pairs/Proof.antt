@@ -1,4 +1,4 @@
-use Rattle.hierarchy.proofs.Climbs.{astray, computed, known, walk-end, walk-skip, walk-start, walk-stop, walk-take}
+use Rattle.hierarchy.proofs.Climbs.{computed, stands, unasked-entry, walk-end, walk-skip, walk-start, walk-stop, walk-take}
 use Rattle.records.specs.Tests.{leads-facts, leads-read}
 use Rattle.hierarchy.specs.Walks.{Walked}
 use mathlib.Core.Path.{_∙_, _≡_, sym}
@@ -15,8 +15,9 @@ use Rattle.hierarchy.proofs.+estimate_rank+walk_pairs.Lts-estimate_rank
 use Rattle.hierarchy.proofs.walk_pairs.Reads as walk-pairs
 use Rattle.hierarchy.proofs.walk_pairs.Kinds as walk-pairs-kinds
 use Rattle.hierarchy.proofs.+estimate_rank+walk_pairs.Lts-walk_pairs as walk-pairs-lts
+use Rattle.hierarchy.proofs.known_of.Reads as known-of-reads
 use Rattle.records.proofs.answer_of.Reads as answer-of-reads
-use Rattle.records.proofs.first_of.Reads as first-of-reads
+use Rattle.records.proofs.start_of.Reads as start-of-reads
 use Rattle.records.proofs.high_of.Reads as high-of-reads
 use Rattle.records.proofs.leads_up.Reads as leads-up-reads
 use Rattle.records.proofs.low_of.Reads as low-of-reads
@@ -64,12 +65,14 @@ walk-pairs-μ-loop n count order pairs down estimates₀ r best₀ k₀ estimate
 
 pub +estimate-rank+walk-pairs-spec : {M : Type 1} → statement M
 +estimate-rank+walk-pairs-spec = close μ-estimate-rank μ-walk-pairs (λ t. estimate-rank-lts.spec (
+  known-of-reads.Asked,
+  known-of-reads.Learnt,
+  is-unasked-reads.Asked,
+  is-unasked-reads.Learnt,
   junction-of-reads.Asked,
   junction-of-reads.Learnt,
   of-word-reads.Asked,
   of-word-reads.Learnt,
-  is-unasked-reads.Asked,
-  is-unasked-reads.Learnt,
   walk-pairs-below t,
   walk-pairs.Post,
   answer-of-reads.Asked,
@@ -80,35 +83,29 @@ pub +estimate-rank+walk-pairs-spec : {M : Type 1} → statement M
     (estimate-rank-at t)
     estimate-rank.Post
     (λ c κs. search needs)
-    (λ c. astray _ _ _ _ _ _ _ (search needs) (c .before .before .junction-of .result .0) (c .before .before .junction-of .ensures) (c .if1 .taken))
-    (λ c. search needs)
-    (λ c. search needs)
-    (λ c. search needs)
     (λ c κs. search needs)
+    (λ c. search needs)
+    (λ c. stands _ _ _ _ _ _ _ (search needs) (search needs) _ (c .before .before .known-of .ensures) (eqb-false _ _ (sym (c .before .is-unasked .ensures) ∙ not-true _ (c .if1 .taken))))
     (λ c κs. search needs)
-    (λ c. known _ _ _ _ _ _ _ (search needs) (c .before .before .before .before .before .before .before .junction-of .result .0)
-    (c .before .before .before .before .before .before .before .junction-of .ensures) _ (c .before .before .of-word .ensures) (search needs)
-    (eqb-false _ _ (sym (c .before .is-unasked .ensures) ∙ not-true _ (c .if2 .taken))))
     (λ c. search needs)
-    (λ c. search needs)
+    (λ c. let u = unasked-entry _ _ _ _ _ (c .before .junction-of .ensures) (sym (c .before .before .before .before .known-of .ensures) ∙ eqb-true _ _ (sym (c .before .before .before .is-unasked .ensures) ∙ not-false _ (c .before .before .if1 .left))) in search needs)
+    (λ c. let u = unasked-entry _ _ _ _ _ (c .before .before .junction-of .ensures) (sym (c .before .before .before .before .before .known-of .ensures) ∙ eqb-true _ _ (sym (c .before .before .before .before .is-unasked .ensures) ∙ not-false _ (c .before .before .before .if1 .left))) in search needs)
     (λ c κs. search needs)
     (λ c κs. search needs)
     (λ c κs. search needs)
     (λ c κs. search needs)
     (λ c. search needs)
+    (λ c. let u : _ < _ = unasked-entry _ _ _ _ _ (c .before .before .before .before .before .before .before .before .before .junction-of .ensures) (sym (c .before .before .before .before .before .before .before .before .before .before .before .before .known-of .ensures) ∙ eqb-true _ _ (sym (c .before .before .before .before .before .before .before .before .before .before .before .is-unasked .ensures) ∙ not-false _ (c .before .before .before .before .before .before .before .before .before .before .if1 .left))) .0 in omega (arith, u, c .before .before .before .before .walk-pairs .kept .1 .1 .1 .1 .1 .0, c .before .before .before .before .before .before .before .before .before .before .before .before .before .before .before .before .before .before .pre .1 .4))
     (λ c. search needs)
-    (λ c. search needs)
-    (λ c. computed _ _ _ _ _ _ _ (search needs)
-    (c .before .before .before .before .before .before .before .before .before .before .before .before .before .before .before .junction-of .result .0)
-    (c .before .before .before .before .before .before .before .before .before .before .before .before .before .before .before .junction-of .ensures) _ _ _ _ _
-    (sym (c .before .before .before .before .before .before .before .before .before .before .of-word .ensures) ∙ eqb-true _ _
-    (sym (c .before .before .before .before .before .before .before .before .before .is-unasked .ensures) ∙ not-false _
-    (c .before .before .before .before .before .before .before .before .if2 .left))) (search needs)
-    (c .before .before .before .before .before .before .of-word2 .ensures) (c .before .before .before .before .walk-pairs .ensures) (c .before .answer-of .ensures)
+    (λ c.
+    let u = unasked-entry _ _ _ _ _ (c .before .before .before .before .before .before .before .before .before .junction-of .ensures) (sym (c .before .before .before .before .before .before .before .before .before .before .before .before .known-of .ensures) ∙ eqb-true _ _ (sym (c .before .before .before .before .before .before .before .before .before .before .before .is-unasked .ensures) ∙ not-false _ (c .before .before .before .before .before .before .before .before .before .before .if1 .left))) in
+    let p = c .before .before .before .before .before .before .before .before .before .before .before .before .before .before .before .before .before .before .pre .1 in
+    computed _ _ _ _ _ _ _ (p .0) (c .before .before .before .before .before .before .before .before .before .junction-of .result .0) (c .before .before .before .before .before .before .before .before .before .junction-of .ensures) _ _ _ _ _ (u .1) (c .before .before .before .before .walk-pairs .kept .1 .1 .1 .1 .1 .0 ∙ p .4) (c .before .before .before .before .before .before .of-word .ensures)
+    (c .before .before .before .before .walk-pairs .ensures) (c .before .answer-of .ensures)
     (c .word .ensures)))
     λ t. walk-pairs-lts.spec (
-      first-of-reads.Asked,
-      first-of-reads.Learnt,
+      start-of-reads.Asked,
+      start-of-reads.Learnt,
       low-of-reads.Asked,
       low-of-reads.Learnt,
       high-of-reads.Asked,
@@ -117,6 +114,10 @@ pub +estimate-rank+walk-pairs-spec : {M : Type 1} → statement M
       up-of-reads.Learnt,
       leads-up-reads.Asked,
       leads-up-reads.Learnt,
+      known-of-reads.Asked,
+      known-of-reads.Learnt,
+      is-unasked-reads.Asked,
+      is-unasked-reads.Learnt,
       estimate-rank-below t,
       estimate-rank.Post,
       or-sum-reads.Asked,
@@ -127,50 +128,55 @@ pub +estimate-rank+walk-pairs-spec : {M : Type 1} → statement M
     walk-pairs-Inv-loop
     walk-pairs-μ-loop
     (λ c κs. search needs)
-    (λ c. (c .first-of .ensures .bound, search needs, walk-start _ _ _ _ _ _ _ _ (search needs) _ (c .first-of .ensures)))
+    (λ c. (c .start-of .ensures .bound, search needs, walk-start _ _ _ _ _ _ _ _ (search needs) _ (c .start-of .ensures)))
     (λ c. search needs)
     (λ c κs. search needs)
     (λ c. search needs)
-    (λ c. walk-stop _ _ _ _ _ _ _ _ (search needs) _ _ _ (c .before .before .before .before .before .loop .inv .2) _ (c .before .before .before .before .loop-test .taken)
-    (c .before .before .before .low-of .ensures) (c .if1 .taken))
+    (λ c. walk-stop _ _ _ _ _ _ _ _ (search needs) _ _ _ (c .before .before .before .before .before .loop .inv .2) _ (c .before .before .before .before .loop-test .taken) (c .before .before .before .low-of .ensures) (c .if1 .taken))
     (λ c κs. search needs)
     (λ c κs. search needs)
     (λ c κs. search needs)
-    (λ c κs. let f = leads-facts _ _ _ _ _ (sym (c .before .before .leads-up .ensures) ∙ c .before .if2 .taken) in (
+    (λ c κs.
+    let f = leads-facts _ _ _ _ _ (sym (c .before .before .leads-up .ensures) ∙ c .before .if2 .taken) in
+    let p = c .before .before .before .before .before .before .before .before .before .before .before .before .before .before .before .before .pre .1 in
+    (f .below, p .1, p .2, c .before .before .before .before .before .before .before .before .before .before .loop .inv .1))
+    (λ c κs. search needs)
+    (λ c κs.
+    let f = leads-facts _ _ _ _ _ (sym (c .before .before .before .before .before .before .leads-up .ensures) ∙ c .before .before .before .before .before .if2 .taken) in
+    let p = c .before .before .before .before .before .before .before .before .before .before .before .before .before .before .before .before .before .before .before .before .pre .1 in (
       omega (arith, f .rises, f .below),
-      (
-        f .below,
-        omega arith,
-        omega arith,
-        omega arith,
-        omega
-            (arith, c .before .before .before .before .before .before .before .before .before .before .loop .inv .1),
-        omega arith,
-        omega arith,
-      ),
+      (f .below, p .1, p .2, p .3, c .before .before .before .before .before .before .before .before .before .before .before .before .before .before .loop .inv .1, p .5, p .6),
     ))
     (λ c κs. search needs)
     (λ c. search needs)
-    (λ c. (
+    (λ c.
+    let d = c .before .before .before .before .before .before .before .before .before .before in
+    let l = d .before .before .before .before .before .before .before .before .loop .inv in (
       search needs,
       search needs,
-      walk-take _ _ _ _ _ _ _ _
-          (c .before .before .before .before .before .before .before .before .before .before .before .before .before .before .before .before .before .before .before .before .pre .1 .0)
-          _ _ _ (c .before .before .before .before .before .before .before .before .before .before .before .before .before .before .loop .inv .2)
-          (c .before .before .before .before .before .before .before .before .before .before .before .before .before .loop-test .taken)
-          (leads-read _ _ _ _ _ _ _ _ _ (c .before .before .before .before .before .before .leads-up .ensures) (c .before .before .before .before .before .before .before .before .before .before .before .before .low-of .ensures) (c .before .before .before .before .before .before .before .before .high-of .ensures) (c .before .before .before .before .before .before .before .up-of .ensures) ∙ c .before .before .before .before .before .if2 .taken)
-          _ _ _ _ _ (c .before .before .before .before .before .before .before .before .high-of .ensures)
-          (c .before .before .before .before .before .before .before .up-of .ensures) (c .before .before .before .estimate-rank .ensures) (c .or-sum .ensures),
+      walk-take _ _ _ _ _ _ _ _ (c .before .before .before .before .before .before .before .before .before .before .before .before .before .before .before .before .before .before .before .before .before .before .before .before .pre .1 .0) _ _ _ (l .2) (d .before .before .before .before .before .before .before .loop-test .taken)
+          (leads-read _ _ _ _ _ _ _ _ _ (d .leads-up .ensures) (d .before .before .before .before .before .before .low-of .ensures) (d .before .before .high-of .ensures) (d .before .up-of .ensures) ∙ c .before .before .before .before .before .before .before .before .before .if2 .taken) _ _ _ _ _ (d .before .before .high-of .ensures)
+          (d .before .up-of .ensures) (c .before .before .before .estimate-rank .ensures) (c .or-sum .ensures),
+    ))
+    (λ c κs. search needs)
+    (λ c. search needs)
+    (λ c.
+    let d = c .before .before .before .before .before .before in
+    let l = d .before .before .before .before .before .before .before .before .loop .inv in
+    let f = leads-facts _ _ _ _ _ (sym (d .leads-up .ensures) ∙ c .before .before .before .before .before .if2 .taken) in (
+      search needs,
+      search needs,
+      walk-take _ _ _ _ _ _ _ _ (c .before .before .before .before .before .before .before .before .before .before .before .before .before .before .before .before .before .before .before .before .pre .1 .0) _ _ _ (l .2) (d .before .before .before .before .before .before .before .loop-test .taken)
+          (leads-read _ _ _ _ _ _ _ _ _ (d .leads-up .ensures) (d .before .before .before .before .before .before .low-of .ensures) (d .before .before .high-of .ensures) (d .before .up-of .ensures) ∙ c .before .before .before .before .before .if2 .taken) _ _ _ _ _ (d .before .before .high-of .ensures)
+          (d .before .up-of .ensures) (stands _ _ _ _ _ _ _ (f .below) (l .1) _ (c .before .before .before .known-of .ensures) (eqb-false _ _ (sym (c .before .before .is-unasked .ensures) ∙ c .before .if3 .left))) (c .or-sum2 .ensures),
     ))
     (λ c. search needs)
-    (λ c. (
+    (λ c.
+    let d = c .before in (
       search needs,
       search needs,
-      walk-skip _ _ _ _ _ _ _ _ (search needs) _ _ _
-          (c .before .before .before .before .before .before .before .before .before .loop .inv .2)
-          (c .before .before .before .before .before .before .before .before .loop-test .taken) (leads-read _ _ _ _ _ _ _ _ _ (c .before .leads-up .ensures)
-          (c .before .before .before .before .before .before .before .low-of .ensures) (c .before .before .before .high-of .ensures) (c .before .before .up-of .ensures)
-          ∙ c .if2 .left),
+      walk-skip _ _ _ _ _ _ _ _ (c .before .before .before .before .before .before .before .before .before .before .before .before .before .before .before .pre .1 .0) _ _ _ (d .before .before .before .before .before .before .before .before .loop .inv .2) (d .before .before .before .before .before .before .before .loop-test .taken)
+          (leads-read _ _ _ _ _ _ _ _ _ (d .leads-up .ensures) (d .before .before .before .before .before .before .low-of .ensures) (d .before .before .high-of .ensures) (d .before .up-of .ensures) ∙ c .if2 .left),
     ))
     (λ c. search needs)
     (λ c. walk-end _ _ _ _ _ _ _ _ (search needs) _ _ _ (c .before .loop .inv .2) (c .before .loop .inv .0) (c .loop-test .left))

@@ -1,0 +1,19 @@
+use mathlib.Core.Path.{_∙_, sym}
+use Rattle.records.specs.Tests.{below-one, below-zero}
+use borrow.Author.Needs.{needs}
+use native.Mathlib.Omega.{arith}
+use Rattle.records.proofs.is_below.Statement.{statement}
+use Rattle.records.proofs.is_below.Tie as tie
+
+returns : tie.Need-returns
+returns c =
+    let l = c .before .before .before in
+    below-one (l .before .before .args .pairs .now) _ _ (omega (arith, l .low-of .ensures, c .if1 .taken))
+
+returns-2 : tie.Need-returns-2
+returns-2 c =
+    let l = c .before .before .before in
+    below-zero (l .before .before .args .pairs .now) _ _ (omega (arith, l .low-of .ensures, c .if1 .left))
+
+pub is-below-spec : {M : Type 1} → statement M
+is-below-spec = tie.close (tie.spec (λ c κs. search needs) returns returns-2)

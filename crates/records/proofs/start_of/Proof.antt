@@ -1,0 +1,76 @@
+use Rattle.records.specs.Tests.{Left, below-most, left-all, left-few, left-turn}
+use mathlib.Core.Path.{refl}
+use Prim.Native.Nat.{_<_, _≤_}
+use borrow.Author.Needs.{needs}
+use native.Mathlib.Omega.{arith}
+use Rattle.records.proofs.start_of.Statement.{statement}
+use Rattle.records.proofs.start_of.Tie as tie
+
+abbrev Inv-loop : tie.InvT-loop
+Inv-loop pairs count r base₀ size₀ base size = Left pairs count (r .0) base size
+
+abbrev μ-loop : tie.MeasureT-loop
+μ-loop pairs count r base₀ size₀ base size = size
+
+loop-holds : tie.Need-loop-holds Inv-loop μ-loop
+loop-holds c = left-all (c .before .args .pairs .now) _ _
+
+is-below-requires : tie.Need-is-below-requires Inv-loop μ-loop
+is-below-requires c κs = omega (arith, c .loop-test .taken, c .before .loop .inv .fits, c .before .before .before .pre .0)
+
+is-below-requires-2 : tie.Need-is-below-requires-2 Inv-loop μ-loop
+is-below-requires-2 c κs =
+    let u = c .before in
+    omega (arith, u .loop-test .taken, u .before .loop .inv .fits, u .before .before .before .pre .0)
+
+is-below-requires-3 : tie.Need-is-below-requires-3 Inv-loop μ-loop
+is-below-requires-3 c κs =
+    let u = c .before .before in
+    omega (arith, u .loop-test .taken, u .before .loop .inv .fits, u .before .before .before .pre .0)
+
+loop-again : tie.Need-loop-again Inv-loop μ-loop
+loop-again c =
+    let u = c .before .before .before in
+    left-turn (u .before .before .before .args .pairs .now) _ _ _ _ (u .before .loop .inv) (u .loop-test .taken) _ refl _ _ _ (c .before .before .is-below .ensures) (c .before .is-below2 .ensures) (c .is-below3 .ensures)
+
+-- what the turn adds stays within the records
+mul-base : tie.Need-mul-base Inv-loop μ-loop
+mul-base c = omega (arith, loop-again c .fits, c .before .before .before .before .before .before .pre .1)
+
+add-base-3 : tie.Need-add-base-3 Inv-loop μ-loop
+add-base-3 c = omega (arith, loop-again c .fits, c .before .before .before .before .before .before .pre .1)
+
+-- the sum of the three tests
+add-base : tie.Need-add-base Inv-loop μ-loop
+add-base c = omega (arith, below-most _ _ _ _ (c .before .before .is-below .ensures), below-most _ _ _ _ (c .before .is-below2 .ensures))
+
+add-base-2 : tie.Need-add-base-2 Inv-loop μ-loop
+add-base-2 c = omega (arith, below-most _ _ _ _ (c .before .before .is-below .ensures), below-most _ _ _ _ (c .before .is-below2 .ensures), below-most _ _ _ _ (c .is-below3 .ensures))
+
+returns : tie.Need-returns Inv-loop μ-loop
+returns c = left-few (c .before .before .before .args .pairs .now) _ _ _ _ (c .before .loop .inv) (omega (arith, c .loop-test .left))
+
+pub start-of-spec : {M : Type 1} → statement M
+start-of-spec =
+    tie.close
+    (tie.spec
+    Inv-loop
+    μ-loop
+    loop-holds
+    (λ c. search needs)
+    is-below-requires
+    (λ c. search needs)
+    (λ c. search needs)
+    is-below-requires-2
+    (λ c. search needs)
+    (λ c. search needs)
+    is-below-requires-3
+    add-base
+    add-base-2
+    mul-base
+    add-base-3
+    (λ c. search needs)
+    (λ c. search needs)
+    (λ c. search needs)
+    loop-again
+    returns)
