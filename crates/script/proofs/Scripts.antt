@@ -18,9 +18,10 @@ use Rattle.model.specs.Chain.{left-prepared, left-step}
 use Rattle.model.specs.Proof3.{demand3}
 use Rattle.graph.specs.Map.{Map}
 use Rattle.network.specs.Refusals.{countOf}
-use Rattle.unit.specs.declared.Call as code
-use Rattle.unit.specs.declared.Call.the-variants.{Aim, Estimate, Go, Set}
-use Rattle.unit.specs.Calls.{Called, callIn}
+use Rattle.answers.specs.declared.Call as code
+use Rattle.answers.specs.declared.Call.the-variants.{Aim, Estimate, Go, Set}
+use Rattle.answers.specs.Shape.{callIn}
+use Rattle.dispatch.specs.Calls.{Called}
 use Rattle.script.specs.Script.{Held, Made, MakeContract, ReplayContract, answerWords, answersOf, begun, callsOf, held, holding, lend, machineAnswers, onward, scripted, scriptedAt, spelled, told}
 
 -- ---- the words of a call

@@ -6,14 +6,15 @@ ghost use lib.ListN.{drop, length, take};
 ghost use Rattle.model.specs.State.{Lent};
 ghost use Rattle.model.specs.Machine.{plain};
 ghost use Rattle.model.specs.Contracts.{areasOf};
-ghost use Rattle.unit.specs.Calls.{callIn};
-ghost use Rattle.unit.specs.Shape.{answerIn, answeredIn, headerIn, lentOf};
+ghost use Rattle.answers.specs.Shape.{callIn};
+ghost use Rattle.answers.specs.Shape.{answerIn};
+ghost use Rattle.unit.specs.Shape.{answeredIn, headerIn, lentOf};
 ghost use Rattle.script.specs.Script.{MakeContract, ReplayContract, answerWords, holding, spelled};
+use answers::Answer;
+use answers::Call;
 use network::Junction;
 use network::Time;
-use unit::Answer;
 use unit::Answered;
-use unit::Call;
 use unit::Header;
 
 // The call that three words of a script spell: 0 set, 1 aim, 2 estimate, any other go.
@@ -99,7 +100,8 @@ fn make_calls(
     while k < n {
         let at = 3 * k;
         let c = call_of(script[at], script[at + 1], script[at + 2]);
-        let r = h.call(
+        let r = dispatch::call(
+            h,
             card,
             ranks,
             pairs,
@@ -138,7 +140,7 @@ pub fn replay(
         (lentOf (now (route .entry)) (now (log .entry))) (now (script .entry)) (min (length (now (script .entry)) / 3) (length (now (out .entry)) / 4)) (now (out .entry)) (now (out .exit)) (answeredIn r)
         (areasOf (now (ranks .exit)) (now (pairs .exit)) (now (live .exit)) (now (down .exit)) (now (estimates .exit)) (now (elapsed .exit))) (lentOf (now (route .exit)) (now (log .exit))) ⌝ }
 {
-    let prepared = unit::prepare(card, ranks, pairs, live, down, estimates, elapsed);
+    let prepared = switch_on::prepare(card, ranks, pairs, live, down, estimates, elapsed);
     let header = prepared.header;
     let answer = prepared.answer;
     let last = make_calls(

@@ -11,11 +11,11 @@ ghost use Rattle.script.specs.Script.{ReplayContract};
 ghost use Rattle.unit.specs.Shape.{answeredIn, headerIn, lentOf};
 ghost use Rattle.unit_c.specs.Words.{Wrote, readingNumber, readingWords};
 ghost use Rattle.unit_c.specs.Answers.{answerWords, headerOf, headerWords};
+use answers::Answer;
 use card::Reading;
 use card::Writing;
 use network::Junction;
 use network::Time;
-use unit::Answer;
 use unit::Answered;
 use unit::Header;
 use unit::Target;
@@ -175,7 +175,7 @@ pub extern "C" fn unit_prepare(
 ) -> UnitAnswer
     ensures { λ r. ⌜ ((x : model.Answered) × (r ≡ answerWords x) × PrepareContract (now (card .entry)) (areasOf (now (ranks .entry)) (now (pairs .entry)) (now (live .entry)) (now (down .entry)) (now (estimates .entry)) (now (elapsed .entry))) (areasOf (now (ranks .exit)) (now (pairs .exit)) (now (live .exit)) (now (down .exit)) (now (estimates .exit)) (now (elapsed .exit))) x) ⌝ }
 {
-    answer_of(unit::prepare(card, ranks, pairs, live, down, estimates, elapsed))
+    answer_of(switch_on::prepare(card, ranks, pairs, live, down, estimates, elapsed))
 }
 
 // Sets a road's live time.

@@ -1,6 +1,6 @@
 use mathlib.Core.Path.{ap, sym}
 use Rattle.model.specs.Types as model
-use Rattle.unit.specs.Shape.{answerIn}
+use Rattle.answers.specs.Shape.{answerIn}
 use Rattle.script.specs.Script.{answerWords}
 use Rattle.script.proofs.Scripts.{estimated-words, put-told, refused-words}
 use borrow.Author.Needs.{needs}

@@ -1,7 +1,7 @@
 use Rattle.unit_c.proofs.Headers.{answer-told, refusal-told}
 use mathlib.Core.Path.{ap}
 use Rattle.model.specs.Types as model
-use Rattle.unit.specs.Shape.{answerIn}
+use Rattle.answers.specs.Shape.{answerIn}
 use borrow.Author.Needs.{needs}
 use Rattle.unit_c.proofs.answer_of.Statement.{statement}
 use Rattle.unit_c.proofs.answer_of.Tie as tie

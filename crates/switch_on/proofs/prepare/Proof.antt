@@ -1,12 +1,12 @@
 use mathlib.Core.Path.{_∙_, ap, sym}
 use borrow.Author.Tests.{not-false, not-true}
 use Rattle.model.specs.Contracts.{areasOf, before}
 use Rattle.unit.specs.Shape.{answeredIn}
 use Rattle.card.specs.Answers.{readingIn}
-use Rattle.unit.proofs.Prepares.{prepare-7, prepare-accepts, prepare-made, prepare-unread}
+use Rattle.switch_on.proofs.Prepares.{prepare-7, prepare-accepts, prepare-made, prepare-unread}
 use borrow.Author.Needs.{needs}
-use Rattle.unit.proofs.prepare.Statement.{statement}
-use Rattle.unit.proofs.prepare.Tie as tie
+use Rattle.switch_on.proofs.prepare.Statement.{statement}
+use Rattle.switch_on.proofs.prepare.Tie as tie
 
 returns : tie.Need-returns
 returns c = prepare-7 (c .before .before .before .before .before .before .before .before .before .before .before .before .before .before .args .card .now) (areasOf (c .before .before .before .before .before .before .before .before .before .before .before .before .before .before .args .ranks .now) (c .before .before .before .before .before .before .before .before .before .before .before .before .before .before .args .pairs .now) (c .before .before .before .before .before .before .before .before .before .before .before .before .before .before .args .live .now) (c .before .before .before .before .before .before .before .before .before .before .before .before .before .before .args .down .now) (c .before .before .before .before .before .before .before .before .before .before .before .before .before .before .args .estimates .now) (c .before .before .before .before .before .before .before .before .before .before .before .before .before .before .args .elapsed .now)) _ _ (ap readingIn (sym (c .before .before .before .before .n .given .1)) ∙ c .before .before .before .before .before .before .read .ensures) (sym (c .before .before .lengths-fit .ensures) ∙ not-true _ (c .before .if1 .taken)) (answeredIn (c .unprepared2 .result)) (c .unprepared2 .ensures)

@@ -8,9 +8,9 @@ use Rattle.model.specs.Calls.{aimCall, estimateCall, goCall, setCall}
 use Rattle.model.specs.Contracts.{CallContract, after}
 use Rattle.network.specs.declared.Junction.{Junction}
 use Rattle.network.specs.declared.Time.{Time}
-use Rattle.unit.specs.declared.Call.{Call}
-use Rattle.unit.specs.declared.Call.the-variants.{Aim, Estimate, Go, Set}
-use Rattle.unit.specs.Calls.{Called}
+use Rattle.answers.specs.declared.Call.{Call}
+use Rattle.answers.specs.declared.Call.the-variants.{Aim, Estimate, Go, Set}
+use Rattle.dispatch.specs.Calls.{Called}
 
 module _ (card : List ℕ) (s : State) (l : Lent) (c : Call) (r : Answered) (a : Areas) where
   pub any-set : (i : ℕ) (t : Time) → c ≡ Set i t → CallContract card s (setCall i (t .0)) (after r a noneLent) → Called card s l c r a l

@@ -1,7 +1,7 @@
-use Rattle.unit.proofs.Prepares.{prepared-kept, prepared-room}
+use Rattle.switch_on.proofs.Prepares.{prepared-kept, prepared-room}
 use borrow.Author.Needs.{needs}
-use Rattle.unit.proofs.prepared.Statement.{statement}
-use Rattle.unit.proofs.prepared.Tie as tie
+use Rattle.switch_on.proofs.prepared.Statement.{statement}
+use Rattle.switch_on.proofs.prepared.Tie as tie
 
 returns : tie.Need-returns
 returns c = λ a. prepared-room _ _ _ _ _ (c .before .enum-told .given .1) (c .unprepared .ensures)

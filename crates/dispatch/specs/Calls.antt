@@ -1,20 +1,13 @@
--- The code's calls as document 01's, and the contract of the method that makes any of them. Definitions only.
+-- The contract of the function that makes any of the four calls. Definitions only.
 use mathlib.Core.Path.{_≡_}
 use mathlib.Core.List.{List}
 use Prim.Native.Nat.{ℕ}
 use Rattle.model.specs.Types.{Answered}
 use Rattle.model.specs.State.{Areas, Lent, State, noneLent}
-use Rattle.model.specs.Calls as model
 use Rattle.model.specs.Contracts.{CallContract, after}
-use Rattle.unit.specs.declared.Call.{Call}
-use Rattle.unit.specs.declared.Call.the-variants.{Aim, Estimate, Go, Set}
-
--- a call with the two areas that go is lent
-abbrev pub callIn : Call → Lent → model.Call
-callIn (Set i t) l = model.setCall i (t .0)
-callIn (Aim j) l = model.aimCall (j .0)
-callIn (Estimate j) l = model.estimateCall (j .0)
-callIn (Go j) l = model.goCall (j .0) l
+use Rattle.answers.specs.Shape.{callIn}
+use Rattle.answers.specs.declared.Call.{Call}
+use Rattle.answers.specs.declared.Call.the-variants.{Aim, Estimate, Go, Set}
 
 -- what go leaves in them is its own; for the other calls they are not part of the step
 abbrev pub lentAfter : Call → Lent → Lent

@@ -1,7 +1,7 @@
-use Rattle.unit.proofs.Anys.{any-aim, any-estimate, any-go, any-set}
+use Rattle.dispatch.proofs.Anys.{any-aim, any-estimate, any-go, any-set}
 use borrow.Author.Needs.{needs}
-use Rattle.unit.proofs.Header.call.Statement.{statement}
-use Rattle.unit.proofs.Header.call.Tie as tie
+use Rattle.dispatch.proofs.call.Statement.{statement}
+use Rattle.dispatch.proofs.call.Tie as tie
 
 returns : tie.Need-returns
 returns c = any-set _ _ _ _ _ _ _ _ (c .before .before .before .before .before .before .before .before .call .given .1) (c .before .before .set .ensures)
