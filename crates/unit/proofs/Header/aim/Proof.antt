@@ -1,4 +1,4 @@
-use mathlib.Core.Path.{_∙_, sym}
+use mathlib.Core.Path.{_∙_, refl, sym}
 use borrow.Author.Tests.{not-false, not-true}
 use native.Mathlib.Omega.{arith}
 use Rattle.model.specs.Contracts.{areasOf, before}
@@ -7,7 +7,6 @@ use Rattle.model.specs.Calls.{aimCall}
 use Rattle.unit.proofs.Bodies.{descended-at, order-length}
 use Rattle.unit.proofs.Lengths.{Fits, fits-facts}
 use Rattle.unit.proofs.Ways.{aim-12, aim-made, refused-9}
-use borrow.Author.Needs.{needs}
 use Rattle.unit.proofs.Header.aim.Statement.{statement}
 use Rattle.unit.proofs.Header.aim.Tie as tie
 
@@ -33,16 +32,16 @@ pub aim-spec : {M : Type 1} → statement M
 aim-spec =
     tie.close
     (tie.spec
-    (λ c κs. search needs)
-    (λ c. search needs)
-    (λ c. search needs)
+    (λ c κs. tt)
+    (λ c. refl)
+    (λ c. refl)
     returns
-    (λ c. search needs)
-    (λ c. search needs)
+    (λ c. refl)
+    (λ c. refl)
     returns-2
     order-of-requires
     down-totals-requires
-    (λ c κs. search needs)
-    (λ c. search needs)
-    (λ c. search needs)
+    (λ c κs. tt)
+    (λ c. c .before .before .before .before .before .before .down-totals .kept .1 .1 .1 .1 .0)
+    (λ c. c .before .before .fill .kept .0)
     returns-3)

@@ -1,4 +1,4 @@
-use mathlib.Core.Path.{_∙_, ap, sym}
+use mathlib.Core.Path.{_∙_, ap, refl, sym}
 use borrow.Author.Tests.{not-false, not-true}
 use native.Mathlib.Omega.{arith}
 use Rattle.model.specs.Contracts.{areasOf, before}
@@ -36,16 +36,16 @@ pub estimate-spec : {M : Type 1} → statement M
 estimate-spec =
     tie.close
     (tie.spec
-    (λ c κs. search needs)
-    (λ c. search needs)
+    (λ c κs. tt)
+    (λ c. refl)
     returns
-    (λ c. search needs)
+    (λ c. refl)
     returns-2
     (λ c. search needs)
     (λ c. search needs)
     order-of-requires
     estimate-requires
-    (λ c. search needs)
+    (λ c. refl)
     returns-3
-    (λ c. search needs)
+    (λ c. c .before .before .estimate .kept .1 .1 .1 .1 .1 .1 .0)
     returns-4)

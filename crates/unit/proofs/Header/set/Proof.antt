@@ -1,4 +1,4 @@
-use mathlib.Core.Path.{_∙_, ap, sym}
+use mathlib.Core.Path.{_∙_, ap, refl, sym}
 use borrow.Author.Tests.{not-false, not-true}
 use native.Mathlib.Omega.{arith}
 use lib.ListN.{length}
@@ -41,17 +41,17 @@ pub set-spec : {M : Type 1} → statement M
 set-spec =
     tie.close
     (tie.spec
-    (λ c κs. search needs)
-    (λ c. search needs)
+    (λ c κs. tt)
+    (λ c. refl)
     returns
-    (λ c. search needs)
+    (λ c. refl)
     returns-2
     roads-of-requires
     base-of-requires
-    (λ c κs. search needs)
-    (λ c. search needs)
+    (λ c κs. tt)
+    (λ c. refl)
     returns-3
-    (λ c κs. search needs)
+    (λ c κs. tt)
     (λ c. search needs)
     slice-write-live
     (λ c. search needs)

@@ -1,8 +1,8 @@
 use mathlib.Core.Path.{_∙_, ap}
-use Rattle.script.proofs.Scripts.{set-spelled, spells-aim, spells-estimate, spells-go}
+use Rattle.script_words.proofs.Words.{set-spelled, spells-aim, spells-estimate, spells-go}
 use borrow.Author.Needs.{needs}
-use Rattle.script.proofs.call_of.Statement.{statement}
-use Rattle.script.proofs.call_of.Tie as tie
+use Rattle.script_words.proofs.call_of.Statement.{statement}
+use Rattle.script_words.proofs.call_of.Tie as tie
 
 returns : tie.Need-returns
 returns c = λ l. set-spelled _ _ _ _ _ _ (c .of-word .ensures) (c .before .if1 .taken)

@@ -1,10 +1,10 @@
-use Rattle.unit_c.proofs.Headers.{header-told}
+use Rattle.types_c.proofs.Headers.{header-told}
 use mathlib.Core.Path.{ap}
 use Rattle.model.specs.Types.{Absent, At}
 use Rattle.unit.specs.Shape.{targetIn}
 use borrow.Author.Needs.{needs}
-use Rattle.unit_c.proofs.words_of.Statement.{statement}
-use Rattle.unit_c.proofs.words_of.Tie as tie
+use Rattle.types_c.proofs.words_of.Statement.{statement}
+use Rattle.types_c.proofs.words_of.Tie as tie
 
 returns : tie.Need-returns
 returns c = header-told _ _ _ Absent _ (ap targetIn (c .enum-told .given .1))

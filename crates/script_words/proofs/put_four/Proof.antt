@@ -1,9 +1,9 @@
 use lib.ListN.{length-set}
 use native.Mathlib.Omega.{arith}
-use Rattle.script.proofs.Scripts.{four-stored}
+use Rattle.script_words.proofs.Words.{four-stored}
 use borrow.Author.Needs.{needs}
-use Rattle.script.proofs.put_four.Statement.{statement}
-use Rattle.script.proofs.put_four.Tie as tie
+use Rattle.script_words.proofs.put_four.Statement.{statement}
+use Rattle.script_words.proofs.put_four.Tie as tie
 
 slice-write-out-2 : tie.Need-slice-write-out-2
 slice-write-out-2 c = simp length-set (omega arith)

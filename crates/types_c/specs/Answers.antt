@@ -6,8 +6,8 @@ use lib.Dec.{eqb}
 use Rattle.model.specs.Types.{Absent, Accepted, Answer, Answered, At, Estimated, Gone, Header, Refused, Target}
 use Rattle.model.specs.Card.{question}
 use Rattle.network.specs.Refusals.{countOf, placeOf}
-use Rattle.unit_c.specs.declared.UnitHeader.{UnitHeader}
-use Rattle.unit_c.specs.declared.UnitAnswer.{UnitAnswer}
+use Rattle.types_c.specs.declared.UnitHeader.{UnitHeader}
+use Rattle.types_c.specs.declared.UnitAnswer.{UnitAnswer}
 
 -- the header that C's words stand for
 abbrev pub headerOf : UnitHeader → Header

@@ -1,11 +1,11 @@
 use mathlib.Core.Path.{ap, sym}
 use Rattle.model.specs.Types as model
 use Rattle.answers.specs.Shape.{answerIn}
-use Rattle.script.specs.Script.{answerWords}
-use Rattle.script.proofs.Scripts.{estimated-words, put-told, refused-words}
+use Rattle.script_words.specs.Words.{answerWords}
+use Rattle.script_words.proofs.Words.{estimated-words, put-told, refused-words}
 use borrow.Author.Needs.{needs}
-use Rattle.script.proofs.put_answer.Statement.{statement}
-use Rattle.script.proofs.put_answer.Tie as tie
+use Rattle.script_words.proofs.put_answer.Statement.{statement}
+use Rattle.script_words.proofs.put_answer.Tie as tie
 
 returns : tie.Need-returns
 returns c = put-told (c .before .before .before .before .before .before .before .before .before .before .args .out .now) _ _ _ (c .before .before .before .before .before .before .before .before .before .before .args .k) (c .before .before .put-four .ensures) (refused-words _ _ _ (answerIn (c .before .before .before .before .before .before .before .before .before .before .args .x)) (c .before .before .before .before .question-of .ensures) (c .before .before .before .count-of .ensures) (ap answerIn (c .before .before .before .before .before .before .before .x .given .1)))

@@ -1,10 +1,10 @@
-use Rattle.unit_c.proofs.Headers.{answer-told, refusal-told}
+use Rattle.types_c.proofs.Headers.{answer-told, refusal-told}
 use mathlib.Core.Path.{ap}
 use Rattle.model.specs.Types as model
 use Rattle.answers.specs.Shape.{answerIn}
 use borrow.Author.Needs.{needs}
-use Rattle.unit_c.proofs.answer_of.Statement.{statement}
-use Rattle.unit_c.proofs.answer_of.Tie as tie
+use Rattle.types_c.proofs.answer_of.Statement.{statement}
+use Rattle.types_c.proofs.answer_of.Tie as tie
 
 returns : tie.Need-returns
 returns c = refusal-told _ _ _ _ _ _ _ (c .before .before .before .before .before .before .words-of .ensures) (c .before .before .question-of .ensures) (c .before .place-of .ensures) (c .count-of .ensures) (ap answerIn (c .before .before .before .before .answer .given .1))

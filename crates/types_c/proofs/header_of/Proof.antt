@@ -1,6 +1,6 @@
-use Rattle.unit_c.proofs.Headers.{target-absent, target-there}
-use Rattle.unit_c.proofs.header_of.Statement.{statement}
-use Rattle.unit_c.proofs.header_of.Tie as tie
+use Rattle.types_c.proofs.Headers.{target-absent, target-there}
+use Rattle.types_c.proofs.header_of.Statement.{statement}
+use Rattle.types_c.proofs.header_of.Tie as tie
 
 returns : tie.Need-returns
 returns c = target-absent _ _ _ (c .before .before .args .h .aimed) (c .before .before .args .h .target) (c .if1 .taken)
