@@ -1,3 +1,3 @@
-pub mod Lengths
 pub mod Bodies
+pub mod Lengths
 pub mod Ways
