@@ -9,8 +9,8 @@ use Rattle.model.specs.Types.{Refusal}
 use Rattle.model.specs.Word.{noneWord, ofWord}
 use Rattle.model.specs.Card.{question}
 use Rattle.network.specs.Refusals.{placeOf}
-use Rattle.unit.specs.declared.Answer.{Answer}
-use Rattle.unit.specs.Shape.{answerIn}
+use Rattle.answers.specs.declared.Answer.{Answer}
+use Rattle.answers.specs.Shape.{answerIn}
 use Rattle.console.specs.Ascii.{ascii}
 use Rattle.console.specs.Texts.{Puts, placesOf, refusalText, spaced, timeText, tripText, worded}
 use Rattle.console.proofs.Areas.{puts-as, puts-then, spaced-append}

@@ -7,7 +7,7 @@ use lib.ListN.{length, replicate}
 use Rattle.bytes.specs.Bytes.{indexAfter, indexOf}
 use Rattle.model.specs.Types.{Accepted, Answer, Estimated, Gone, NoPath, NotAllowed, Place, Refused, Road, Room}
 use Rattle.model.specs.Word.{closedWord, noneWord, ofWord}
-use Rattle.unit.specs.declared.Call.the-variants.{Aim, Estimate, Go, Set}
+use Rattle.answers.specs.declared.Call.the-variants.{Aim, Estimate, Go, Set}
 use Rattle.console.specs.declared.Line.{Line}
 use Rattle.console.specs.declared.Line.the-variants.{Call, Unreadable}
 use Rattle.console.specs.Ascii.{ascii}

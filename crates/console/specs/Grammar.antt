@@ -13,8 +13,8 @@ use mathlib.Core.Logic.{inl, inr}
 use Rattle.graph.specs.Total.{Tested, decide}
 use Rattle.bytes.specs.Bytes.{indexAfter, indexOf}
 use Rattle.model.specs.Word.{noneWord}
-use Rattle.unit.specs.declared.Call as call
-use Rattle.unit.specs.declared.Call.the-variants.{Aim, Estimate, Go, Set}
+use Rattle.answers.specs.declared.Call as call
+use Rattle.answers.specs.declared.Call.the-variants.{Aim, Estimate, Go, Set}
 use Rattle.console.specs.declared.Number.{Number}
 use Rattle.console.specs.declared.Number.the-variants.{NotOne, Value}
 use Rattle.console.specs.declared.Line.{Line}

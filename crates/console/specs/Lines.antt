@@ -7,7 +7,7 @@ use lib.Dec.{eqb, leb}
 use lib.ListN.{drop, length, take}
 use Rattle.bytes.specs.Bytes.{indexOf}
 use Rattle.model.specs.Word.{noneWord}
-use Rattle.unit.specs.declared.Call.the-variants.{Aim, Estimate, Go, Set}
+use Rattle.answers.specs.declared.Call.the-variants.{Aim, Estimate, Go, Set}
 use Rattle.console.specs.Ascii.{ascii}
 use Rattle.console.specs.declared.Number.{Number}
 use Rattle.console.specs.declared.Number.the-variants.{NotOne, Value}

@@ -4,15 +4,15 @@ ghost use mathlib.Core.List.{[], _∷_};
 ghost use Prim.Native.Nat.{_+_, _<_, _≤_};
 ghost use lib.ListN.{length, take};
 ghost use Rattle.bytes.specs.Bytes.{indexOf};
-ghost use Rattle.unit.specs.Shape.{answerIn};
+ghost use Rattle.answers.specs.Shape.{answerIn};
 ghost use Rattle.network.specs.Refusals.{refusalIn};
 ghost use Rattle.console.specs.Lines.{afterSpace, beforeSpace, callOf, lineOf, numberOf, one, same, two};
 ghost use Rattle.console.specs.Texts.{Puts, Written, answerText, decimal, refusalText, spaced, timeText, tripText, unreadableText, worded};
+use answers::Answer;
+use answers::Call;
 use network::Junction;
 use network::Refusal;
 use network::Time;
-use unit::Answer;
-use unit::Call;
 
 // ---- a line as a call
 

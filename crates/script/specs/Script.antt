@@ -1,40 +1,23 @@
--- A script of calls as words, the answers' words, and what a program that makes the calls of a script leaves. Definitions only.
+-- What a program that makes the calls of a script leaves. Definitions only.
 use mathlib.Core.Path.{_≡_}
 use mathlib.Core.List.{List, [], _++_, _∷_, map}
-use Prim.Native.Nat.{_*_, _+_, suc, zero, ℕ}
-use lib.ListN.{getD, length}
+use Prim.Native.Nat.{suc, zero, ℕ}
 use Rattle.graph.specs.Map.{Map}
-use Rattle.model.specs.Types.{Accepted, Answer, Answered, Estimated, Gone, Header, Refused}
-use Rattle.model.specs.Card.{mapOn, question}
+use Rattle.model.specs.Types.{Accepted, Answer, Answered, Header}
+use Rattle.model.specs.Card.{mapOn}
 use Rattle.model.specs.State.{Areas, Lent, State, Step, prepare}
 use Rattle.model.specs.Calls.{Call, Left, aimCall, estimateCall, first, goCall, setCall, step, steps}
 use Rattle.model.specs.Machine.{Machine, Plain, machineStep, plain, plainAim, plainEstimate, plainGo, plainSet, started}
 use Rattle.model.specs.Demand3.{Demand3}
 use Rattle.model.specs.Contracts.{before}
-use Rattle.network.specs.Refusals.{countOf}
+use Rattle.script_words.specs.Words.{answerWords, scriptedAt}
 
--- the call that three words spell, go's areas having the lengths r and l: 0 set, 1 aim, 2 estimate, any other go
-abbrev pub spelled : (kind one two r l : ℕ) → Plain
-spelled zero one two r l = plainSet one two
-spelled (suc zero) one two r l = plainAim one
-spelled (suc (suc zero)) one two r l = plainEstimate one
-spelled (suc (suc (suc k))) one two r l = plainGo one r l
-
--- call k of a script, and its first k calls, go's areas having the lengths of l
-abbrev pub scriptedAt : (script : List ℕ) → Lent → ℕ → Plain
-scriptedAt script l k = spelled (getD script (3 * k) 0) (getD script (3 * k + 1) 0) (getD script (3 * k + 2) 0) (length (l .route)) (length (l .log))
-
+-- the first k calls of a script, go's areas having the lengths of l
 abbrev pub scripted : (script : List ℕ) → Lent → ℕ → List Plain
 scripted script l zero = []
 scripted script l (suc k) = scripted script l k ++ (scriptedAt script l k ∷ [])
 
--- an answer as four words: the number of the question that refuses, or 0; estimate or total; count; number of roads
-abbrev pub answerWords : Answer → List ℕ
-answerWords (Refused q) = question q ∷ 0 ∷ countOf q ∷ 0 ∷ []
-answerWords Accepted = 0 ∷ 0 ∷ 0 ∷ 0 ∷ []
-answerWords (Estimated t) = 0 ∷ t ∷ 0 ∷ 0 ∷ []
-answerWords (Gone t c k) = 0 ∷ t ∷ c ∷ k ∷ []
-
+-- the words of a list of answers
 abbrev pub told : List Answer → List ℕ
 told [] = []
 told (x ∷ l) = answerWords x ++ told l

@@ -7,8 +7,8 @@ use native.Mathlib.Omega.{arith}
 use Rattle.model.specs.Types.{Answer, Answered, Header}
 use Rattle.model.specs.State.{Areas, Lent, State}
 use Rattle.model.specs.Contracts.{areasOf, before}
-use Rattle.unit.specs.Calls.{Called}
-use Rattle.unit.specs.declared.Call as unit
+use Rattle.dispatch.specs.Calls.{Called}
+use Rattle.answers.specs.declared.Call as unit
 use Rattle.console.specs.Lines.{lineOf}
 use Rattle.console.specs.Texts.{Written, answerText, unreadableText}
 use Rattle.console.specs.declared.Line as line

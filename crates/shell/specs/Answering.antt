@@ -5,8 +5,8 @@ use Prim.Native.Nat.{ℕ}
 use Rattle.model.specs.Types as model
 use Rattle.model.specs.State.{Areas, Lent, State}
 use Rattle.model.specs.Contracts.{before}
-use Rattle.unit.specs.Calls.{Called}
-use Rattle.unit.specs.declared.Call as unit
+use Rattle.dispatch.specs.Calls.{Called}
+use Rattle.answers.specs.declared.Call as unit
 use Rattle.console.specs.Texts.{answerText, unreadableText}
 use Rattle.console.specs.declared.Line.{Line}
 use Rattle.console.specs.declared.Line.the-variants.{Call, Unreadable}

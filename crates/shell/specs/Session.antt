@@ -16,9 +16,10 @@ use Rattle.model.specs.Machine.{Machine, Told, goTold, machineStep, plain, plai
 use Rattle.model.specs.Demand3.{Demand3}
 use Rattle.model.specs.Contracts.{after, before}
 use Rattle.model.specs.Chain.{Chain, chain-demand3}
-use Rattle.unit.specs.Calls.{callIn, lentAfter}
-use Rattle.unit.specs.declared.Call as unit
-use Rattle.unit.specs.declared.Call.the-variants.{Aim, Estimate, Go, Set}
+use Rattle.answers.specs.Shape.{callIn}
+use Rattle.dispatch.specs.Calls.{lentAfter}
+use Rattle.answers.specs.declared.Call as unit
+use Rattle.answers.specs.declared.Call.the-variants.{Aim, Estimate, Go, Set}
 use Rattle.console.specs.Lines.{lineOf}
 use Rattle.console.specs.Texts.{answerText, newline, tripText, unreadableText}
 use Rattle.console.specs.declared.Line.{Line}

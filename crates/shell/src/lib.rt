@@ -8,17 +8,18 @@ ghost use Rattle.model.specs.Card.{readCard};
 ghost use Rattle.model.specs.State.{Areas};
 ghost use Rattle.model.specs.Contracts.{areasOf, before};
 ghost use Rattle.network.specs.Refusals.{refusalIn};
-ghost use Rattle.unit.specs.Shape.{answerIn, headerIn, lentOf};
+ghost use Rattle.answers.specs.Shape.{answerIn};
+ghost use Rattle.unit.specs.Shape.{headerIn, lentOf};
 ghost use Rattle.console.specs.Lines.{lineOf};
 ghost use Rattle.console.specs.Texts.{Written};
 ghost use Rattle.lines.specs.Holds.{Holds};
 ghost use Rattle.shell.specs.Opening.{Lends, judged, junctionRoom, openedIn, opening, refusalLine, roadRoom};
 ghost use Rattle.shell.specs.Answering.{Answers};
+use answers::Answer;
 use card::Reading;
 use console::Line;
 use lines::Part;
 use network::Refusal;
-use unit::Answer;
 use unit::Header;
 
 // ---- the card
@@ -99,7 +100,7 @@ pub fn open_card(
     if 32768 < file.len() {
         return Opened::Ended(console::write_unreadable(out));
     }
-    let prepared = unit::prepare(file, ranks, pairs, live, down, estimates, elapsed);
+    let prepared = switch_on::prepare(file, ranks, pairs, live, down, estimates, elapsed);
     let header = prepared.header;
     let answer = prepared.answer;
     judge(header, answer, out)
@@ -156,7 +157,8 @@ pub fn answer_line(
             length: console::write_unreadable(out),
         },
         Line::Call(c) => {
-            let called = header.call(
+            let called = dispatch::call(
+                header,
                 card,
                 ranks,
                 pairs,

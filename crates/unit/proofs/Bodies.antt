@@ -1,5 +1,5 @@
 -- What the code below the calls needs of a state that a list of calls left. Assumes nothing.
-use mathlib.Core.Path.{_∙_, _≡_, ap, subst, subst₂, sym}
+use mathlib.Core.Path.{_∙_, _≡_, ap, subst, sym}
 use mathlib.Core.Option.{some}
 use mathlib.Core.List.{List}
 use Prim.Native.Nat.{_*_, _+_, _<_, _≤_, ℕ}
@@ -17,7 +17,6 @@ use Rattle.model.specs.Good.{Good, left-good}
 use Rattle.network.specs.Bodies.{Prepared, base-in, map-facts, mapIn}
 use Rattle.hierarchy.specs.Downs.{Descended}
 use Rattle.hierarchy.specs.Estimates.{Estimated}
-use Rattle.search.specs.Searches.{Searches}
 use Rattle.card.specs.Parts.{card-sound, map-is, orderIn, part-length, part-word, roadsIn}
 
 -- n and m of such a state are in range
@@ -70,12 +69,6 @@ descended-at order there pairs count down j e d = subst (λ (x : List ℕ). Desc
 
 pub estimated-at : (order there ranks pairs : List ℕ) (count : ℕ) (down e z : List ℕ) (j v : ℕ) → order ≡ there → Estimated order ranks pairs count down e z j v → Estimated there ranks pairs count down e z j v
 estimated-at order there ranks pairs count down e z j v q d = subst (λ (x : List ℕ). Estimated x ranks pairs count down e z j v) q d
-
-pub searches-at : (roads order r o ranks pairs live down : List ℕ) (count s z : ℕ) (e₀ route₀ log₀ e elapsed route log : List ℕ) (total logged number : ℕ) → roads ≡ r → order ≡ o
-    → Searches roads order ranks pairs live down count s z e₀ route₀ log₀ e elapsed route log total logged number
-    → Searches r o ranks pairs live down count s z e₀ route₀ log₀ e elapsed route log total logged number
-searches-at roads order r o ranks pairs live down count s z e₀ route₀ log₀ e elapsed route log total logged number p q d =
-    subst₂ (λ (x : List ℕ) (y : List ℕ). Searches x y ranks pairs live down count s z e₀ route₀ log₀ e elapsed route log total logged number) p q d
 
 -- the base time of a road is a word of the card
 pub road-word : (card : List ℕ) (m i : ℕ) → i < m → wordAt (roadsIn card m) (12 * i + 8) ≡ wordAt card (28 + 12 * i + 8)

@@ -1,5 +1,3 @@
-pub mod Lengths
 pub mod Bodies
+pub mod Lengths
 pub mod Ways
-pub mod Prepares
-pub mod Anys

@@ -1,5 +1,5 @@
 -- The ways through the four calls. Assumes nothing.
-use mathlib.Core.Path.{_∙_, _≡_, ap, ap₂, refl, subst, sym}
+use mathlib.Core.Path.{_∙_, _≡_, ap, ap₂, refl, subst, subst₂, sym}
 use mathlib.Core.Logic.{inl, inr}
 use mathlib.Core.Bool.{_&&_, false, true}
 use mathlib.Core.Option.{none, some}
@@ -247,11 +247,13 @@ module _ (card : List ℕ) (h : Header) (a : Areas) (f : fitting card (before h 
                   (subst (λ (N : Map). (i : ℕ) → i < N .base .arcs → settable (N .base .cost i) (liveOf (a .live) i) ≡ true) (sym M) (g .times)) in
                   found-is (roadsIn card (h .m)) (orderIn card (h .n) (h .m)) q y ∙ ap gone-on M ∙ made-is ∙ goes k
 
-        -- the same, of what is handed back
+        -- the same of the parts that were handed on, and of what is handed back
         pub go-handed : (e elapsed route log : List ℕ) (total count number : ℕ) (x : Answered) → leb (h .n) (length (lent .route)) && leb (h .n) (length (lent .log)) ≡ true
-            → Searches (roadsIn card (h .m)) (orderIn card (h .n) (h .m)) (a .ranks) (a .pairs) (a .live) (a .down) (h .pairs) s z (a .estimates) (lent .route) (lent .log) e elapsed route log total count number
+            → (roads order : List ℕ) → roads ≡ roadsIn card (h .m) → order ≡ orderIn card (h .n) (h .m)
+            → Searches roads order (a .ranks) (a .pairs) (a .live) (a .down) (h .pairs) s z (a .estimates) (lent .route) (lent .log) e elapsed route log total count number
             → x .header ≡ h → x .answer ≡ goAnswer (ofWord total) count number
             → GoContract card h a lent e elapsed (record { route = route; log = log }) s x
-        go-handed e elapsed route log total count number x k d i y =
+        go-handed e elapsed route log total count number x k roads order p q d i y =
             subst (λ (g : Header). GoContract card h a lent e elapsed (record { route = route; log = log }) s (record { header = g; answer = x .answer })) (sym i)
-            (go-made e elapsed route log total count number (x .answer) k d y)
+            (go-made e elapsed route log total count number (x .answer) k
+            (subst₂ (λ (r : List ℕ) (o : List ℕ). Searches r o (a .ranks) (a .pairs) (a .live) (a .down) (h .pairs) s z (a .estimates) (lent .route) (lent .log) e elapsed route log total count number) p q d) y)

@@ -1,14 +1,12 @@
--- The code's header, calls and answers as document 01's. Definitions only.
+-- The code's header, and what a call hands back, as document 01's. Definitions only.
 use mathlib.Core.List.{List}
 use Prim.Native.Nat.{ℕ}
 use Rattle.model.specs.Types as model
 use Rattle.model.specs.State.{Lent}
-use Rattle.network.specs.Refusals.{refusalIn}
+use Rattle.answers.specs.Shape.{answerIn}
 use Rattle.unit.specs.declared.Target.{Target}
 use Rattle.unit.specs.declared.Target.the-variants.{Absent, At}
 use Rattle.unit.specs.declared.Header.{Header}
-use Rattle.unit.specs.declared.Answer.{Answer}
-use Rattle.unit.specs.declared.Answer.the-variants.{Accepted, Estimated, Gone, Refused}
 use Rattle.unit.specs.declared.Answered.{Answered}
 
 abbrev pub targetIn : Target → model.Target
@@ -17,12 +15,6 @@ targetIn Absent = model.Absent
 
 abbrev pub headerIn : Header → model.Header
 headerIn h = record { n = h .n; m = h .m; pairs = h .pairs; target = targetIn (h .target) }
-
-abbrev pub answerIn : Answer → model.Answer
-answerIn (Refused q) = model.Refused (refusalIn q)
-answerIn Accepted = model.Accepted
-answerIn (Estimated t) = model.Estimated (t .0)
-answerIn (Gone t c k) = model.Gone t c k
 
 abbrev pub answeredIn : Answered → model.Answered
 answeredIn r = record { header = headerIn (r .header); answer = answerIn (r .answer) }

@@ -1,18 +1,14 @@
-// The unit: preparing, and the four calls as methods of the header.
+// The header, and the four calls as its methods.
 ghost use mathlib.Core.Path.{_≡_};
 ghost use mathlib.Core.Bool.{_&&_};
 ghost use lib.Dec.{leb};
-ghost use Rattle.model.specs.Types as model;
 ghost use Rattle.model.specs.Word.{ofWord};
-ghost use Rattle.model.specs.State.{Areas, fitting, noneLent, zeroHeader};
+ghost use Rattle.model.specs.State.{fitting};
 ghost use Rattle.model.specs.Calls.{goAnswer};
-ghost use Rattle.model.specs.Contracts.{AimContract, EstimateContract, GoContract, PrepareContract, SetContract, after, areasOf, before};
-ghost use Rattle.network.specs.Refusals.{refusalIn};
-ghost use Rattle.preparing.specs.Preparing.{outcome};
-ghost use Rattle.unit.specs.Calls.{Called};
-ghost use Rattle.unit.specs.Shape.{answerIn, answeredIn, headerIn, lentOf};
-use card::Reading;
-use contraction::Contracted;
+ghost use Rattle.model.specs.Contracts.{AimContract, EstimateContract, GoContract, SetContract, areasOf, before};
+ghost use Rattle.answers.specs.Shape.{answerIn};
+ghost use Rattle.unit.specs.Shape.{answeredIn, headerIn, lentOf};
+use answers::Answer;
 use network::Junction;
 use network::Refusal;
 use network::Time;
@@ -29,22 +25,6 @@ pub struct Header {
     pub m: u32,
     pub pairs: u32,
     pub target: Target,
-}
-
-// One of the four calls with its arguments.
-pub enum Call {
-    Set(u32, Time),
-    Aim(Junction),
-    Estimate(Junction),
-    Go(Junction),
-}
-
-// What preparing and the four calls answer. `Gone` has total, count and number of roads.
-pub enum Answer {
-    Refused(Refusal),
-    Accepted,
-    Estimated(Time),
-    Gone(u64, u32, u32),
 }
 
 // What each call hands back.
@@ -66,87 +46,6 @@ fn gone(h: Header, total: Time, count: u32, roads: u32) -> Answered
     Answered {
         header: h,
         answer: Answer::Gone(total.0 as u64, count, roads),
-    }
-}
-
-// ---- preparing
-
-// A refused preparing hands back a header of zeros and no target.
-fn unprepared(q: Refusal) -> Answered
-    ensures { λ r. ⌜ answeredIn r ≡ record { header = zeroHeader; answer = model.Refused (refusalIn q) } ⌝ }
-{
-    Answered {
-        header: Header {
-            n: 0,
-            m: 0,
-            pairs: 0,
-            target: Target::Absent,
-        },
-        answer: Answer::Refused(q),
-    }
-}
-
-// An accepted one hands back the three numbers and no target; question 8.
-fn prepared(n: u32, m: u32, z: Contracted) -> Answered
-    ensures { λ r. ⌜ ((a : Areas) → after (answeredIn r) a noneLent ≡ outcome n m z a) ⌝ }
-{
-    match z {
-        Contracted::Overflow => unprepared(Refusal::Room),
-        Contracted::Kept(count) => Answered {
-            header: Header {
-                n: n,
-                m: m,
-                pairs: count,
-                target: Target::Absent,
-            },
-            answer: Answer::Accepted,
-        },
-    }
-}
-
-// Prepares a card: questions 1 to 8; ranks, pairs, live times, and no target.
-pub fn prepare(
-    card: &[u8],
-    ranks: &mut [u32],
-    pairs: &mut [u32],
-    live: &mut [u32],
-    down: &mut [u32],
-    estimates: &mut [u32],
-    elapsed: &mut [u32],
-) -> Answered
-    ensures { λ r. ⌜ PrepareContract (now (card .entry))
-        (areasOf (now (ranks .entry)) (now (pairs .entry)) (now (live .entry)) (now (down .entry)) (now (estimates .entry)) (now (elapsed .entry)))
-        (areasOf (now (ranks .exit)) (now (pairs .exit)) (now (live .exit)) (now (down .exit)) (now (estimates .exit)) (now (elapsed .exit))) (answeredIn r) ⌝ }
-{
-    match card::read(card) {
-        Reading::Unreadable(q) => unprepared(q),
-        Reading::Read(n, m) => {
-            if !questions::lengths_fit(
-                n,
-                m,
-                0,
-                ranks.len(),
-                pairs.len(),
-                live.len(),
-                down.len(),
-                estimates.len(),
-                elapsed.len(),
-            ) {
-                return unprepared(Refusal::AreaLengths);
-            }
-            let z = preparing::prepare_areas(
-                n,
-                m,
-                card,
-                ranks,
-                pairs,
-                live,
-                down,
-                estimates,
-                elapsed,
-            );
-            prepared(n, m, z)
-        }
     }
 }
 
@@ -401,64 +300,6 @@ impl Header {
                 );
                 gone(self, found.total, found.count, found.roads)
             }
-        }
-    }
-
-    // Any of the four calls. Route and log are go's; the others leave them as they are.
-    pub fn call(
-        self,
-        card: &[u8],
-        ranks: &[u32],
-        pairs: &[u32],
-        live: &mut [u32],
-        down: &mut [u32],
-        estimates: &mut [u32],
-        elapsed: &mut [u32],
-        route: &mut [u32],
-        log: &mut [u32],
-        call: Call,
-    ) -> Answered
-        ensures { λ r. ⌜ Called (now (card .entry))
-            (before (headerIn self) (areasOf (now (ranks .entry)) (now (pairs .entry)) (now (live .entry)) (now (down .entry)) (now (estimates .entry)) (now (elapsed .entry))))
-            (lentOf (now (route .entry)) (now (log .entry))) call (answeredIn r)
-            (areasOf (now (ranks .entry)) (now (pairs .entry)) (now (live .exit)) (now (down .exit)) (now (estimates .exit)) (now (elapsed .exit)))
-            (lentOf (now (route .exit)) (now (log .exit))) ⌝ }
-    {
-        match call {
-            Call::Set(road, time) => self.set(
-                card,
-                ranks,
-                pairs,
-                live,
-                down,
-                estimates,
-                elapsed,
-                road,
-                time,
-            ),
-            Call::Aim(j) => self.aim(card, ranks, pairs, live, down, estimates, elapsed, j),
-            Call::Estimate(j) => self.estimate(
-                card,
-                ranks,
-                pairs,
-                live,
-                down,
-                estimates,
-                elapsed,
-                j,
-            ),
-            Call::Go(start) => self.go(
-                card,
-                ranks,
-                pairs,
-                live,
-                down,
-                estimates,
-                elapsed,
-                route,
-                log,
-                start,
-            ),
         }
     }
 }

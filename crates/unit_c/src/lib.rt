@@ -8,17 +8,15 @@ ghost use Rattle.card.specs.Answers.{rowsOf};
 ghost use Rattle.model.specs.Types as model;
 ghost use Rattle.model.specs.Contracts.{AimContract, EstimateContract, GoContract, PrepareContract, SetContract, areasOf};
 ghost use Rattle.script.specs.Script.{ReplayContract};
-ghost use Rattle.unit.specs.Shape.{answeredIn, headerIn, lentOf};
+ghost use Rattle.unit.specs.Shape.{lentOf};
 ghost use Rattle.unit_c.specs.Words.{Wrote, readingNumber, readingWords};
-ghost use Rattle.unit_c.specs.Answers.{answerWords, headerOf, headerWords};
+ghost use Rattle.types_c.specs.Answers.{answerWords, headerOf};
 use card::Reading;
 use card::Writing;
 use network::Junction;
 use network::Time;
-use unit::Answer;
-use unit::Answered;
-use unit::Header;
-use unit::Target;
+use types_c::UnitAnswer;
+use types_c::UnitHeader;
 
 // Reads a card. `first` and `second` get n and m, or the place that questions 5 and 6 name and 0.
 #[no_mangle]
@@ -57,111 +55,6 @@ pub extern "C" fn card_write(roads: &[u32], order: &[u32], area: &mut [u8], plac
     }
 }
 
-// A header as C holds it: `aimed` is 0 where there is no target, and `target` is 0 then.
-#[repr(C)]
-pub struct UnitHeader {
-    pub n: u32,
-    pub m: u32,
-    pub pairs: u32,
-    pub aimed: u32,
-    pub target: u32,
-}
-
-// What preparing and the calls hand back. `question` is 0, or the number of the refusal; `place` goes with 5 and 6; `total` is that of a go, or the word of an estimate; `count` is that of a
-// go, also after 15; `roads` is the number of roads of a go. What does not apply is 0.
-#[repr(C)]
-pub struct UnitAnswer {
-    pub header: UnitHeader,
-    pub question: u32,
-    pub place: u32,
-    pub total: u64,
-    pub count: u32,
-    pub roads: u32,
-}
-
-fn header_of(h: UnitHeader) -> Header
-    ensures { λ r. ⌜ headerIn r ≡ headerOf h ⌝ }
-{
-    if h.aimed == 0 {
-        return Header {
-            n: h.n,
-            m: h.m,
-            pairs: h.pairs,
-            target: Target::Absent,
-        };
-    }
-    Header {
-        n: h.n,
-        m: h.m,
-        pairs: h.pairs,
-        target: Target::At(Junction(h.target)),
-    }
-}
-
-fn words_of(h: Header) -> UnitHeader
-    ensures { λ r. ⌜ r ≡ headerWords (headerIn h) ⌝ }
-{
-    let target = h.target;
-    match target {
-        Target::Absent => UnitHeader {
-            n: h.n,
-            m: h.m,
-            pairs: h.pairs,
-            aimed: 0,
-            target: 0,
-        },
-        Target::At(z) => UnitHeader {
-            n: h.n,
-            m: h.m,
-            pairs: h.pairs,
-            aimed: 1,
-            target: z.0,
-        },
-    }
-}
-
-fn answer_of(r: Answered) -> UnitAnswer
-    ensures { λ x. ⌜ x ≡ answerWords (answeredIn r) ⌝ }
-{
-    let h = r.header;
-    let header = words_of(h);
-    let answer = r.answer;
-    match answer {
-        Answer::Refused(q) => UnitAnswer {
-            header: header,
-            question: network::question_of(q),
-            place: network::place_of(q),
-            total: 0,
-            count: network::count_of(q),
-            roads: 0,
-        },
-        Answer::Accepted => UnitAnswer {
-            header: header,
-            question: 0,
-            place: 0,
-            total: 0,
-            count: 0,
-            roads: 0,
-        },
-        Answer::Estimated(t) => UnitAnswer {
-            header: header,
-            question: 0,
-            place: 0,
-            total: t.0 as u64,
-            count: 0,
-            roads: 0,
-        },
-        Answer::Gone(t, c, k) => UnitAnswer {
-            header: header,
-            question: 0,
-            place: 0,
-            total: t,
-            count: c,
-            roads: k,
-        },
-    }
-}
-
 // Prepares a card on the six areas.
 #[no_mangle]
 pub extern "C" fn unit_prepare(
@@ -175,7 +68,7 @@ pub extern "C" fn unit_prepare(
 ) -> UnitAnswer
     ensures { λ r. ⌜ ((x : model.Answered) × (r ≡ answerWords x) × PrepareContract (now (card .entry)) (areasOf (now (ranks .entry)) (now (pairs .entry)) (now (live .entry)) (now (down .entry)) (now (estimates .entry)) (now (elapsed .entry))) (areasOf (now (ranks .exit)) (now (pairs .exit)) (now (live .exit)) (now (down .exit)) (now (estimates .exit)) (now (elapsed .exit))) x) ⌝ }
 {
-    answer_of(unit::prepare(card, ranks, pairs, live, down, estimates, elapsed))
+    types_c::answer_of(switch_on::prepare(card, ranks, pairs, live, down, estimates, elapsed))
 }
 
 // Sets a road's live time.
@@ -194,8 +87,8 @@ pub extern "C" fn unit_set(
 ) -> UnitAnswer
     ensures { λ r. ⌜ ((x : model.Answered) × (r ≡ answerWords x) × SetContract (now (card .entry)) (headerOf header) (areasOf (now (ranks .entry)) (now (pairs .entry)) (now (live .entry)) (now (down .entry)) (now (estimates .entry)) (now (elapsed .entry))) (now (live .exit)) road time x) ⌝ }
 {
-    let h = header_of(header);
-    answer_of(h.set(
+    let h = types_c::header_of(header);
+    types_c::answer_of(h.set(
         card,
         ranks,
         pairs,
@@ -223,8 +116,8 @@ pub extern "C" fn unit_aim(
 ) -> UnitAnswer
     ensures { λ r. ⌜ ((x : model.Answered) × (r ≡ answerWords x) × AimContract (now (card .entry)) (headerOf header) (areasOf (now (ranks .entry)) (now (pairs .entry)) (now (live .entry)) (now (down .entry)) (now (estimates .entry)) (now (elapsed .entry))) (now (down .exit)) (now (estimates .exit)) junction x) ⌝ }
 {
-    let h = header_of(header);
-    answer_of(h.aim(
+    let h = types_c::header_of(header);
+    types_c::answer_of(h.aim(
         card,
         ranks,
         pairs,
@@ -251,8 +144,8 @@ pub extern "C" fn unit_estimate(
 ) -> UnitAnswer
     ensures { λ r. ⌜ ((x : model.Answered) × (r ≡ answerWords x) × EstimateContract (now (card .entry)) (headerOf header) (areasOf (now (ranks .entry)) (now (pairs .entry)) (now (live .entry)) (now (down .entry)) (now (estimates .entry)) (now (elapsed .entry))) (now (estimates .exit)) junction x) ⌝ }
 {
-    let h = header_of(header);
-    answer_of(h.estimate(
+    let h = types_c::header_of(header);
+    types_c::answer_of(h.estimate(
         card,
         ranks,
         pairs,
@@ -281,8 +174,8 @@ pub extern "C" fn unit_go(
 ) -> UnitAnswer
     ensures { λ r. ⌜ ((x : model.Answered) × (r ≡ answerWords x) × GoContract (now (card .entry)) (headerOf header) (areasOf (now (ranks .entry)) (now (pairs .entry)) (now (live .entry)) (now (down .entry)) (now (estimates .entry)) (now (elapsed .entry))) (lentOf (now (route .entry)) (now (log .entry))) (now (estimates .exit)) (now (elapsed .exit)) (lentOf (now (route .exit)) (now (log .exit))) start x) ⌝ }
 {
-    let h = header_of(header);
-    answer_of(h.go(
+    let h = types_c::header_of(header);
+    types_c::answer_of(h.go(
         card,
         ranks,
         pairs,
@@ -315,7 +208,7 @@ pub extern "C" fn unit_replay(
 ) -> UnitAnswer
     ensures { λ r. ⌜ ((x : model.Answered) × (r ≡ answerWords x) × ReplayContract (now (card .entry)) (areasOf (now (ranks .entry)) (now (pairs .entry)) (now (live .entry)) (now (down .entry)) (now (estimates .entry)) (now (elapsed .entry))) (lentOf (now (route .entry)) (now (log .entry))) (now (script .entry)) (min (length (now (script .entry)) / 3) (length (now (out .entry)) / 4)) (now (out .entry)) (now (out .exit)) x (areasOf (now (ranks .exit)) (now (pairs .exit)) (now (live .exit)) (now (down .exit)) (now (estimates .exit)) (now (elapsed .exit))) (lentOf (now (route .exit)) (now (log .exit)))) ⌝ }
 {
-    answer_of(script::replay(
+    types_c::answer_of(script::replay(
         card,
         ranks,
         pairs,

@@ -1,7 +1,8 @@
 use Rattle.shell.proofs.Cards.{refused-way}
 use Rattle.shell.specs.Opening.{judged}
-use Rattle.unit.specs.Shape.{answerIn, headerIn}
-use Rattle.unit.specs.declared.Answer.{Answer}
+use Rattle.answers.specs.Shape.{answerIn}
+use Rattle.unit.specs.Shape.{headerIn}
+use Rattle.answers.specs.declared.Answer.{Answer}
 use mathlib.Core.Path.{ap, sym}
 use borrow.Author.Needs.{needs}
 use Rattle.shell.proofs.judge.Statement.{statement}

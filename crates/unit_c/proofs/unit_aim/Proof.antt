@@ -1,6 +1,5 @@
 use Rattle.unit_c.proofs.Headers.{aim-at}
 use Rattle.unit.specs.Shape.{answeredIn}
-use borrow.Author.Needs.{needs}
 use Rattle.unit_c.proofs.unit_aim.Statement.{statement}
 use Rattle.unit_c.proofs.unit_aim.Tie as tie
 
@@ -10,4 +9,10 @@ returns c = (answeredIn (c .before .before .before .before .before .aim .result)
 pub unit-aim-spec : {M : Type 1} → statement M
 unit-aim-spec =
     tie.close
-    (tie.spec (λ c κs. search needs) (λ c κs. search needs) (λ c κs. search needs) (λ c. search needs) (λ c. search needs) returns)
+    (tie.spec
+    (λ c κs. tt)
+    (λ c κs. tt)
+    (λ c κs. tt)
+    (λ c. c .before .before .before .before .before .aim .kept .1 .1 .1 .1 .1 .0)
+    (λ c. c .before .before .before .before .before .aim .kept .1 .1 .1 .1 .1 .1 .0)
+    returns)

@@ -1,6 +1,5 @@
 use Rattle.unit_c.proofs.Headers.{go-at}
 use Rattle.unit.specs.Shape.{answeredIn}
-use borrow.Author.Needs.{needs}
 use Rattle.unit_c.proofs.unit_go.Statement.{statement}
 use Rattle.unit_c.proofs.unit_go.Tie as tie
 
@@ -11,11 +10,11 @@ pub unit-go-spec : {M : Type 1} → statement M
 unit-go-spec =
     tie.close
     (tie.spec
-    (λ c κs. search needs)
-    (λ c κs. search needs)
-    (λ c κs. search needs)
-    (λ c. search needs)
-    (λ c. search needs)
-    (λ c. search needs)
-    (λ c. search needs)
+    (λ c κs. tt)
+    (λ c κs. tt)
+    (λ c κs. tt)
+    (λ c. c .before .before .before .before .before .before .before .before .before .go .kept .1 .1 .1 .1 .1 .1 .0)
+    (λ c. c .before .before .before .before .before .before .before .before .before .go .kept .1 .1 .1 .1 .1 .1 .1 .0)
+    (λ c. c .before .before .before .before .before .before .before .before .before .go .kept .1 .1 .1 .1 .1 .1 .1 .1 .0)
+    (λ c. c .before .before .before .before .before .before .before .before .before .go .kept .1 .1 .1 .1 .1 .1 .1 .1 .1 .0)
     returns)

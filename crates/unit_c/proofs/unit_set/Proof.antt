@@ -1,6 +1,5 @@
 use Rattle.unit_c.proofs.Headers.{set-at}
 use Rattle.unit.specs.Shape.{answeredIn}
-use borrow.Author.Needs.{needs}
 use Rattle.unit_c.proofs.unit_set.Statement.{statement}
 use Rattle.unit_c.proofs.unit_set.Tie as tie
 
@@ -11,9 +10,9 @@ pub unit-set-spec : {M : Type 1} → statement M
 unit-set-spec =
     tie.close
     (tie.spec
-    (λ c κs. search needs)
-    (λ c κs. search needs)
-    (λ c κs. search needs)
-    (λ c κs. search needs)
-    (λ c. search needs)
+    (λ c κs. tt)
+    (λ c κs. tt)
+    (λ c κs. tt)
+    (λ c κs. tt)
+    (λ c. c .before .before .before .set .kept .1 .1 .1 .1 .0)
     returns)

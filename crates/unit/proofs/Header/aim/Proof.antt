@@ -1,13 +1,11 @@
-use mathlib.Core.Path.{_∙_, sym}
+use mathlib.Core.Path.{_∙_, refl, sym}
 use borrow.Author.Tests.{not-false, not-true}
-use native.Mathlib.Omega.{arith}
 use Rattle.model.specs.Contracts.{areasOf, before}
 use Rattle.unit.specs.Shape.{headerIn}
 use Rattle.model.specs.Calls.{aimCall}
-use Rattle.unit.proofs.Bodies.{descended-at, order-length}
-use Rattle.unit.proofs.Lengths.{Fits, fits-facts}
+use Rattle.unit.proofs.Bodies.{descended-at}
+use Rattle.unit.proofs.Lengths.{Fits, fits-facts, order-sized, order-there, pairs-few}
 use Rattle.unit.proofs.Ways.{aim-12, aim-made, refused-9}
-use borrow.Author.Needs.{needs}
 use Rattle.unit.proofs.Header.aim.Statement.{statement}
 use Rattle.unit.proofs.Header.aim.Tie as tie
 
@@ -21,10 +19,10 @@ returns-2 : tie.Need-returns-2
 returns-2 c = aim-12 _ _ _ (known (c .before .before) .fits) _ (c .if2 .taken)
 
 order-of-requires : tie.Need-order-of-requires
-order-of-requires c κs = (let k = known (c .before .before) in omega (arith, k .size))
+order-of-requires c κs = order-there (known (c .before .before))
 
 down-totals-requires : tie.Need-down-totals-requires
-down-totals-requires c κs = (let k = known (c .before .before .before .before) in (c .before .before .if2 .left, k .n-high, order-length _ _ _ _ (c .before .order-of .ensures) (k .size), k .lengths .down, k .lengths .room, omega (arith, k .lengths .room, k .lengths .pairs-high)))
+down-totals-requires c κs = (let k = known (c .before .before .before .before) in (c .before .before .if2 .left, k .n-high, order-sized k (c .before .order-of .ensures), k .lengths .down, k .lengths .room, pairs-few k))
 
 returns-3 : tie.Need-returns-3
 returns-3 c = (let k = known (c .before .before .before .before .before .before .before .before .before .before .before) in aim-made _ _ _ (k .fits) _ (c .before .before .before .before .before .before .before .before .before .if2 .left) (k .lengths .estimates) _ _ (descended-at _ _ _ _ _ _ (c .before .before .before .before .before .before .before .before .order-of .ensures) (c .before .before .before .before .before .before .down-totals .ensures)) (c .before .before .fill .ensures))
@@ -33,16 +31,16 @@ pub aim-spec : {M : Type 1} → statement M
 aim-spec =
     tie.close
     (tie.spec
-    (λ c κs. search needs)
-    (λ c. search needs)
-    (λ c. search needs)
+    (λ c κs. tt)
+    (λ c. refl)
+    (λ c. refl)
     returns
-    (λ c. search needs)
-    (λ c. search needs)
+    (λ c. refl)
+    (λ c. refl)
     returns-2
     order-of-requires
     down-totals-requires
-    (λ c κs. search needs)
-    (λ c. search needs)
-    (λ c. search needs)
+    (λ c κs. tt)
+    (λ c. c .before .before .before .before .before .before .down-totals .kept .1 .1 .1 .1 .0)
+    (λ c. c .before .before .fill .kept .0)
     returns-3)

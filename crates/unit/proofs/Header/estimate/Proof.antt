@@ -1,11 +1,10 @@
-use mathlib.Core.Path.{_∙_, ap, sym}
+use mathlib.Core.Path.{_∙_, ap, refl, sym}
 use borrow.Author.Tests.{not-false, not-true}
-use native.Mathlib.Omega.{arith}
 use Rattle.model.specs.Contracts.{areasOf, before}
 use Rattle.unit.specs.Shape.{headerIn, targetIn}
 use Rattle.model.specs.Calls.{estimateCall}
-use Rattle.unit.proofs.Bodies.{estimated-at, order-length}
-use Rattle.unit.proofs.Lengths.{Fits, fits-facts}
+use Rattle.unit.proofs.Bodies.{estimated-at}
+use Rattle.unit.proofs.Lengths.{Fits, fits-facts, order-sized, order-there, pairs-few}
 use Rattle.unit.proofs.Ways.{estimate-12, estimate-13, estimate-made, refused-9}
 use borrow.Author.Needs.{needs}
 use Rattle.unit.proofs.Header.estimate.Statement.{statement}
@@ -21,10 +20,10 @@ returns-2 : tie.Need-returns-2
 returns-2 c = estimate-12 _ _ _ (known (c .before) .fits) _ (c .if2 .taken)
 
 order-of-requires : tie.Need-order-of-requires
-order-of-requires c κs = (let k = known (c .before .before .before) in omega (arith, k .size))
+order-of-requires c κs = order-there (known (c .before .before .before))
 
 estimate-requires : tie.Need-estimate-requires
-estimate-requires c κs = (let k = known (c .before .before .before .before .before) in (c .before .before .before .before .if2 .left, k .n-high, order-length _ _ _ _ (c .before .order-of .ensures) (k .size), k .lengths .ranks, k .lengths .down, k .lengths .estimates, k .lengths .room, omega (arith, k .lengths .room, k .lengths .pairs-high)))
+estimate-requires c κs = (let k = known (c .before .before .before .before .before) in (c .before .before .before .before .if2 .left, k .n-high, order-sized k (c .before .order-of .ensures), k .lengths .ranks, k .lengths .down, k .lengths .estimates, k .lengths .room, pairs-few k))
 
 returns-3 : tie.Need-returns-3
 returns-3 c = estimate-13 _ _ _ (known (c .before .before .before) .fits) _ (c .before .before .if2 .left) (ap targetIn (c .enum-told .given .1))
@@ -36,16 +35,16 @@ pub estimate-spec : {M : Type 1} → statement M
 estimate-spec =
     tie.close
     (tie.spec
-    (λ c κs. search needs)
-    (λ c. search needs)
+    (λ c κs. tt)
+    (λ c. refl)
     returns
-    (λ c. search needs)
+    (λ c. refl)
     returns-2
     (λ c. search needs)
     (λ c. search needs)
     order-of-requires
     estimate-requires
-    (λ c. search needs)
+    (λ c. refl)
     returns-3
-    (λ c. search needs)
+    (λ c. c .before .before .estimate .kept .1 .1 .1 .1 .1 .1 .0)
     returns-4)
