@@ -3,9 +3,9 @@ use native.Mathlib.Omega.{arith}
 use mathlib.Core.Path.{_≡_, _∙_, refl, sym}
 use Prim.Native.Nat.{_-_, _≤_}
 use lib.ListN.{length}
-use Rattle.search.proofs.Explores.{Goes, goes-found, goes-full, goes-none, goes-on, goes-start, inside-of}
-use Rattle.search.proofs.explore.Statement.{statement}
-use Rattle.search.proofs.explore.Tie as tie
+use Rattle.exploring.proofs.Explores.{Goes, goes-found, goes-full, goes-none, goes-on, goes-start, inside-of}
+use Rattle.exploring.proofs.explore.Statement.{statement}
+use Rattle.exploring.proofs.explore.Tie as tie
 
 abbrev Inv-loop : tie.InvT-loop
 Inv-loop n m count roads order ranks pairs live down estimates₀ elapsed₀ keys₀ vias₀ wins₀ firsts nexts log₀ target c₀ estimates elapsed keys vias wins log c = (c ≤ n) × (length estimates ≡ length estimates₀) × (length elapsed ≡ length elapsed₀) × (length keys ≡ length keys₀) × (length vias ≡ length vias₀) × (length wins ≡ length wins₀) × (length log ≡ length log₀) × Goes roads order ranks pairs live down n m count (target .0) estimates₀ elapsed₀ keys₀ vias₀ wins₀ log₀ estimates elapsed keys vias wins log c
