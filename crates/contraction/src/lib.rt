@@ -1,6 +1,6 @@
 // Preparing's part of the hierarchy: ranks from the order, and the pairs by contraction in that order, with no witness test.
 //
-// The pairs of the ranks are made row by row, the low ascending. A row of r begins with the roads between r and the ranks above it (crate rows). Then
+// The pairs of the ranks are made row by row, the low ascending. A row of r begins with the roads between r and the ranks above it (crate linking). Then
 // each lower rank v that has a pair with r gives the paths over v, from r to the highs of v's later pairs and back (crate fronts). The work is in the
 // pairs and the triangles of pairs; ranks stand in blocks of 32, and what is in the square of the number of ranks is a test of each block in each row.
 ghost use mathlib.Core.Path.{_≡_};
@@ -106,7 +106,7 @@ fn contract_row(
 {
     let n = ranks.len() as u32;
     let mut touched = [0u32; 128];
-    rows::relax_roads(roads, ranks, first, next, r, ups, downs, &mut touched);
+    linking::relax_roads(roads, ranks, first, next, r, ups, downs, &mut touched);
     fronts::pass_lower(
         pairs,
         n,
@@ -151,7 +151,7 @@ pub fn contract(roads: &[u8], order: &[u8], ranks: &[u32], pairs: &mut [u32]) ->
     let n = (order.len() / 4) as u32;
     let mut first = [0u32; 4096];
     let mut next = [0u32; 16384];
-    rows::link_roads(roads, ranks, &mut first, &mut next);
+    linking::link_roads(roads, ranks, &mut first, &mut next);
     let mut cursor = [0u32; 4096];
     let mut ahead = [0u32; 4096];
     let mut ends = [0u32; 4096];

@@ -1,15 +1,15 @@
 use native.Mathlib.Omega.{arith}
 use Rattle.rows.specs.Steps.{back-less, back-most, before-arc, by-none, le-blocks, le-kept, lt-le, one-less}
 use Prim.Native.Nat.{_*_, _-_, _/_, _≤_, ℕ}
 use mathlib.Core.Path.{_∙_, _≡_, refl}
 use mathlib.Core.Option.{none}
 use lib.ListN.{length}
 use Rattle.rows.specs.Links.{lastOf, netIn, rowOf}
 use Rattle.rows.specs.Rows.{Row}
-use Rattle.rows.proofs.Roads.{Walked, lastOf-le, walked-end, walked-start, walked-turn}
+use Rattle.linking.proofs.Roads.{Walked, lastOf-le, walked-end, walked-start, walked-turn}
 use borrow.Author.Needs.{needs}
-use Rattle.rows.proofs.relax_roads.Statement.{statement}
-use Rattle.rows.proofs.relax_roads.Tie as tie
+use Rattle.linking.proofs.relax_roads.Statement.{statement}
+use Rattle.linking.proofs.relax_roads.Tie as tie
 
 abbrev Inv-loop : tie.InvT-loop
 Inv-loop roads ranks first next ups₀ downs₀ touched₀ c₀ ups downs touched c = (c ≤ 16384) × (length ups ≡ length ups₀) × (length downs ≡ length downs₀) × (length touched ≡ length touched₀) × ((r : ℕ) → c₀ ≡ lastOf (rowOf (netIn roads ranks)) r (length roads / 12) → Row r (length ranks) ups₀ (λ h. none) → Row r (length ranks) downs₀ (λ h. none) → length ranks ≤ 32 * length touched₀ → Walked (netIn roads ranks) (length ranks) r c ups downs touched)

@@ -3,10 +3,10 @@ use native.Mathlib.Omega.{arith}
 use Prim.Native.Nat.{_-_, _≤_}
 use mathlib.Core.Path.{_≡_, refl}
 use lib.ListN.{length, length-set}
 use Rattle.rows.specs.Links.{Linked, netIn}
-use Rattle.rows.proofs.Roads.{linked-end, linked-start, linked-turn}
-use Rattle.rows.proofs.link_roads.Statement.{statement}
-use Rattle.rows.proofs.link_roads.Tie as tie
+use Rattle.linking.proofs.Roads.{linked-end, linked-start, linked-turn}
+use Rattle.linking.proofs.link_roads.Statement.{statement}
+use Rattle.linking.proofs.link_roads.Tie as tie
 
 abbrev Inv-loop : tie.InvT-loop
 Inv-loop roads ranks first₀ next₀ m i₀ first next i = (i ≤ m) × (length first ≡ length first₀) × (length next ≡ length next₀) × Linked (netIn roads ranks) (length ranks) i first next

@@ -1,11 +1,11 @@
 use Rattle.rows.specs.Steps.{by-below, by-most, lt-le}
 use lib.ListN.{length-set}
 use mathlib.Core.Path.{ap, sym}
 use mathlib.Core.Option.{some}
-use Rattle.rows.proofs.Roads.{ends, road-down, road-up}
+use Rattle.linking.proofs.Roads.{ends, road-down, road-up}
 use borrow.Author.Needs.{needs}
-use Rattle.rows.proofs.relax_road.Statement.{statement}
-use Rattle.rows.proofs.relax_road.Tie as tie
+use Rattle.linking.proofs.relax_road.Statement.{statement}
+use Rattle.linking.proofs.relax_road.Tie as tie
 
 rank-of-requires : tie.Need-rank-of-requires
 rank-of-requires c κs = by-below _ _ _ (c .tail-of .ensures) (c .before .before .before .before .before .before .pre .0 .tails (c .before .before .before .before .before .before .args .i) (c .before .before .before .before .before .before .pre .1))

@@ -1,8 +1,8 @@
 use native.Mathlib.Omega.{arith}
-use Rattle.rows.proofs.Roads.{ends, row-high, row-low}
+use Rattle.linking.proofs.Roads.{ends, row-high, row-low}
 use borrow.Author.Needs.{needs}
-use Rattle.rows.proofs.row_of.Statement.{statement}
-use Rattle.rows.proofs.row_of.Tie as tie
+use Rattle.linking.proofs.row_of.Statement.{statement}
+use Rattle.linking.proofs.row_of.Tie as tie
 
 rank-of-requires : tie.Need-rank-of-requires
 rank-of-requires c κs = omega (arith, c .tail-of .ensures, c .before .before .before .pre .0 .tails (c .before .before .before .args .i) (c .before .before .before .pre .1))
