@@ -1,7 +1,7 @@
 // Preparing's part of the hierarchy: ranks from the order, and the pairs by contraction in that order, with no witness test.
 //
 // The pairs of the ranks are made row by row, the low ascending. A row of r begins with the roads between r and the ranks above it (crate linking). Then
-// each lower rank v that has a pair with r gives the paths over v, from r to the highs of v's later pairs and back (crate fronts). The work is in the
+// each lower rank v that has a pair with r gives the paths over v, from r to the highs of v's later pairs and back (crates fronts and passing). The work is in the
 // pairs and the triangles of pairs; ranks stand in blocks of 32, and what is in the square of the number of ranks is a test of each block in each row.
 ghost use mathlib.Core.Path.{_≡_};
 ghost use mathlib.Core.List.{List, _++_};
@@ -107,7 +107,7 @@ fn contract_row(
     let n = ranks.len() as u32;
     let mut touched = [0u32; 128];
     linking::relax_roads(roads, ranks, first, next, r, ups, downs, &mut touched);
-    fronts::pass_lower(
+    passing::pass_lower(
         pairs,
         n,
         r,

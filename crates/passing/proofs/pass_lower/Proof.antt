@@ -4,11 +4,11 @@ use mathlib.Core.Path.{_∙_, _≡_, refl}
 use lib.ListN.{length, length-set}
 use Rattle.rows.specs.Steps.{block-from, block-in, block-less, min-le}
 use Rattle.graph.specs.Path.{Weights}
 use Rattle.fronts.specs.Fronts.{Lower}
-use Rattle.fronts.proofs.Passes.{lower-end, lower-pass, lower-skip, next-even}
+use Rattle.passing.proofs.Blocks.{lower-end, lower-pass, lower-skip, next-even}
 use borrow.Author.Needs.{needs}
-use Rattle.fronts.proofs.pass_lower.Statement.{statement}
-use Rattle.fronts.proofs.pass_lower.Tie as tie
+use Rattle.passing.proofs.pass_lower.Statement.{statement}
+use Rattle.passing.proofs.pass_lower.Tie as tie
 
 abbrev Inv-loop : tie.InvT-loop
 Inv-loop pairs n r cursor₀ ahead₀ ends soon₀ ups₀ downs₀ touched₀ v₀ cursor ahead soon ups downs touched v = (v ≤ r .0) × (v < r .0 → 32 * (v / 32) ≡ v) × (length cursor ≡ length cursor₀) × (length ahead ≡ length ahead₀) × (length soon ≡ length soon₀) × (length ups ≡ length ups₀) × (length downs ≡ length downs₀) × (length touched ≡ length touched₀) × ((w : Weights) → Lower w n (r .0) 0 pairs cursor₀ ahead₀ ends soon₀ ups₀ downs₀ touched₀ → Lower w n (r .0) v pairs cursor ahead ends soon ups downs touched)

@@ -3,11 +3,11 @@ use mathlib.Core.Path.{_∙_, _≡_, refl}
 use lib.ListN.{length}
 use Rattle.rows.specs.Steps.{in-fronts-kept, le-more, le-same, less, lt-le, lt-next}
 use Rattle.graph.specs.Path.{Weights}
 use Rattle.fronts.specs.Fronts.{Scanned, Stage}
-use Rattle.fronts.proofs.Passes.{scanned-end, scanned-pass, scanned-skip, scanned-start}
+use Rattle.passing.proofs.Blocks.{scanned-end, scanned-pass, scanned-skip, scanned-start}
 use borrow.Author.Needs.{needs}
-use Rattle.fronts.proofs.pass_block.Statement.{statement}
-use Rattle.fronts.proofs.pass_block.Tie as tie
+use Rattle.passing.proofs.pass_block.Statement.{statement}
+use Rattle.passing.proofs.pass_block.Tie as tie
 
 abbrev Inv-loop : tie.InvT-loop
 Inv-loop pairs n r from to cursor₀ ahead₀ ends ups₀ downs₀ touched₀ bound₀ v₀ cursor ahead ups downs touched bound v = (from ≤ v) × (v ≤ to) × (length cursor ≡ length cursor₀) × (length ahead ≡ length ahead₀) × (length ups ≡ length ups₀) × (length downs ≡ length downs₀) × (length touched ≡ length touched₀) × ((w : Weights) → Stage w n (r .0) from pairs cursor₀ ahead₀ ends ups₀ downs₀ touched₀ → Scanned w n (r .0) from v bound pairs cursor ahead ends ups downs touched)
