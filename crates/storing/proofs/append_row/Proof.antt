@@ -4,11 +4,11 @@ use Rattle.rows.specs.Steps.{in-kept, less, lt-more, lt-next, min-le, over-abov
 use mathlib.Core.Path.{_∙_, _≡_, refl}
 use lib.ListN.{length}
 use Rattle.graph.specs.Path.{Weights}
-use Rattle.contraction.specs.Contraction.{RowTimes}
-use Rattle.contraction.proofs.Stored.{Appending, append-end, append-full, append-over, append-put, append-skip, append-start}
+use Rattle.storing.specs.Storing.{RowTimes}
+use Rattle.storing.proofs.Records.{Appending, append-end, append-full, append-over, append-put, append-skip, append-start}
 use borrow.Author.Needs.{needs}
-use Rattle.contraction.proofs.append_row.Statement.{statement}
-use Rattle.contraction.proofs.append_row.Tie as tie
+use Rattle.storing.proofs.append_row.Statement.{statement}
+use Rattle.storing.proofs.append_row.Tie as tie
 
 abbrev Inv-loop : tie.InvT-loop
 Inv-loop touched n r count ups₀ downs₀ pairs₀ k₀ h₀ ups downs pairs k h = (r .0 < h) × (h ≤ n) × (4 * k ≤ length pairs₀) × (length pairs ≡ length pairs₀) × (length ups ≡ length ups₀) × (length downs ≡ length downs₀) × ((w : Weights) → RowTimes w n (r .0) count touched ups₀ downs₀ pairs₀ → Appending w n (r .0) h k ups₀ downs₀ ups downs pairs)

@@ -3,9 +3,9 @@ use Prim.Native.Nat.{_-_, _≤_}
 use mathlib.Core.Path.{_≡_}
 use mathlib.Core.List.{_++_}
 use lib.ListN.{length, length-set, replicate, take}
-use Rattle.contraction.proofs.Stored.{zeros-end, zeros-start, zeros-turn}
-use Rattle.contraction.proofs.clear_from.Statement.{statement}
-use Rattle.contraction.proofs.clear_from.Tie as tie
+use Rattle.storing.proofs.Records.{zeros-end, zeros-start, zeros-turn}
+use Rattle.storing.proofs.clear_from.Statement.{statement}
+use Rattle.storing.proofs.clear_from.Tie as tie
 
 abbrev Inv-loop : tie.InvT-loop
 Inv-loop pairs₀ k i₀ pairs i = (k ≤ i) × (i ≤ length pairs₀) × (length pairs ≡ length pairs₀) × (take i pairs ≡ take k pairs₀ ++ replicate (i - k) 0)

@@ -15,8 +15,8 @@ use Rattle.model.specs.Word.{noneWord, ofWord, ofWord-none, word}
 use Rattle.model.specs.State.{words}
 use Rattle.network.specs.Width.{fit, fit-is, fit-ofWord}
 use Rattle.fronts.specs.Fronts.{Holds}
-use Rattle.contraction.specs.Contraction.{Appended, RowAppended, RowTimes}
-use Rattle.contraction.specs.declared.Contracted.the-variants.{Kept, Overflow}
+use Rattle.storing.specs.Storing.{Appended, RowAppended, RowTimes}
+use Rattle.storing.specs.declared.Stored.the-variants.{All, Full}
 
 -- ---- one record more
 
@@ -41,11 +41,11 @@ holds-more {l} {k} {s} p z rest h e n room =
 
 -- ---- the answers
 
-pub kept-same : {a b : ℕ} → Kept a ≡ Kept b → a ≡ b
-kept-same e = cc
+all-same : {a b : ℕ} → All a ≡ All b → a ≡ b
+all-same e = cc
 
-pub kept-overflow : {a : ℕ} → Kept a ≡ Overflow → ⊥
-kept-overflow e = let z : _≡_ {A = ℕ} 0 1 = cc in omega arith
+all-full : {a : ℕ} → All a ≡ Full → ⊥
+all-full e = let z : _≡_ {A = ℕ} 0 1 = cc in omega arith
 
 -- ---- the loop over the highs
 
@@ -165,25 +165,25 @@ module _ {w : Weights} {n r count : ℕ} {touched ups₀ downs₀ pairs₀ : Lis
           downs-left = emptied-turn downs′ ld zd (inv .downs-left);
         }
 
-    pub append-full : b ≡ true → length pairs < 4 * k + 4 → RowAppended w n r ups′ downs′ pairs Overflow
+    pub append-full : b ≡ true → length pairs < 4 * k + 4 → RowAppended w n r ups′ downs′ pairs Full
     append-full t full =
         let e : rows w n (r + 1) ≡ rows w n r ++ row w r n = ap (rows w n) (add-one r) in
         let a = ap length e ∙ length-append (rows w n r) (row w r n) in
         let c = ap length (more t) ∙ length-append (row w r h) (pairOf w r h ∷ []) in
         let i = inv .holds .count-is ∙ length-append (rows w n r) (row w r h) in
         record {
-          appended = record { kept = λ j q. absurd (kept-overflow (sym q)); overflow = λ q. omega (arith, a, c, i, begins-length (row-begins w r (suc h) n hn)) };
-          ups-none = λ j q. absurd (kept-overflow (sym q));
-          downs-none = λ j q. absurd (kept-overflow (sym q));
+          appended = record { all = λ j q. absurd (all-full (sym q)); full = λ q. omega (arith, a, c, i, begins-length (row-begins w r (suc h) n hn)) };
+          ups-none = λ j q. absurd (all-full (sym q));
+          downs-none = λ j q. absurd (all-full (sym q));
         }
 
   pub append-end : (h k : ℕ) (ups downs pairs : List ℕ) → h ≡ n → length ups ≡ length ups₀ → length downs ≡ length downs₀ → Appending w n r h k ups₀ downs₀ ups downs pairs
-      → RowAppended w n r ups downs pairs (Kept k)
+      → RowAppended w n r ups downs pairs (All k)
   append-end h k ups downs pairs e lu ld inv =
       let i = inv .holds in
       let s : Holds (rows w n (r + 1)) k pairs = rw (add-one r) (rw e at i) in
       record {
-        appended = record { kept = λ j q. rw (kept-same q) at s; overflow = λ q. absurd (kept-overflow q) };
+        appended = record { all = λ j q. rw (all-same q) at s; full = λ q. absurd (all-full q) };
         ups-none = λ j q. record { wide = omega (arith, g .ups-are .wide); at = λ a ra an. inv .ups-left .done a ra (omega arith) };
         downs-none = λ j q. record { wide = omega (arith, g .downs-are .wide); at = λ a ra an. inv .downs-left .done a ra (omega arith) };
       }
