@@ -3,9 +3,9 @@ use Prim.Native.Nat.{_-_, _≤_}
 use borrow.Author.Needs.{needs}
 use lib.ListN.{length}
 use native.Mathlib.Omega.{arith}
-use Rattle.preparing.proofs.Prepares.{Bases, bases-end, bases-start, bases-turn}
-use Rattle.preparing.proofs.fill_live.Statement.{statement}
-use Rattle.preparing.proofs.fill_live.Tie as tie
+use Rattle.filling.proofs.Areas.{Bases, bases-end, bases-start, bases-turn}
+use Rattle.filling.proofs.fill_live.Statement.{statement}
+use Rattle.filling.proofs.fill_live.Tie as tie
 
 abbrev Inv-loop : tie.InvT-loop
 Inv-loop roads live₀ i₀ live i = (i ≤ length live₀) × (length live ≡ length live₀) × Bases roads i live
