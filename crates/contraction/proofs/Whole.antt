@@ -12,6 +12,8 @@ use native.Mathlib.Decide.{decLt, ℕ-discrete}
 use native.Mathlib.Nat.{not-suc-le-zero}
 use native.Mathlib.Numerals.{add-one}
 use native.Mathlib.Omega.{arith}
+use mir.Syntax.{w32}
+use mir.Val.{Fits}
 use Rattle.graph.specs.Total.{some-some}
 use Rattle.graph.specs.Least.{minBelow, minBelow-cong}
 use Rattle.graph.specs.Path.{EndsBelow, Weighs, Weights}
@@ -49,6 +51,9 @@ kept-overflow e = let z : _≡_ {A = ℕ} 0 1 = cc in omega arith
 
 pub long : (k n v : ℕ) → n ≤ k → n ≤ length (replicate k v)
 long k n v h = rw (length-replicate k v) h
+
+pub counted : (k v : ℕ) {a : ℕ} → a ≡ length (replicate k v) → k ≡ a
+counted k v e = sym (e ∙ length-replicate k v)
 
 -- a word for each block of 32
 pub blocks : (k n v : ℕ) → n ≤ 32 * k → n ≤ 32 * length (replicate k v)
@@ -192,6 +197,10 @@ module _ {w : Weights} {n r count : ℕ} {pairs cursor ahead ends soon ups₀ do
       })
 
 -- ---- all rows
+
+-- the number of the next row fits
+pub row-fits : (r n k : ℕ) → r < n → n ≡ k → k ≤ 4096 → Fits w32 (r + 1)
+row-fits r n k h e l = omega arith
 
 pub grouped : {roads ranks first next : List ℕ} → Ranked roads ranks → Linked (netIn roads ranks) (length ranks) (length roads / 12) first next → length ranks ≤ length first
     → length roads / 12 ≤ length next → Grouped roads ranks first next

@@ -4,9 +4,10 @@ use Rattle.rows.specs.Steps.{less, lt-next}
 use mathlib.Core.Path.{_∙_, _≡_, refl}
 use lib.ListN.{getD-replicate, length}
 use Rattle.graph.specs.Network.{direct}
+use Rattle.model.specs.Word.{noneWord}
 use Rattle.rows.specs.Links.{netIn}
 use Rattle.contraction.specs.Contraction.{Ready}
-use Rattle.contraction.proofs.Whole.{blocks, contract-end, contract-overflow, given, grouped, long, next-ready, ranked, ranks-most, ranks-number, ready-start}
+use Rattle.contraction.proofs.Whole.{blocks, contract-end, contract-overflow, counted, given, grouped, long, next-ready, ranked, ranks-most, ranks-number, ready-start, row-fits}
 use borrow.Author.Needs.{needs}
 use Rattle.contraction.proofs.contract.Statement.{statement}
 use Rattle.contraction.proofs.contract.Tie as tie
@@ -56,8 +57,9 @@ returns c =
 
 add-r : tie.Need-add-r Inv-loop μ-loop
 add-r c =
-    let b32 = c .before .before .before .before .before .before .before .before .before .before .before .before .before .before .before .before .before .before .before .before .before .before .before .before .before .before .before .before .before .before .before .before in
-    let q = ranks-number (given (b32 .pre .0) (b32 .pre .1)) in let p = ranks-most (given (b32 .pre .0) (b32 .pre .1)) in search needs
+    let b21 = c .before .before .before .before .before .before .before .before .before .before .before .before .before .before .before .before .before .before .before .before .before in
+    let b32 = b21 .before .before .before .before .before .before .before .before .before .before .before in
+    let g = given (b32 .pre .0) (b32 .pre .1) in row-fits _ _ _ (b21 .loop-test .taken) (ranks-number g) (ranks-most g)
 
 loop-less : tie.Need-loop-less Inv-loop μ-loop
 loop-less c = less _ _ (c .before .before .before .before .before .before .before .before .before .before .before .before .before .before .before .before .before .before .before .before .before .loop-test .taken)
@@ -97,23 +99,23 @@ contract-spec =
     Inv-loop
     μ-loop
     cast-n
-    (λ c. search needs)
-    (λ c. search needs)
+    (λ c. counted 4096 0 refl)
+    (λ c. counted 16384 0 refl)
     link-roads-requires
     loop-holds
-    (λ c. search needs)
-    (λ c. search needs)
-    (λ c. search needs)
-    (λ c. search needs)
-    (λ c. search needs)
-    (λ c. search needs)
-    (λ c. search needs)
-    (λ c. search needs)
+    (λ c. counted 4096 0 (c .before .before .before .before .before .link-roads .kept .1 .1 .0))
+    (λ c. counted 16384 0 (c .before .before .before .before .before .before .link-roads .kept .1 .1 .1 .0))
+    (λ c. counted 4096 0 (c .before .before .before .before .loop .inv .2))
+    (λ c. counted 4096 0 (c .before .before .before .before .before .loop .inv .3))
+    (λ c. counted 4096 0 (c .before .before .before .before .before .before .loop .inv .4))
+    (λ c. counted 128 4096 (c .before .before .before .before .before .before .before .loop .inv .5))
+    (λ c. counted 4096 noneWord (c .before .before .before .before .before .before .before .before .loop .inv .6))
+    (λ c. counted 4096 noneWord (c .before .before .before .before .before .before .before .before .before .loop .inv .7))
     contract-row-requires
-    (λ c. search needs)
+    (λ c. c .match .keys1)
     same-length
     returns
-    (λ c. search needs)
+    (λ c. c .match .keys2)
     add-r
     loop-less
     loop-again
