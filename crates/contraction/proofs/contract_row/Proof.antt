@@ -130,14 +130,14 @@ contract-row-spec =
     tie.close
     (tie.spec
     (λ c. search needs)
-    (λ c. search needs)
+    (λ c. refl)
     relax-roads-requires
     (λ c. search needs)
     pass-lower-requires
     (λ c. search needs)
     append-row-requires
-    (λ c. search needs)
-    (λ c. search needs)
+    (λ c. c .match .keys1)
+    (λ c. c .match .keys2)
     ahead-at-requires
     begin-front-requires
     same-length

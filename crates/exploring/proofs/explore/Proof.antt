@@ -85,7 +85,7 @@ explore-spec =
     μ-loop
     loop-holds
     (λ c κs. search needs)
-    (λ c. search needs)
+    (λ c. c .match .keys1)
     (λ c. search needs)
     (λ c. search needs)
     (λ c. search needs)
@@ -93,7 +93,7 @@ explore-spec =
     (λ c. search needs)
     (λ c. search needs)
     returns
-    (λ c. search needs)
+    (λ c. c .match .keys2)
     settle-requires
     (λ c. search needs)
     is-logged-requires

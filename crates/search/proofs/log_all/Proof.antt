@@ -1,3 +1,4 @@
+use mathlib.Core.Path.{refl}
 use native.Mathlib.Omega.{arith}
 use lib.ListN.{length-replicate}
 use Rattle.search.proofs.Wholes.{all-same, logs-over}
@@ -42,11 +43,11 @@ pub log-all-spec : {M : Type 1} → statement M
 log-all-spec =
     tie.close
     (tie.spec
-    (λ c. search needs)
-    (λ c. search needs)
+    (λ c. refl)
+    (λ c. refl)
     group-requires
-    (λ c. search needs)
-    (λ c. search needs)
+    (λ c. refl)
+    (λ c. refl)
     begin-requires
     (λ c. search needs)
     (λ c. search needs)
