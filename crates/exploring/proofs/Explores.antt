@@ -10,6 +10,8 @@ use lib.Dec.{eqb}
 use lib.ListN.{getD, length, length-reverse, set}
 use lib.Seq.{getD-set-same}
 use native.Mathlib.Omega.{arith}
+use mir.Syntax.{w32}
+use mir.Val.{Fits}
 use Rattle.graph.specs.Total.{true-false}
 use Rattle.graph.specs.Search.{Entry, Problem, extend, hasGoal, history, timeIn, vertices}
 use Rattle.graph.specs.Walk.{TimeIs, timeIn-cases, timeIn-here}
@@ -48,6 +50,10 @@ least-of keys n b j h e = rw e at h
 
 nothing-of : (keys : List ℕ) (n : ℕ) (b : Choice) → Chosen keys n b → b ≡ Nothing → (v : ℕ) → v < n → settledKey ≤ getD keys v 0
 nothing-of keys n b h e = rw e at h
+
+-- the number of the next entry fits
+pub count-fits : (c n : ℕ) → c < n → n ≤ 4096 → Fits w32 (c + 1)
+count-fits c n h l = omega arith
 
 module _ (roads order ranks pairs live down : List ℕ) (n m count z : ℕ) where
   -- c junctions are logged, the target is not among them, and all their roads are relaxed
