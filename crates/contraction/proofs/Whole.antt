@@ -12,6 +12,8 @@ use native.Mathlib.Decide.{decLt, ℕ-discrete}
 use native.Mathlib.Nat.{not-suc-le-zero}
 use native.Mathlib.Numerals.{add-one}
 use native.Mathlib.Omega.{arith}
+use mir.Syntax.{w32}
+use mir.Val.{Fits}
 use Rattle.graph.specs.Total.{some-some}
 use Rattle.graph.specs.Least.{minBelow, minBelow-cong}
 use Rattle.graph.specs.Path.{EndsBelow, Weighs, Weights}
@@ -26,20 +28,32 @@ use Rattle.model.specs.Bytes.{listed, wordAt}
 use Rattle.model.specs.State.{words}
 use Rattle.model.specs.Laws.{listed-at, listed-length}
 use Rattle.network.specs.Bodies.{MapFacts, Sound, base-in, head-in, map-facts, mapIn, tail-in}
-use Rattle.contraction.specs.declared.Contracted.{Contracted}
 use Rattle.contraction.specs.declared.Contracted.the-variants.{Kept, Overflow}
 use Rattle.rows.specs.Links.{Grouped, Linked, Ranked, netIn}
 use Rattle.rows.specs.Rows.{Marked, Row}
 use Rattle.rows.specs.Entries.{row-same}
 use Rattle.fronts.specs.Fronts.{Begun, Front, Holds, Lower, Narrow, Sooner, Stage}
 use Rattle.fronts.specs.Holding.{holds-at}
-use Rattle.contraction.specs.Contraction.{Contraction, Ready, RowAppended, RowDone, RowTimes}
-use Rattle.contraction.proofs.Stored.{kept-overflow, kept-same}
+use Rattle.storing.specs.declared.Stored.{Stored}
+use Rattle.storing.specs.declared.Stored.the-variants.{All, Full}
+use Rattle.storing.specs.Storing.{RowAppended, RowTimes}
+use Rattle.contraction.specs.Contraction.{Contraction, Ready, RowDone}
+
+-- ---- the answers
+
+kept-same : {a b : ℕ} → Kept a ≡ Kept b → a ≡ b
+kept-same e = cc
+
+kept-overflow : {a : ℕ} → Kept a ≡ Overflow → ⊥
+kept-overflow e = let z : _≡_ {A = ℕ} 0 1 = cc in omega arith
 
 -- ---- the row of times at first
 
 pub long : (k n v : ℕ) → n ≤ k → n ≤ length (replicate k v)
 long k n v h = rw (length-replicate k v) h
+
+pub counted : (k v : ℕ) {a : ℕ} → a ≡ length (replicate k v) → k ≡ a
+counted k v e = sym (e ∙ length-replicate k v)
 
 -- a word for each block of 32
 pub blocks : (k n v : ℕ) → n ≤ 32 * k → n ≤ 32 * length (replicate k v)
@@ -83,11 +97,11 @@ module _ {w : Weights} {n r count : ℕ} {pairs cursor ahead ends soon ups₀ do
       marked = s .marked;
     }
 
-    pub row-overflow : {pairs′ ups′ downs′ : List ℕ} {c : Contracted} → c ≡ Overflow → RowAppended w n r ups′ downs′ pairs′ c → RowDone w n r pairs′ cursor′ ahead′ ends soon′ ups′ downs′ Overflow
-    row-overflow e a = record { kept = λ k q. absurd (kept-overflow (sym q)); overflow = λ q. let l = a .appended .overflow e in rw (add-one r) at l }
+    pub row-overflow : {pairs′ ups′ downs′ : List ℕ} {c : Stored} → c ≡ Full → RowAppended w n r ups′ downs′ pairs′ c → RowDone w n r pairs′ cursor′ ahead′ ends soon′ ups′ downs′ Overflow
+    row-overflow e a = record { kept = λ k q. absurd (kept-overflow (sym q)); overflow = λ q. let l = a .appended .full e in rw (add-one r) at l }
 
     -- the records are appended, and the front of r's own row stands at its first one
-    module _ {pairs′ ups′ downs′ : List ℕ} {k x : ℕ} {c : Contracted} (a : RowAppended w n r ups′ downs′ pairs′ c) (ec : c ≡ Kept k)
+    module _ {pairs′ ups′ downs′ : List ℕ} {k x : ℕ} {c : Stored} (a : RowAppended w n r ups′ downs′ pairs′ c) (ec : c ≡ All k)
         (ex : x ≡ cond (ltb count k) (getD pairs′ (4 * count + 1) 0) n) (ep : length pairs′ ≡ length pairs) where
       lc : r < length cursor′
       lc = omega (arith, s .inside, s .wide .cursors)
@@ -99,7 +113,7 @@ module _ {w : Weights} {n r count : ℕ} {pairs cursor ahead ends soon ups₀ do
       le = omega (arith, s .inside, s .wide .ends-too)
 
       holds′ : Holds (rows w n (suc r)) k pairs′
-      holds′ = let h = a .appended .kept k ec in rw (add-one r) at h
+      holds′ = let h = a .appended .all k ec in rw (add-one r) at h
 
       k-is : k ≡ length (rows w n r) + length (row w r n)
       k-is = holds′ .count-is ∙ length-append (rows w n r) (row w r n)
@@ -183,6 +197,10 @@ module _ {w : Weights} {n r count : ℕ} {pairs cursor ahead ends soon ups₀ do
       })
 
 -- ---- all rows
+
+-- the number of the next row fits
+pub row-fits : (r n k : ℕ) → r < n → n ≡ k → k ≤ 4096 → Fits w32 (r + 1)
+row-fits r n k h e l = omega arith
 
 pub grouped : {roads ranks first next : List ℕ} → Ranked roads ranks → Linked (netIn roads ranks) (length ranks) (length roads / 12) first next → length ranks ≤ length first
     → length roads / 12 ≤ length next → Grouped roads ranks first next

@@ -2,40 +2,20 @@
 use mathlib.Core.Path.{_∙_, _≡_, ap, sym}
 use mathlib.Core.Option.{none}
 use mathlib.Core.List.{List}
-use Prim.Native.Nat.{_*_, _+_, _<_, _≤_, suc, ℕ}
+use Prim.Native.Nat.{_*_, _<_, _≤_, suc, ℕ}
 use lib.ListN.{length}
 use native.Mathlib.Decide.{decLt}
 use native.Mathlib.Omega.{arith}
 use Rattle.graph.specs.Path.{Weights}
-use Rattle.graph.specs.Pairs.{down, up}
-use Rattle.graph.specs.Records.{Pair, rows}
+use Rattle.graph.specs.Records.{rows}
 use Rattle.graph.specs.Map.{Map, pairsOf, rank}
 use Rattle.model.specs.Bytes.{listed}
 use Rattle.model.specs.State.{recordsIn}
 use Rattle.network.specs.Bodies.{Prepared, Sound, mapIn}
 use Rattle.contraction.specs.declared.Contracted.{Contracted}
 use Rattle.contraction.specs.declared.Contracted.the-variants.{Kept, Overflow}
-use Rattle.rows.specs.Rows.{Marked, Row}
+use Rattle.rows.specs.Rows.{Row}
 use Rattle.fronts.specs.Fronts.{Front, Holds, Narrow, Sooner, Wide}
-
--- The answer is the number of records of l, which begin the area; or these do not fit.
-pub record Appended (l : List Pair) (pairs : List ℕ) (answer : Contracted) : Type 0 where
-  pub kept : (count : ℕ) → answer ≡ Kept count → Holds l count pairs
-  pub overflow : answer ≡ Overflow → length pairs < 4 * length l
-
--- the two rows of times are those of r, and the area begins with the records of the lower ranks
-pub record RowTimes (w : Weights) (n r count : ℕ) (touched ups downs pairs : List ℕ) : Type 0 where
-  pub narrow : Narrow w n
-  pub holds : Holds (rows w n r) count pairs
-  pub ups-are : Row r n ups (up w r)
-  pub downs-are : Row r n downs (down w r)
-  pub marked : Marked r n touched ups downs
-
--- the records of r stand there too, if they fit, and the rows of times are none again
-pub record RowAppended (w : Weights) (n r : ℕ) (ups downs pairs : List ℕ) (answer : Contracted) : Type 0 where
-  pub appended : Appended (rows w n (r + 1)) pairs answer
-  pub ups-none : (count : ℕ) → answer ≡ Kept count → Row r n ups (λ h. none)
-  pub downs-none : (count : ℕ) → answer ≡ Kept count → Row r n downs (λ h. none)
 
 -- the pairs of the ranks below r stand in the area, and their rows are passed up to before r
 pub record Ready (w : Weights) (n r count : ℕ) (pairs cursor ahead ends soon ups downs : List ℕ) : Type 0 where

@@ -1,4 +1,3 @@
 pub mod Begins
-pub mod Explores
 pub mod Answers
 pub mod Wholes

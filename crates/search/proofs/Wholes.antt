@@ -1,10 +1,10 @@
 -- The whole search, from what its parts ensure. Assumes nothing.
-use mathlib.Core.Path.{_≡_}
+use mathlib.Core.Path.{_∙_, _≡_, sym}
 use mathlib.Core.Bool.{false, true}
 use mathlib.Core.List.{List}
 use Prim.Native.Nat.{_*_, _<_, _≤_, ℕ}
 use lib.Dec.{eqb}
-use lib.ListN.{getD, getD-replicate, length, replicate}
+use lib.ListN.{getD, getD-replicate, length, length-replicate, replicate}
 use native.Mathlib.Omega.{arith}
 use Rattle.model.specs.Word.{noneWord}
 use Rattle.model.specs.Bytes.{listed}
@@ -20,6 +20,13 @@ use Rattle.search.proofs.Answers.{answer-found, answer-lost}
 -- the entries of a local array as it is made
 pub all-same : (k a n v : ℕ) → n ≤ k → v < n → getD (replicate k a) v 0 ≡ a
 all-same k a n v le l = getD-replicate k v a 0 (omega arith)
+
+-- so many entries it keeps
+pub counted : (k v : ℕ) {a : ℕ} → a ≡ length (replicate k v) → k ≡ a
+counted k v e = sym (e ∙ length-replicate k v)
+
+pub below-kept : {z n a b : ℕ} → z < n → b ≡ n → a ≡ b → z < a
+below-kept h e f = omega arith
 
 -- the parts of the log, one after the other
 pub logs-over : (roads order ranks pairs live down : List ℕ) (n m count s z : ℕ) (e₀ log₀ e₁ times₁ keys₁ vias₁ wins₁ e times keys vias wins log : List ℕ) (c : ℕ) (elapsed : List ℕ)

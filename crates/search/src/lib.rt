@@ -3,24 +3,19 @@ ghost use mathlib.Core.Path.{_≡_};
 ghost use Prim.Native.Nat.{ℕ, _*_, _+_, _<_, _≤_};
 ghost use lib.ListN.{getD, length};
 ghost use Rattle.keys.specs.Keys.{noKey};
-ghost use Rattle.ways.specs.Grouped.{Grouped};
-ghost use Rattle.relaxing.specs.State.{Begun, Explores, Sized};
+ghost use Rattle.relaxing.specs.State.{Begun, Sized};
 ghost use Rattle.search.specs.Logs.{Logs};
 ghost use Rattle.search.specs.Searches.{Searches};
+use exploring::explore;
 use hierarchy::estimate;
 use hierarchy::fill;
-use keys::Choice;
 use keys::NO_KEY;
-use keys::choose;
 use keys::enter;
 use keys::finish;
-use keys::is_logged;
 use keys::key_of;
 use keys::reset;
-use keys::settle;
 use network::Junction;
 use network::Time;
-use relaxing::relax;
 use ways::group;
 use ways::way_back;
 
@@ -52,67 +47,6 @@ fn begin(
     elapsed[a] = here.word();
     keys[a] = key_of(here, to_go);
     enter(keys, wins, start);
-}
-
-// Logs one candidate after the other, until the target is logged or no candidate is left; answered with their number (document 01: count).
-fn explore(
-    n: u32,
-    m: u32,
-    count: u32,
-    roads: &[u8],
-    order: &[u8],
-    ranks: &[u32],
-    pairs: &[u32],
-    live: &[u32],
-    down: &[u32],
-    estimates: &mut [u32],
-    elapsed: &mut [u32],
-    keys: &mut [u64],
-    vias: &mut [u32],
-    wins: &mut [u32],
-    firsts: &[u32],
-    nexts: &[u32],
-    log: &mut [u32],
-    target: Junction,
-) -> u32
-    requires { ⌜ (n ≤ length (now log)) × (n ≤ length (now keys)) × (n ≤ length (now vias)) × (n ≤ 64 * length (now wins)) × (n ≤ length (now firsts)) × (m ≤ length (now nexts)) × Grouped (now roads) n m (now firsts) (now nexts) × Sized n m count (length (now roads)) (length (now order)) (length (now ranks)) (length (now pairs)) (length (now live)) (length (now down)) (length (now estimates)) (length (now elapsed)) × (target .0 < n) ⌝ }
-    ensures { λ c. ⌜ Explores (now (roads .entry)) (now (order .entry)) (now (ranks .entry)) (now (pairs .entry)) (now (live .entry)) (now (down .entry)) n m count (target .0) (now (estimates .entry)) (now (elapsed .entry)) (now (keys .entry)) (now (vias .entry)) (now (wins .entry)) (now (log .entry)) (now (estimates .exit)) (now (elapsed .exit)) (now (keys .exit)) (now (vias .exit)) (now (wins .exit)) (now (log .exit)) c ⌝ }
-{
-    let mut c: u32 = 0;
-    while c < n {
-        match choose(keys, wins, n) {
-            Choice::Nothing => {
-                return c;
-            }
-            Choice::At(v) => {
-                settle(keys, wins, log, n, c, v);
-                c += 1;
-                if is_logged(keys, target) {
-                    return c;
-                }
-                relax(
-                    n,
-                    m,
-                    count,
-                    roads,
-                    order,
-                    ranks,
-                    pairs,
-                    live,
-                    down,
-                    estimates,
-                    elapsed,
-                    keys,
-                    vias,
-                    wins,
-                    firsts,
-                    nexts,
-                    v,
-                );
-            }
-        }
-    }
-    c
 }
 
 // Logs from the start on, until the target is logged or no candidate is left; answered with the number of logged junctions. Elapsed holds their times, `vias` the roads that gave them.

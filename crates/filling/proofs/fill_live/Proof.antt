@@ -1,0 +1,37 @@
+use mathlib.Core.Path.{_≡_}
+use Prim.Native.Nat.{_-_, _≤_}
+use borrow.Author.Needs.{needs}
+use lib.ListN.{length}
+use native.Mathlib.Omega.{arith}
+use Rattle.filling.proofs.Areas.{Bases, bases-end, bases-start, bases-turn}
+use Rattle.filling.proofs.fill_live.Statement.{statement}
+use Rattle.filling.proofs.fill_live.Tie as tie
+
+abbrev Inv-loop : tie.InvT-loop
+Inv-loop roads live₀ i₀ live i = (i ≤ length live₀) × (length live ≡ length live₀) × Bases roads i live
+
+abbrev μ-loop : tie.MeasureT-loop
+μ-loop roads live₀ i₀ live i = length live₀ - i
+
+loop-again : tie.Need-loop-again Inv-loop μ-loop
+loop-again c = (search needs, search needs, bases-turn _ (c .before .before .before .loop .i) (c .before .before .before .loop .live) _ _ (c .before .before .loop-test .taken) (c .before .before .before .loop .inv .2) (c .before .base-of .ensures) (c .word .ensures))
+
+returns : tie.Need-returns Inv-loop μ-loop
+returns c = bases-end (c .before .before .before .before .args .roads .now) (c .before .loop .i) _ _ (c .before .loop .inv .1) (omega arith) (c .before .loop .inv .2)
+
+pub fill-live-spec : {M : Type 1} → statement M
+fill-live-spec =
+    tie.close
+    (tie.spec
+    Inv-loop
+    μ-loop
+    (λ c. search needs)
+    (λ c κs. search needs)
+    (λ c κs. search needs)
+    (λ c. search needs)
+    (λ c. search needs)
+    (λ c. search needs)
+    (λ c. search needs)
+    loop-again
+    (λ c. search needs)
+    returns)

@@ -1,0 +1,80 @@
+use Prim.Native.Nat.{_-_, _≤_}
+use mathlib.Core.Path.{_∙_, _≡_, refl}
+use lib.ListN.{length}
+use Rattle.rows.specs.Steps.{in-fronts-kept, le-more, le-same, less, lt-le, lt-next}
+use Rattle.graph.specs.Path.{Weights}
+use Rattle.fronts.specs.Fronts.{Scanned, Stage}
+use Rattle.passing.proofs.Blocks.{scanned-end, scanned-pass, scanned-skip, scanned-start}
+use borrow.Author.Needs.{needs}
+use Rattle.passing.proofs.pass_block.Statement.{statement}
+use Rattle.passing.proofs.pass_block.Tie as tie
+
+abbrev Inv-loop : tie.InvT-loop
+Inv-loop pairs n r from to cursor₀ ahead₀ ends ups₀ downs₀ touched₀ bound₀ v₀ cursor ahead ups downs touched bound v = (from ≤ v) × (v ≤ to) × (length cursor ≡ length cursor₀) × (length ahead ≡ length ahead₀) × (length ups ≡ length ups₀) × (length downs ≡ length downs₀) × (length touched ≡ length touched₀) × ((w : Weights) → Stage w n (r .0) from pairs cursor₀ ahead₀ ends ups₀ downs₀ touched₀ → Scanned w n (r .0) from v bound pairs cursor ahead ends ups downs touched)
+
+abbrev μ-loop : tie.MeasureT-loop
+μ-loop pairs n r from to cursor₀ ahead₀ ends ups₀ downs₀ touched₀ bound₀ v₀ cursor ahead ups downs touched bound v = to - v
+
+loop-holds : tie.Need-loop-holds Inv-loop μ-loop
+loop-holds c = (le-same _, c .before .before .before .before .before .before .before .pre .1, refl, refl, refl, refl, refl, λ w s. scanned-start _ s)
+
+slice-read-high : tie.Need-slice-read-high Inv-loop μ-loop
+slice-read-high c = in-fronts-kept _ _ _ _ _ _ (c .before .loop-test .taken) (c .before .before .before .before .before .before .before .before .before .before .pre .2) (c .before .before .before .before .before .before .before .before .before .before .pre .0 .1 .inside) (c .before .before .before .before .before .before .before .before .before .before .pre .0 .1 .wide .aheads) (c .before .before .loop .inv .3)
+
+pass-rank-requires : tie.Need-pass-rank-requires Inv-loop μ-loop
+pass-rank-requires c κs = ((c .before .before .before .before .before .before .before .before .before .before .before .before .before .before .before .before .before .pre .0 .0, (c .before .before .before .before .before .before .before .before .before .loop .inv .7 (c .before .before .before .before .before .before .before .before .before .before .before .before .before .before .before .before .before .pre .0 .0) (c .before .before .before .before .before .before .before .before .before .before .before .before .before .before .before .before .before .pre .0 .1)) .stage), lt-le _ _ _ (c .before .before .before .before .before .before .before .before .loop-test .taken) (c .before .before .before .before .before .before .before .before .before .before .before .before .before .before .before .before .before .pre .2), c .before .before .before .before .before .if1 .taken)
+
+loop-less : tie.Need-loop-less Inv-loop μ-loop
+loop-less c = less _ _ (c .before .before .before .before .before .before .before .before .before .before .before .before .before .before .before .before .before .before .before .before .loop-test .taken)
+
+loop-again : tie.Need-loop-again Inv-loop μ-loop
+loop-again c = (le-more _ _ (c .before .before .before .before .before .before .before .before .before .before .before .before .before .before .before .before .before .before .before .before .before .loop .inv .0), lt-next _ _ (c .before .before .before .before .before .before .before .before .before .before .before .before .before .before .before .before .before .before .before .before .loop-test .taken), c .before .before .before .before .before .before .before .before .before .before .before .pass-rank .kept .1 .1 .1 .1 .0 ∙ c .before .before .before .before .before .before .before .before .before .before .before .before .before .before .before .before .before .before .before .before .before .loop .inv .2, c .before .before .before .before .before .before .before .before .before .before .before .pass-rank .kept .1 .1 .1 .1 .1 .0 ∙ c .before .before .before .before .before .before .before .before .before .before .before .before .before .before .before .before .before .before .before .before .before .loop .inv .3, c .before .before .before .before .before .before .before .before .before .before .before .pass-rank .kept .1 .1 .1 .1 .1 .1 .1 .0 ∙ c .before .before .before .before .before .before .before .before .before .before .before .before .before .before .before .before .before .before .before .before .before .loop .inv .4, c .before .before .before .before .before .before .before .before .before .before .before .pass-rank .kept .1 .1 .1 .1 .1 .1 .1 .1 .0 ∙ c .before .before .before .before .before .before .before .before .before .before .before .before .before .before .before .before .before .before .before .before .before .loop .inv .5, c .before .before .before .before .before .before .before .before .before .before .before .pass-rank .kept .1 .1 .1 .1 .1 .1 .1 .1 .1 .0 ∙ c .before .before .before .before .before .before .before .before .before .before .before .before .before .before .before .before .before .before .before .before .before .loop .inv .6, λ w s. scanned-pass (c .before .before .before .before .before .before .before .before .before .before .before .before .before .before .before .before .before .before .before .before .before .loop .inv .7 w s) (lt-le _ _ _ (c .before .before .before .before .before .before .before .before .before .before .before .before .before .before .before .before .before .before .before .before .loop-test .taken) (c .before .before .before .before .before .before .before .before .before .before .before .before .before .before .before .before .before .before .before .before .before .before .before .before .before .before .before .before .before .pre .2)) _ _ (c .before .before .before .before .before .before .before .before .before .before .before .pass-rank .ensures .0) (c .least .ensures) (c .before .before .before .before .before .before .before .before .before .before .before .pass-rank .ensures .1 w (c .before .before .before .before .before .before .before .before .before .before .before .before .before .before .before .before .before .before .before .before .before .loop .inv .7 w s .stage)))
+
+loop-less-2 : tie.Need-loop-less-2 Inv-loop μ-loop
+loop-less-2 c = less _ _ (c .before .before .before .before .loop-test .taken)
+
+loop-again-2 : tie.Need-loop-again-2 Inv-loop μ-loop
+loop-again-2 c = (le-more _ _ (c .before .before .before .before .before .loop .inv .0), lt-next _ _ (c .before .before .before .before .loop-test .taken), c .before .before .before .before .before .loop .inv .2, c .before .before .before .before .before .loop .inv .3, c .before .before .before .before .before .loop .inv .4, c .before .before .before .before .before .loop .inv .5, c .before .before .before .before .before .loop .inv .6, λ w s. scanned-skip (c .before .before .before .before .before .loop .inv .7 w s) (lt-le _ _ _ (c .before .before .before .before .loop-test .taken) (c .before .before .before .before .before .before .before .before .before .before .before .before .before .pre .2)) _ _ refl (c .before .if1 .left) (c .least2 .ensures))
+
+same-length : tie.Need-same-length Inv-loop μ-loop
+same-length c = c .before .loop .inv .2
+
+same-length-2 : tie.Need-same-length-2 Inv-loop μ-loop
+same-length-2 c = c .before .loop .inv .3
+
+same-length-3 : tie.Need-same-length-3 Inv-loop μ-loop
+same-length-3 c = c .before .loop .inv .4
+
+same-length-4 : tie.Need-same-length-4 Inv-loop μ-loop
+same-length-4 c = c .before .loop .inv .5
+
+same-length-5 : tie.Need-same-length-5 Inv-loop μ-loop
+same-length-5 c = c .before .loop .inv .6
+
+returns : tie.Need-returns Inv-loop μ-loop
+returns c = λ w s. scanned-end (c .before .loop .inv .1) (c .loop-test .left) (c .before .loop .inv .7 w s)
+
+pub pass-block-spec : {M : Type 1} → statement M
+pass-block-spec =
+    tie.close
+    (tie.spec
+    Inv-loop
+    μ-loop
+    loop-holds
+    (λ c. search needs)
+    (λ c. search needs)
+    (λ c. search needs)
+    slice-read-high
+    pass-rank-requires
+    (λ c κs. search needs)
+    loop-less
+    loop-again
+    (λ c κs. search needs)
+    loop-less-2
+    loop-again-2
+    same-length
+    same-length-2
+    same-length-3
+    same-length-4
+    same-length-5
+    returns)

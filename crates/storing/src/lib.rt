@@ -1,0 +1,70 @@
+// The records of a row, appended to the area of pairs, and the zeros after the last.
+ghost use mathlib.Core.Path.{_≡_};
+ghost use mathlib.Core.List.{_++_};
+ghost use Prim.Native.Nat.{_*_, _-_, _<_, _≤_};
+ghost use lib.ListN.{length, replicate, take};
+ghost use Rattle.graph.specs.Path.{Weights};
+ghost use Rattle.storing.specs.Storing.{RowAppended, RowTimes};
+use network::Rank;
+
+// The number of ranks in a block.
+const BLOCK: u32 = 32;
+
+// The number of records in the area, if all fit.
+pub enum Stored {
+    All(u32),
+    Full,
+}
+
+// Appends the records of the kept pairs of r, in ascending order of their highs, and leaves none in the rows of times. A block that no road or path
+// touched holds none, and is passed over.
+pub fn append_row(
+    touched: &[u32],
+    n: u32,
+    r: Rank,
+    count: u32,
+    ups: &mut [u32],
+    downs: &mut [u32],
+    pairs: &mut [u32],
+) -> Stored
+    requires { ⌜ (r .0 < n) × (n ≤ 4096)
+        × (n ≤ 32 * length (now touched))
+        × (n ≤ length (now ups)) × (n ≤ length (now downs)) × (4 * count ≤ length (now pairs)) × (length (now pairs) ≤ 262144) ⌝ }
+    ensures { λ answer. ⌜ ((w : Weights) → RowTimes w n (r .0) count (now (touched .entry)) (now (ups .entry)) (now (downs .entry)) (now (pairs .entry))
+        → RowAppended w n (r .0) (now (ups .exit)) (now (downs .exit)) (now (pairs .exit)) answer) ⌝ }
+{
+    let mut k = count;
+    let mut h = r.0 + 1;
+    while h < n {
+        let b = h / BLOCK;
+        if touched[b as usize] == 0 {
+            h = rows::least(BLOCK * b + BLOCK, n);
+        } else {
+            let high = Rank(h);
+            let at = h as usize;
+            h += 1;
+            let u = rows::take_time(ups, at);
+            let d = rows::take_time(downs, at);
+            if rows::is_kept(u, d) {
+                if 4 * (k as usize) + 4 > pairs.len() {
+                    return Stored::Full;
+                }
+                rows::put_record(pairs, k, r, high, u, d);
+                k += 1;
+            }
+        }
+    }
+    Stored::All(k)
+}
+
+// Fills the area with 0 from word k on.
+pub fn clear_from(pairs: &mut [u32], k: usize)
+    requires { ⌜ k ≤ length (now pairs) ⌝ }
+    ensures { λ _. ⌜ now (pairs .exit) ≡ take k (now (pairs .entry)) ++ replicate (length (now (pairs .entry)) - k) 0 ⌝ }
+{
+    let mut i = k;
+    while i < pairs.len() {
+        pairs[i] = 0;
+        i += 1;
+    }
+}
