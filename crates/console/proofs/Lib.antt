@@ -1,5 +1,3 @@
 -- Laws of the definitions, which several proofs cite.
-mod Numbers
-mod Parts
-mod Areas
+mod Calls
 mod Ways

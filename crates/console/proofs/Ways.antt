@@ -2,9 +2,11 @@
 use mathlib.Core.Path.{_∙_, _≡_, ap, sym}
 use mathlib.Core.Bool.{Bool, false, true}
 use mathlib.Core.List.{List, [], _++_, _∷_}
-use Prim.Native.Nat.{ℕ}
+use Prim.Native.Nat.{_-_, ℕ}
 use borrow.Author.Tests.{eq-eqb, ne-eqb}
 use lib.Dec.{eqb}
+use lib.ListN.{take}
+use native.Mathlib.Omega.{arith}
 use Rattle.model.specs.Types.{Refusal}
 use Rattle.model.specs.Word.{noneWord, ofWord}
 use Rattle.model.specs.Card.{question}
@@ -12,8 +14,9 @@ use Rattle.network.specs.Refusals.{placeOf}
 use Rattle.answers.specs.declared.Answer.{Answer}
 use Rattle.answers.specs.Shape.{answerIn}
 use Rattle.console.specs.Ascii.{ascii}
-use Rattle.console.specs.Texts.{Puts, placesOf, refusalText, spaced, timeText, tripText, worded}
-use Rattle.console.proofs.Areas.{puts-as, puts-then, spaced-append}
+use Rattle.texts.specs.Areas.{Puts, spaced}
+use Rattle.texts.specs.Puts.{puts-as, puts-then, spaced-append}
+use Rattle.console.specs.Texts.{placesOf, refusalText, timeText, tripText, worded}
 
 -- ---- a time
 
@@ -47,6 +50,10 @@ module _ (q : Refusal) (n p : ℕ) (hn : n ≡ question q) (hp : p ≡ placeOf q
       puts-then x (puts-as (ap (λ (l : List ℕ). spaced (n ∷ l)) (sym e) ∙ ap (λ (x : ℕ). spaced (x ∷ placesOf q)) hn) y)
 
 -- ---- a go
+
+-- the roads
+pub first-is : (l : List ℕ) (k : ℕ) → take (k - 0) l ≡ take k l
+first-is l k = let z : k - 0 ≡ k = omega arith in rw z
 
 pub trip-put : (t c : ℕ) (l : List ℕ) {a : List ℕ} {at : ℕ} {k : List ℕ} {i : ℕ} {m : List ℕ} {j : ℕ} {o : List ℕ} {h : ℕ} {z : List ℕ} {r : ℕ}
     → Puts (ascii "go") a at k i → Puts (spaced (t ∷ [])) k i m j → Puts (spaced (c ∷ [])) m j o h → Puts (spaced l) o h z r → Puts (tripText t c l) a at z r

@@ -8,11 +8,13 @@ use Rattle.bytes.specs.Bytes.{indexAfter, indexOf}
 use Rattle.model.specs.Types.{Accepted, Answer, Estimated, Gone, NoPath, NotAllowed, Place, Refused, Road, Room}
 use Rattle.model.specs.Word.{closedWord, noneWord, ofWord}
 use Rattle.answers.specs.declared.Call.the-variants.{Aim, Estimate, Go, Set}
+use Rattle.fields.specs.Fields.{afterSpace, allDigits, beforeSpace, isDigit, isNumber, numberOf, same, valueFrom}
+use Rattle.texts.specs.Areas.{decimal, digitsIn, shown, spaced}
 use Rattle.console.specs.declared.Line.{Line}
 use Rattle.console.specs.declared.Line.the-variants.{Call, Unreadable}
 use Rattle.console.specs.Ascii.{ascii}
-use Rattle.console.specs.Lines.{afterSpace, allDigits, beforeSpace, callOf, isDigit, isNumber, lineOf, numberOf, same, valueFrom}
-use Rattle.console.specs.Texts.{answerText, decimal, digitsIn, shown, spaced, unreadableText}
+use Rattle.console.specs.Lines.{callOf, lineOf}
+use Rattle.console.specs.Texts.{answerText, unreadableText}
 
 -- ---- lines that say a call: document 01's six, the ends of the width, leading zeros
 

@@ -1,27 +1,23 @@
 -- The readable lines, as document 01's sentence lists them: `lineOf` says exactly the call of each, and any other line is unreadable. Assumes nothing.
 use mathlib.Core.Path.{_∙_, _≡_, ap, ap₂, refl, subst, sym}
-use mathlib.Core.Bool.{Bool, _&&_, cond, false, false≢true, true}
-use mathlib.Core.List.{List, [], _++_, _∷_}
-use Prim.Native.Nat.{_+_, _<_, _≤_, ℕ}
-use borrow.Author.Tests.{eqb-true, leb-true, ne-eqb}
-use lib.Dec.{eqb, leb}
-use lib.ListN.{drop, length, length-append, take}
-use lib.Seq.{drop-append-add, take-append-seam}
+use mathlib.Core.Bool.{Bool, false, false≢true, true}
+use mathlib.Core.List.{List, _++_, _∷_}
+use Prim.Native.Nat.{_<_, _≤_, ℕ}
+use lib.ListN.{length, length-append}
 use native.Mathlib.Omega.{arith}
-use native.Mathlib.Nat.{suc-add}
 use mathlib.Core.Logic.{inl, inr}
 use Rattle.graph.specs.Total.{Tested, decide}
 use Rattle.bytes.specs.Bytes.{indexAfter, indexOf}
-use Rattle.model.specs.Word.{noneWord}
 use Rattle.answers.specs.declared.Call as call
 use Rattle.answers.specs.declared.Call.the-variants.{Aim, Estimate, Go, Set}
-use Rattle.console.specs.declared.Number.{Number}
-use Rattle.console.specs.declared.Number.the-variants.{NotOne, Value}
+use Rattle.fields.specs.Fields.{afterSpace, beforeSpace, numberOf, same}
+use Rattle.fields.specs.Parts.{Split, after-of, before-of, digits-of, no-number, no-space, nothing, number-length, same-is, spaces, split}
+use Rattle.fields.specs.declared.Number.{Number}
+use Rattle.fields.specs.declared.Number.the-variants.{NotOne, Value}
 use Rattle.console.specs.declared.Line.{Line}
 use Rattle.console.specs.declared.Line.the-variants.{Call, Unreadable}
 use Rattle.console.specs.Ascii.{ascii}
-use Rattle.console.specs.Decimals.{both-left, both-right}
-use Rattle.console.specs.Lines.{afterSpace, allDigits, beforeSpace, callOf, isDigit, isNumber, lineOf, numberOf, one, same, two, valueFrom}
+use Rattle.console.specs.Lines.{callOf, lineOf, one, two}
 
 -- "a call's word and its numbers, one space before each"
 pub data Readable (line : List ℕ) : call.Call → Type 0 where
@@ -31,41 +27,6 @@ pub data Readable (line : List ℕ) : call.Call → Type 0 where
   sets : (s t : List ℕ) (i v : ℕ) → line ≡ ascii "set " ++ (s ++ (ascii " " ++ t)) → numberOf s ≡ Value i → numberOf t ≡ Value v → Readable line (Set i (record { 0 = v }))
 
 -- ---- each of them says its call
-
-abbrev isValue : Number → Bool
-isValue (Value v) = true
-isValue NotOne = false
-
--- a number was found, so its test passed
-picked : (b : Bool) (x v : ℕ) → cond b (Value x) NotOne ≡ Value v → b ≡ true
-picked true x v e = refl
-picked false x v e = ap isValue e
-
-digits-of : (s : List ℕ) (v : ℕ) → numberOf s ≡ Value v → allDigits s ≡ true
-unfolding numberOf isNumber
-digits-of s v e =
-    let sized = leb 1 (length s) && leb (length s) 20 in
-    let fits = leb (valueFrom 0 s) noneWord in
-    both-right sized (allDigits s) (both-left (sized && allDigits s) fits (picked (sized && allDigits s && fits) (valueFrom 0 s) v e))
-
--- no digit is a space
-no-space : (s t : List ℕ) → allDigits s ≡ true → indexOf 32 (s ++ 32 ∷ t) ≡ length s
-unfolding allDigits isDigit indexOf indexAfter
-no-space [] t d = refl
-no-space (b ∷ s) t d =
-    let h = leb-true 48 b (both-left (leb 48 b) (leb b 57) (both-left (isDigit b) (allDigits s) d)) in
-    let e : eqb b 32 ≡ false = ne-eqb b 32 (λ q. omega arith) in
-    rw (e, no-space s t (both-right (isDigit b) (allDigits s) d))
-
--- the two parts of a line whose first space is the one shown
-module _ (w r : List ℕ) (e : indexOf 32 (w ++ 32 ∷ r) ≡ length w) where
-  before-of : beforeSpace (w ++ 32 ∷ r) ≡ w
-  unfolding beforeSpace
-  before-of = ap (λ (k : ℕ). take k (w ++ 32 ∷ r)) e ∙ take-append-seam w (32 ∷ r)
-
-  after-of : afterSpace (w ++ 32 ∷ r) ≡ r
-  unfolding afterSpace
-  after-of = ap (λ (k : ℕ). drop (k + 1) (w ++ 32 ∷ r)) e ∙ drop-append-add w (32 ∷ r) 1
 
 -- a readable line says its call
 pub readable-says : (line : List ℕ) (c : call.Call) → Readable line c → lineOf line ≡ Call c
@@ -78,30 +39,6 @@ readable-says line c (sets s t i v e n m) =
     ap lineOf e ∙ ap₂ two (ap numberOf (before-of s t q) ∙ n) (ap numberOf (after-of s t q) ∙ m)
 
 -- ---- and no other line does
-
-same-is : (a b : List ℕ) → same a b ≡ true → a ≡ b
-unfolding same
-same-is [] [] e = refl
-same-is [] (y ∷ b) e = absurd (false≢true e)
-same-is (x ∷ a) [] e = absurd (false≢true e)
-same-is (x ∷ a) (y ∷ b) e = ap₂ (λ (u : ℕ) (l : List ℕ). u ∷ l) (eqb-true x y (both-left (eqb x y) (same a b) e)) (same-is a b (both-right (eqb x y) (same a b) e))
-
--- a line is its parts with a space between them, or has nothing after a space
-pub data Split (s : List ℕ) : Type 0 where
-  spaces : s ≡ beforeSpace s ++ 32 ∷ afterSpace s → Split s
-  nothing : afterSpace s ≡ [] → Split s
-
-split : (s : List ℕ) → Split s
-unfolding beforeSpace afterSpace indexOf indexAfter
-split [] = nothing refl
-split (b ∷ s) = go (decide (eqb b 32)) (split s)
-  where
-    go : Tested (eqb b 32) → Split s → Split (b ∷ s)
-    go (inl q) r = spaces (rw (q, eqb-true b 32 q))
-    go (inr q) (spaces e) = spaces (rw (q, suc-add) (ap (λ (l : List ℕ). b ∷ l) e))
-    go (inr q) (nothing e) = nothing (rw (q, suc-add) e)
-
--- ---- the call that a line says
 
 abbrev isCall : Line → Bool
 isCall (Call c) = true
@@ -116,10 +53,6 @@ not-readable c e = false≢true (ap isCall e)
 
 said : (a c : call.Call) → Call a ≡ Call c → a ≡ c
 said a c e = ap (callOr a) e
-
-no-number : (v : ℕ) → numberOf [] ≡ Value v → ⊥
-unfolding numberOf isNumber
-no-number v e = false≢true (ap isValue e)
 
 -- a line of the word w and the number r
 one-says : (line w r : List ℕ) (v : ℕ) (c : call.Call) → line ≡ w ++ 32 ∷ r → numberOf r ≡ Value v → callOf w v ≡ Call c → Readable line c
@@ -172,14 +105,6 @@ says-readable line c e = go (decide (same (beforeSpace line) (ascii "set")))
     go (inr t) = says-one line (numberOf (afterSpace line)) c refl (rw t at e)
 
 -- ---- the longest readable line has 45 bytes
-
-number-length : (s : List ℕ) (v : ℕ) → numberOf s ≡ Value v → length s ≤ 20
-unfolding numberOf isNumber
-number-length s v e =
-    let sized = leb 1 (length s) && leb (length s) 20 in
-    let fits = leb (valueFrom 0 s) noneWord in
-    let p = both-left sized (allDigits s) (both-left (sized && allDigits s) fits (picked (sized && allDigits s && fits) (valueFrom 0 s) v e)) in
-    leb-true (length s) 20 (both-right (leb 1 (length s)) (leb (length s) 20) p)
 
 pub readable-length : (line : List ℕ) (c : call.Call) → Readable line c → length line ≤ 45
 readable-length line c (aims s v e n) = rw e (omega (arith, number-length s v n))

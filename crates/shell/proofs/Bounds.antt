@@ -13,7 +13,8 @@ use Rattle.graph.specs.Total.{Tested, Total, decide}
 use Rattle.model.specs.Types.{Accepted, Answer, Estimated, Gone, Refusal, Refused}
 use Rattle.model.specs.Word.{ofWord}
 use Rattle.model.specs.Card.{question}
-use Rattle.console.specs.Texts.{Written, answerText, decimal, digitsIn, newline, placesOf, refusalText, shown, spaced, totalText, unreadableText, worded}
+use Rattle.texts.specs.Areas.{Written, decimal, digitsIn, shown, spaced}
+use Rattle.console.specs.Texts.{answerText, newline, placesOf, refusalText, totalText, unreadableText, worded}
 
 digits-length : (f n : ℕ) → length (digitsIn f n) ≤ f
 unfolding digitsIn

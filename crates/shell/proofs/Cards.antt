@@ -18,7 +18,8 @@ use Rattle.model.specs.Card.{andThen, ask, askEach, cardRefusal, kindsOk, mapOn
 use Rattle.model.specs.State.{Areas, State, Step, areasRefusal, fresh, lengthsOk, noneLent, prepare, roomRefusal, answering, unless, zeroHeader, zeroed}
 use Rattle.model.specs.Contracts.{after}
 use Rattle.model.specs.Good.{facts-lengths, lengths-facts}
-use Rattle.console.specs.Texts.{Written, unreadableText}
+use Rattle.texts.specs.Areas.{Written}
+use Rattle.console.specs.Texts.{unreadableText}
 use Rattle.shell.specs.Opening.{Ends, Lends, Opening, Opens, judged, junctionRoom, larger, noLine, onCard, onRoom, opening, refusalLine, roadRoom}
 use Rattle.shell.proofs.Bounds.{answer-length, shown-text, unreadable-length}
 

@@ -10,7 +10,8 @@ use Rattle.model.specs.Contracts.{areasOf, before}
 use Rattle.dispatch.specs.Calls.{Called}
 use Rattle.answers.specs.declared.Call as unit
 use Rattle.console.specs.Lines.{lineOf}
-use Rattle.console.specs.Texts.{Written, answerText, unreadableText}
+use Rattle.texts.specs.Areas.{Written}
+use Rattle.console.specs.Texts.{answerText, unreadableText}
 use Rattle.console.specs.declared.Line as line
 use Rattle.console.specs.declared.Line.the-variants.{Call, Unreadable}
 use Rattle.shell.specs.Answering.{Answers}

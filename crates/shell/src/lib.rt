@@ -11,7 +11,7 @@ ghost use Rattle.network.specs.Refusals.{refusalIn};
 ghost use Rattle.answers.specs.Shape.{answerIn};
 ghost use Rattle.unit.specs.Shape.{headerIn, lentOf};
 ghost use Rattle.console.specs.Lines.{lineOf};
-ghost use Rattle.console.specs.Texts.{Written};
+ghost use Rattle.texts.specs.Areas.{Written};
 ghost use Rattle.lines.specs.Holds.{Holds};
 ghost use Rattle.shell.specs.Opening.{Lends, judged, junctionRoom, openedIn, opening, refusalLine, roadRoom};
 ghost use Rattle.shell.specs.Answering.{Answers};

@@ -1,5 +1,5 @@
 use mathlib.Core.Path.{_∙_, sym}
-use Rattle.console.proofs.Parts.{is-aim, is-estimate, is-go, is-none}
+use Rattle.console.proofs.Calls.{is-aim, is-estimate, is-go, is-none}
 use borrow.Author.Needs.{needs}
 use Rattle.console.proofs.call_of.Statement.{statement}
 use Rattle.console.proofs.call_of.Tie as tie

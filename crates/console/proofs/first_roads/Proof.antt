@@ -1,4 +1,4 @@
-use Rattle.console.proofs.Areas.{first-is}
+use Rattle.console.proofs.Ways.{first-is}
 use mathlib.Core.Path.{sym}
 use native.Mathlib.Nat.{le-of-lt}
 use lib.Seq.{take-all}

@@ -1,6 +1,6 @@
 use mathlib.Core.Path.{ap}
 use Rattle.console.specs.Texts.{tripText}
-use Rattle.console.proofs.Areas.{puts-as, puts-then}
+use Rattle.texts.specs.Puts.{puts-as, puts-then}
 use Rattle.console.proofs.Ways.{answer-put}
 use borrow.Author.Needs.{needs}
 use Rattle.console.proofs.put_answer.Statement.{statement}

@@ -1,5 +1,5 @@
 use mathlib.Core.Path.{_∙_, sym}
-use Rattle.console.proofs.Parts.{is-one, is-set}
+use Rattle.console.proofs.Calls.{is-one, is-set}
 use borrow.Author.Needs.{needs}
 use Rattle.console.proofs.read_line.Statement.{statement}
 use Rattle.console.proofs.read_line.Tie as tie

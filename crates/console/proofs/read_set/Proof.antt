@@ -1,4 +1,4 @@
-use Rattle.console.proofs.Parts.{set-is}
+use Rattle.console.proofs.Calls.{set-is}
 use borrow.Author.Needs.{needs}
 use Rattle.console.proofs.read_set.Statement.{statement}
 use Rattle.console.proofs.read_set.Tie as tie

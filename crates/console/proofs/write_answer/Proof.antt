@@ -1,4 +1,4 @@
-use Rattle.console.proofs.Areas.{puts-start, puts-then}
+use Rattle.texts.specs.Puts.{puts-start, puts-then}
 use borrow.Author.Needs.{needs}
 use Rattle.console.proofs.write_answer.Statement.{statement}
 use Rattle.console.proofs.write_answer.Tie as tie

@@ -1,4 +1,4 @@
-use Rattle.console.proofs.Areas.{puts-start}
+use Rattle.texts.specs.Puts.{puts-start}
 use borrow.Author.Needs.{needs}
 use Rattle.console.proofs.write_unreadable.Statement.{statement}
 use Rattle.console.proofs.write_unreadable.Tie as tie

@@ -1,0 +1,3 @@
+-- Laws of the definitions, which several proofs cite.
+mod Numbers
+mod Parts

@@ -1,0 +1,3 @@
+pub mod Areas
+pub mod Decimals
+pub mod Puts
