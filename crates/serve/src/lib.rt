@@ -87,11 +87,7 @@ fn serve(file: &[u8], n: usize, m: usize, input: i32, output: i32)
     let mut down = [0u32; 200];
     let mut estimates = [0u32; 200];
     let mut elapsed = [0u32; 200];
-    let mut route = [0u32; 200];
-    let mut log = [0u32; 200];
     let mut out = [0u8; OUT_ROOM];
-    let mut chunk = [0u8; lines::CHUNK_ROOM];
-    let mut line = [0u8; lines::LINE_ROOM];
     let opened = shell::open_card(
         file,
         &mut ranks[..n],
@@ -102,6 +98,8 @@ fn serve(file: &[u8], n: usize, m: usize, input: i32, output: i32)
         &mut elapsed[..n],
         &mut out,
     );
+    let mut chunk = [0u8; lines::CHUNK_ROOM];
+    let mut line = [0u8; lines::LINE_ROOM];
     let mut header = opened.header;
     let mut l = turn(
         begin(opened.prepared),
@@ -112,6 +110,8 @@ fn serve(file: &[u8], n: usize, m: usize, input: i32, output: i32)
         &mut chunk,
         &mut line,
     );
+    let mut route = [0u32; 200];
+    let mut log = [0u32; 200];
     while l.lines > 0 {
         let said = shell::answer_line(
             heard(l, &line),

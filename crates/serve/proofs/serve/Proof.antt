@@ -7,7 +7,7 @@ use Rattle.serve.proofs.serve.Statement.{statement}
 use Rattle.serve.proofs.serve.Tie as tie
 
 abbrev Inv-loop : tie.InvT-loop
-Inv-loop file n m input output ranks pairs live₀ down₀ estimates₀ elapsed₀ route₀ log₀ out₀ chunk₀ line₀ header₀ l₀ live down estimates elapsed route log out chunk line header l =
+Inv-loop file n m input output ranks pairs live₀ down₀ estimates₀ elapsed₀ out₀ chunk₀ line₀ header₀ l₀ route₀ log₀ live down estimates elapsed out chunk line header l route log =
     (length live ≡ 800)
     × (length down ≡ 200)
     × (length estimates ≡ 200)
@@ -17,7 +17,7 @@ Inv-loop file n m input output ranks pairs live₀ down₀ estimates₀ elapsed�
     × (length out ≡ 8192)
 
 abbrev μ-loop : tie.MeasureT-loop
-μ-loop file n m input output ranks pairs live₀ down₀ estimates₀ elapsed₀ route₀ log₀ out₀ chunk₀ line₀ header₀ l₀ live down estimates elapsed route log out chunk line header l =
+μ-loop file n m input output ranks pairs live₀ down₀ estimates₀ elapsed₀ out₀ chunk₀ line₀ header₀ l₀ route₀ log₀ live down estimates elapsed out chunk line header l route log =
     l .lines
 
 open-card-requires : tie.Need-open-card-requires Inv-loop μ-loop
