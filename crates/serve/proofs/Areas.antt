@@ -17,12 +17,6 @@ pub zeros : (most : ℕ) → length {A = ℕ} (replicate most 0) ≡ most
 zeros most = length-replicate most 0
 
 module _ (most : ℕ) (xs : List ℕ) (e : length xs ≡ most) where
-  pub at-most : length xs ≤ most
-  at-most = omega (arith, e)
-
-  pub room : most ≤ length xs
-  room = omega (arith, e)
-
   -- the first n
   pub fits : (n : ℕ) → n ≤ most → n ≤ length xs
   fits n h = omega (arith, e, h)

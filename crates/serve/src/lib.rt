@@ -11,9 +11,6 @@ use lines::Reader;
 // The longest card that is read, and one byte more, which shows that a file is longer.
 const FILE_ROOM: usize = 32769;
 
-// Room for any answer.
-const OUT_ROOM: usize = 8192;
-
 // Writes the first k bytes.
 fn print(output: i32, out: &[u8], k: usize) {
     if k <= out.len() {
@@ -42,7 +39,7 @@ fn turn(
     from: Listening,
     input: i32,
     output: i32,
-    text: &[u8],
+    text: &[u8; shell::OUT_ROOM],
     k: usize,
     chunk: &mut [u8; lines::CHUNK_ROOM],
     line: &mut [u8; lines::LINE_ROOM],
@@ -82,12 +79,12 @@ fn serve(file: &[u8], n: usize, m: usize, input: i32, output: i32)
     requires { ⌜ (n ≤ 200) × (m ≤ 800) × (n ≡ junctionRoom (readCard (now file))) × (m ≡ roadRoom (readCard (now file))) ⌝ }
 {
     let mut ranks = [0u32; 200];
-    let mut pairs = [0u32; 16000];
+    let mut pairs = [0u32; shell::PAIRS_ROOM];
     let mut live = [0u32; 800];
     let mut down = [0u32; 200];
     let mut estimates = [0u32; 200];
     let mut elapsed = [0u32; 200];
-    let mut out = [0u8; OUT_ROOM];
+    let mut out = [0u8; shell::OUT_ROOM];
     let opened = shell::open_card(
         file,
         &mut ranks[..n],

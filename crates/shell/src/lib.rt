@@ -23,6 +23,12 @@ use unit::Answer;
 use unit::Answered;
 use unit::Header;
 
+// Room for 4,000 pairs, of four words each.
+pub const PAIRS_ROOM: usize = 16000;
+
+// Room for any answer.
+pub const OUT_ROOM: usize = 8192;
+
 // ---- the card
 
 // The lengths of the areas that a card is lent: those of its map, to 200 junctions and 800 roads.
@@ -113,15 +119,14 @@ fn judge(bytes: usize, answered: Answered, out: &mut [u8]) -> Opened
 pub fn open_card(
     file: &[u8],
     ranks: &mut [u32],
-    pairs: &mut [u32],
+    pairs: &mut [u32; PAIRS_ROOM],
     live: &mut [u32],
     down: &mut [u32],
     estimates: &mut [u32],
     elapsed: &mut [u32],
-    out: &mut [u8],
+    out: &mut [u8; OUT_ROOM],
 ) -> Opened
     requires { ⌜ Lends (now file) (areasOf (now ranks) (now pairs) (now live) (now down) (now estimates) (now elapsed)) ⌝ }
-    requires { ⌜ 8192 ≤ length (now out) ⌝ }
     ensures { λ r. ⌜ openedIn r (now (out .exit)) (areasOf (now (ranks .exit)) (now (pairs .exit)) (now (live .exit)) (now (down .exit)) (now (estimates .exit)) (now (elapsed .exit)))
         ≡ opening (now (file .entry)) (areasOf (now (ranks .entry)) (now (pairs .entry)) (now (live .entry)) (now (down .entry)) (now (estimates .entry)) (now (elapsed .entry))) ⌝ }
     ensures { λ r. ⌜ (r .prepared ≡ true → r .length ≡ 0) ⌝ }
@@ -158,16 +163,15 @@ pub fn answer_line(
     header: Header,
     card: &[u8],
     ranks: &[u32],
-    pairs: &[u32],
+    pairs: &[u32; PAIRS_ROOM],
     live: &mut [u32],
     down: &mut [u32],
     estimates: &mut [u32],
     elapsed: &mut [u32],
-    route: &mut [u32],
-    log: &mut [u32],
-    out: &mut [u8],
+    route: &mut [u32; 200],
+    log: &mut [u32; 200],
+    out: &mut [u8; OUT_ROOM],
 ) -> Reply
-    requires { ⌜ (length (now route) ≤ 200) × (8192 ≤ length (now out)) ⌝ }
     ensures { λ r. ⌜ Answers (now (card .entry))
         (before (headerIn header) (areasOf (now (ranks .entry)) (now (pairs .entry)) (now (live .entry)) (now (down .entry)) (now (estimates .entry)) (now (elapsed .entry))))
         (lentOf (now (route .entry)) (now (log .entry))) (lineOf (now (line .entry))) (headerIn (r .header))

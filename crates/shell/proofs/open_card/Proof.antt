@@ -1,24 +1,31 @@
-use Rattle.unit.specs.Shape.{answeredIn}
-use Rattle.shell.specs.Opening.{openedIn}
-use Rattle.model.specs.Contracts.{areasOf}
 use Rattle.shell.proofs.Cards.{open-way}
+use Rattle.model.specs.Contracts.{areasOf}
+use Rattle.shell.specs.Opening.{openedIn}
+use Rattle.unit.specs.Shape.{answeredIn}
+use Rattle.shell.proofs.Bounds.{room}
 use Rattle.shell.proofs.open_card.Statement.{statement}
 use Rattle.shell.proofs.open_card.Tie as tie
 
 returns : tie.Need-returns
-returns c = let s = c .before .before .before .before .before .before .before .before .before .before .before .before .before .before .before .before .before .before .before .before .before .before .before .before .before .before .before .before .before .before .before in let a = s .args in let p = c .before .before .before .before .before .before .before .before .before .before .before .before .before .before .before .before .prepare in let j = c .before .before .judge in (open-way (a .file .now) (areasOf (a .ranks .now) (a .pairs .now) (a .live .now) (a .down .now) (a .estimates .now) (a .elapsed .now)) (s .pre .0) (answeredIn (p .result)) (areasOf (p .last .1 .0) (p .last .1 .1 .0) (p .last .1 .1 .1 .0) (p .last .1 .1 .1 .1 .0) (p .last .1 .1 .1 .1 .1 .0) (p .last .1 .1 .1 .1 .1 .1 .0)) (openedIn (j .result) (j .last .1 .1 .0)) (p .ensures) (j .ensures .0), j .ensures .1)
+returns c =
+    let s = c .before .before .before .before .before .before .before .before .before .before .before .before .before .before .before .before .before .before .before .before .before .before .before .before .before in
+    let a = s .args in
+    let p = c .before .before .before .before .before .before .before .before .before .before .before .before .prepare in
+    let j = c .judge in (
+      open-way (a .file .now) (areasOf (a .ranks .now) (a .pairs .now) (a .live .now) (a .down .now) (a .estimates .now) (a .elapsed .now)) (s .pre) (answeredIn (p .result))
+          (areasOf (p .last .1 .0) (p .last .1 .1 .0) (p .last .1 .1 .1 .0) (p .last .1 .1 .1 .1 .0) (p .last .1 .1 .1 .1 .1 .0) (p .last .1 .1 .1 .1 .1 .1 .0)) (openedIn (j .result) (j .last .1 .1 .0)) (p .ensures) (j .ensures .0),
+      j .ensures .1,
+    )
 
 pub open-card-spec : {M : Type 1} → statement M
 open-card-spec =
     tie.close
     (tie.spec
     (λ c κs. tt)
-    (λ c κs. c .before .before .before .before .before .before .before .before .before .before .before .before .before .before .before .before .before .before .before .before .before .before .before .before .before .before .before .before .pre .1)
-    (λ c. c .before .before .before .before .before .before .before .before .before .before .before .before .before .before .before .before .prepare .kept .1 .0)
-    (λ c. c .before .before .before .before .before .before .before .before .before .before .before .before .before .before .before .before .prepare .kept .1 .1 .0)
-    (λ c. c .before .before .before .before .before .before .before .before .before .before .before .before .before .before .before .before .prepare .kept .1 .1 .1 .0)
-    (λ c. c .before .before .before .before .before .before .before .before .before .before .before .before .before .before .before .before .prepare .kept .1 .1 .1 .1 .0)
-    (λ c. c .before .before .before .before .before .before .before .before .before .before .before .before .before .before .before .before .prepare .kept .1 .1 .1 .1 .1 .0)
-    (λ c. c .before .before .before .before .before .before .before .before .before .before .before .before .before .before .before .before .prepare .kept .1 .1 .1 .1 .1 .1 .0)
-    (λ c. c .before .before .judge .kept .1 .1 .0)
+    (λ c κs. room 8192 (c .before .before .before .before .before .before .before .before .before .before .before .before .before .before .before .before .before .before .before .before .before .before .before .before .args .out .now) (c .judge-arg .given .0 .1))
+    (λ c. c .before .before .before .before .before .before .before .before .before .before .before .before .prepare .kept .1 .0)
+    (λ c. c .before .before .before .before .before .before .before .before .before .before .before .before .prepare .kept .1 .1 .1 .0)
+    (λ c. c .before .before .before .before .before .before .before .before .before .before .before .before .prepare .kept .1 .1 .1 .1 .0)
+    (λ c. c .before .before .before .before .before .before .before .before .before .before .before .before .prepare .kept .1 .1 .1 .1 .1 .0)
+    (λ c. c .before .before .before .before .before .before .before .before .before .before .before .before .prepare .kept .1 .1 .1 .1 .1 .1 .0)
     returns)
