@@ -7,16 +7,9 @@ ghost use Rattle.model.specs.Card.{readCard};
 ghost use Rattle.model.specs.Contracts.{areasOf};
 ghost use Rattle.shell.specs.Opening.{Lends, junctionRoom, roadRoom};
 use lines::Reader;
-use shell::Opened;
-use unit::Header;
 
 // The longest card that is read, and one byte more, which shows that a file is longer.
 const FILE_ROOM: usize = 32769;
-
-// Room for any answer.
-const OUT_ROOM: usize = 8192;
-
-// ---- answers
 
 // Writes the first k bytes.
 fn print(output: i32, out: &[u8], k: usize) {
@@ -25,168 +18,115 @@ fn print(output: i32, out: &[u8], k: usize) {
     }
 }
 
-// Answers the line that was read, if there is one.
-fn answer(
-    r: Reader,
-    line: &[u8; lines::LINE_ROOM],
-    output: i32,
-    header: Header,
-    card: &[u8],
-    ranks: &[u32],
-    pairs: &[u32],
-    live: &mut [u32],
-    down: &mut [u32],
-    estimates: &mut [u32],
-    elapsed: &mut [u32],
-    route: &mut [u32],
-    log: &mut [u32],
-    out: &mut [u8],
-) -> Header
-    requires { ⌜ (length (now route) ≤ 200) × (8192 ≤ length (now out)) ⌝ }
-{
-    if !r.ready {
-        return header;
+// ---- lines
+
+// The input, and how many lines may still be answered, with the one that is ready: 0 where none is.
+struct Listening {
+    reader: Reader,
+    lines: u64,
+}
+
+// Before the first line. A proved loop has to end, and nothing says that an input does: so lines are counted down, from a number that no run uses up.
+fn begin(prepared: bool) -> Listening {
+    Listening {
+        reader: lines::at_start(),
+        lines: if prepared { u64::MAX } else { 0 },
     }
-    let part = r.part;
-    let said = shell::answer_line(
-        shell::kept_line(part, line),
-        header,
-        card,
-        ranks,
-        pairs,
-        live,
-        down,
-        estimates,
-        elapsed,
-        route,
-        log,
-        out,
-    );
-    let after = said.header;
-    print(output, out, said.length);
-    after
 }
 
-// The lines that may still come: none where none was ready.
-fn left_after(lines: u64, ready: bool) -> u64
-    requires { ⌜ 0 < lines ⌝ }
-    ensures { λ r. ⌜ r ≤ lines - 1 ⌝ }
-{
-    if ready { lines - 1 } else { 0 }
-}
-
-// Answers each line.
-fn converse(
+// Writes the first k bytes, then reads the next line, if one may come.
+fn turn(
+    from: Listening,
     input: i32,
     output: i32,
-    first: Header,
-    card: &[u8],
-    ranks: &[u32],
-    pairs: &[u32],
-    live: &mut [u32],
-    down: &mut [u32],
-    estimates: &mut [u32],
-    elapsed: &mut [u32],
-    route: &mut [u32],
-    log: &mut [u32],
-    out: &mut [u8],
-)
-    requires { ⌜ (length (now route) ≤ 200) × (8192 ≤ length (now out)) ⌝ }
+    text: &[u8; shell::OUT_ROOM],
+    k: usize,
+    chunk: &mut [u8; lines::CHUNK_ROOM],
+    line: &mut [u8; lines::LINE_ROOM],
+) -> Listening
+    ensures { λ r. ⌜ r .lines ≤ from .lines - 1 ⌝ }
 {
-    let mut chunk = [0u8; lines::CHUNK_ROOM];
-    let mut line = [0u8; lines::LINE_ROOM];
-    let mut r = lines::at_start();
-    let mut header = first;
-    let mut lines = u64::MAX;
-    while lines > 0 {
-        r = lines::next_line(input, r, &mut chunk, &mut line);
-        lines = left_after(lines, r.ready);
-        header = answer(
-            r,
-            &line,
-            output,
-            header,
-            card,
-            ranks,
-            pairs,
-            live,
-            down,
-            estimates,
-            elapsed,
-            route,
-            log,
-            out,
-        );
+    let left = from.lines;
+    let before = from.reader;
+    print(output, text, k);
+    if left == 0 {
+        return from;
     }
+    let r = lines::next_line(input, before, chunk, line);
+    if r.ready {
+        return Listening {
+            reader: r,
+            lines: left - 1,
+        };
+    }
+    Listening {
+        reader: r,
+        lines: 0,
+    }
+}
+
+// The line that is ready.
+fn heard(l: Listening, line: &[u8; lines::LINE_ROOM]) -> &[u8] {
+    let r = l.reader;
+    let part = r.part;
+    shell::kept_line(part, line)
 }
 
 // ---- the card
 
-// Opens the card; a prepared unit answers the lines.
-fn serve(
-    file: &[u8],
-    input: i32,
-    output: i32,
-    ranks: &mut [u32],
-    pairs: &mut [u32],
-    live: &mut [u32],
-    down: &mut [u32],
-    estimates: &mut [u32],
-    elapsed: &mut [u32],
-    route: &mut [u32],
-    log: &mut [u32],
-    out: &mut [u8],
-)
-    requires { ⌜ Lends (now file) (areasOf (now ranks) (now pairs) (now live) (now down) (now estimates) (now elapsed)) ⌝ }
-    requires { ⌜ (length (now route) ≤ 200) × (8192 ≤ length (now out)) ⌝ }
-{
-    match shell::open_card(file, ranks, pairs, live, down, estimates, elapsed, out) {
-        Opened::Ended(k) => print(output, out, k),
-        Opened::Prepared(h) => converse(
-            input,
-            output,
-            h,
-            file,
-            ranks,
-            pairs,
-            live,
-            down,
-            estimates,
-            elapsed,
-            route,
-            log,
-            out,
-        ),
-    }
-}
-
-// The areas of a map of n junctions and m roads. The pair area has room for 4,000 records.
-fn start(file: &[u8], n: usize, m: usize, input: i32, output: i32)
+// Opens the card, with the areas of a map of n junctions and m roads, and room for 4,000 pairs; a prepared unit answers each line.
+fn serve(file: &[u8], n: usize, m: usize, input: i32, output: i32)
     requires { ⌜ (n ≤ 200) × (m ≤ 800) × (n ≡ junctionRoom (readCard (now file))) × (m ≡ roadRoom (readCard (now file))) ⌝ }
 {
     let mut ranks = [0u32; 200];
-    let mut pairs = [0u32; 16000];
+    let mut pairs = [0u32; shell::PAIRS_ROOM];
     let mut live = [0u32; 800];
     let mut down = [0u32; 200];
     let mut estimates = [0u32; 200];
     let mut elapsed = [0u32; 200];
-    let mut route = [0u32; 200];
-    let mut log = [0u32; 200];
-    let mut out = [0u8; OUT_ROOM];
-    serve(
+    let mut out = [0u8; shell::OUT_ROOM];
+    let opened = shell::open_card(
         file,
-        input,
-        output,
-        &mut ranks[0..n],
+        &mut ranks[..n],
         &mut pairs,
-        &mut live[0..m],
-        &mut down[0..n],
-        &mut estimates[0..n],
-        &mut elapsed[0..n],
-        &mut route,
-        &mut log,
+        &mut live[..m],
+        &mut down[..n],
+        &mut estimates[..n],
+        &mut elapsed[..n],
         &mut out,
     );
+    let mut chunk = [0u8; lines::CHUNK_ROOM];
+    let mut line = [0u8; lines::LINE_ROOM];
+    let mut header = opened.header;
+    let mut l = turn(
+        begin(opened.prepared),
+        input,
+        output,
+        &out,
+        opened.length,
+        &mut chunk,
+        &mut line,
+    );
+    let mut route = [0u32; 200];
+    let mut log = [0u32; 200];
+    while l.lines > 0 {
+        let said = shell::answer_line(
+            heard(l, &line),
+            header,
+            file,
+            &ranks[..n],
+            &pairs,
+            &mut live[..m],
+            &mut down[..n],
+            &mut estimates[..n],
+            &mut elapsed[..n],
+            &mut route,
+            &mut log,
+            &mut out,
+        );
+        header = said.header;
+        l = turn(l, input, output, &out, said.length, &mut chunk, &mut line);
+    }
 }
 
 // Puts the file at the start of `file` and answers its length; 0 where there is none, or where it cannot be read.
@@ -213,5 +153,5 @@ pub fn run(path: &[u8], input: i32, output: i32) {
     let n = load(path, &mut file);
     let card = &file[..n];
     let size = shell::room_for(card);
-    start(card, size.n, size.m, input, output);
+    serve(card, size.n, size.m, input, output);
 }

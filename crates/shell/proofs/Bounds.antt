@@ -66,3 +66,12 @@ shown-text text area out k h g w =
     let q : length text ≡ k = omega (arith, w .count) in
     let t : take (length area) text ≡ text = take-all (length area) text (omega arith) in
     ap (take k) (w .area) ∙ rw t (take-at text (drop (length text) area) k q)
+
+-- ---- an area of a fixed length
+
+module _ (most : ℕ) (xs : List ℕ) (e : length xs ≡ most) where
+  pub at-most : length xs ≤ most
+  at-most = omega (arith, e)
+
+  pub room : most ≤ length xs
+  room = omega (arith, e)

@@ -20,7 +20,7 @@ use Rattle.model.specs.Contracts.{after}
 use Rattle.model.specs.Good.{facts-lengths, lengths-facts}
 use Rattle.texts.specs.Areas.{Written}
 use Rattle.console.specs.Texts.{unreadableText}
-use Rattle.shell.specs.Opening.{Ends, Lends, Opening, Opens, judged, junctionRoom, larger, noLine, onCard, onRoom, opening, refusalLine, roadRoom}
+use Rattle.shell.specs.Opening.{Ends, Lends, Opening, Opens, judged, junctionRoom, larger, noLine, onCard, onRoom, opening, refusalLine, roadRoom, unlessOver}
 use Rattle.shell.proofs.Bounds.{answer-length, shown-text, unreadable-length}
 
 -- ---- which questions refuse
@@ -78,12 +78,14 @@ module _ (q : Refusal) (n k : ℕ) (out₀ out : List ℕ) (asked : n ≡ questi
   pub refused-line : n ≢ 7 → Written out₀ (noLine q) out k → Written out₀ (refusalLine q) out k
   refused-line h = subst (λ (t : List ℕ). Written out₀ t out k) (sym (line-plain q (λ e. h (asked ∙ e))))
 
+pub over-way : (bytes k : ℕ) (out₀ out : List ℕ) (o : Opening) → 32768 < bytes → 8192 ≤ length out₀ → Written out₀ unreadableText out k → Ends (take k out) ≡ unlessOver bytes o
+over-way bytes k out₀ out o h g w = rw (lt-ltb 32768 bytes h) (ap Ends (shown-text unreadableText out₀ out k unreadable-length g w))
+
+pub within-way : (bytes : ℕ) (o p : Opening) → bytes ≤ 32768 → o ≡ p → o ≡ unlessOver bytes p
+within-way bytes o p h e = rw (le-ltb 32768 bytes h) e
+
 pub refused-way : (q : Refusal) (h : Header) (x : Answer) (a : Areas) (k : ℕ) (out₀ out : List ℕ) → x ≡ Refused q → 8192 ≤ length out₀ → Written out₀ (refusalLine q) out k → Ends (take k out) ≡ judged h x a
 refused-way q h x a k out₀ out u g w = ap Ends (shown-text (refusalLine q) out₀ out k (refusal-length q) g w) ∙ ap (λ (y : Answer). judged h y a) (sym u)
-
-pub over-way : (file out₀ out : List ℕ) (a : Areas) (k : ℕ) → 32768 < length file → 8192 ≤ length out₀ → Written out₀ unreadableText out k → Ends (take k out) ≡ opening file a
-unfolding opening
-over-way file out₀ out a k h g w = rw (lt-ltb 32768 (length file) h) (ap Ends (shown-text unreadableText out₀ out k unreadable-length g w))
 
 -- what a preparing comes to
 abbrev judgedStep : Step → Opening
@@ -160,9 +162,9 @@ module _ (file : List ℕ) (a : Areas) (lends : Lends file a) where
   after-questions none e = after-card e (decide (ltb 200 (M .vertices))) (decide (ltb 800 (M .base .arcs)))
   after-questions (some q) e = ap Ends (line-plain q (λ h. omega (arith, card-low file q e, h)))
 
-  pub open-way : length file ≤ 32768 → (r : Answered) (b : Areas) (o : Areas → Opening) → after r b noneLent ≡ prepare file a → ((k : Areas) → o k ≡ judged (r .header) (r .answer) k) → o b ≡ opening file a
+  pub open-way : (r : Answered) (b : Areas) (o : Areas → Opening) → after r b noneLent ≡ prepare file a → ((k : Areas) → o k ≡ unlessOver (length file) (judged (r .header) (r .answer) k)) → o b ≡ opening file a
   unfolding opening prepare areasRefusal
-  open-way h r b o e f = rw (le-ltb 32768 (length file) h) (f b ∙ ap judgedStep e ∙ after-questions (cardRefusal file) refl)
+  open-way r b o e f = f b ∙ ap (unlessOver (length file)) (ap judgedStep e ∙ after-questions (cardRefusal file) refl)
 
   -- ---- a card that opens was prepared
 

@@ -14,7 +14,6 @@ use Rattle.model.specs.Contracts.{before}
 use Rattle.unit.specs.Shape.{headerIn}
 use Rattle.console.specs.Texts.{answerText, unreadableText}
 use Rattle.shell.specs.declared.Opened.{Opened}
-use Rattle.shell.specs.declared.Opened.the-variants.{Ended, Prepared}
 
 -- a line that is printed, "Each of these ends the program"; or the unit's state from which the lines are answered
 pub data Opening : Type 0 where
@@ -39,8 +38,11 @@ onCard (some q) M a = Ends (noLine q)
 onCard none M a = cond (larger M) (Ends unreadableText) (onRoom (roomRefusal M a) (fresh M a))
 
 -- "A file over 32,768 bytes prints `no 0`"
+abbrev pub unlessOver : (bytes : ℕ) → Opening → Opening
+unlessOver bytes o = cond (ltb 32768 bytes) (Ends unreadableText) o
+
 unfoldable pub opening : (file : List ℕ) → Areas → Opening
-opening file a = cond (ltb 32768 (length file)) (Ends unreadableText) (onCard (cardRefusal file) (mapOn file) a)
+opening file a = unlessOver (length file) (onCard (cardRefusal file) (mapOn file) a)
 
 -- ---- the areas that are lent
 
@@ -64,8 +66,7 @@ pub record Lends (file : List ℕ) (a : Areas) : Type 0 where
 -- ---- what the code hands back
 
 abbrev pub openedIn : Opened → (out : List ℕ) → Areas → Opening
-openedIn (Ended k) out a = Ends (take k out)
-openedIn (Prepared h) out a = Opens (before (headerIn h) a)
+openedIn r out a = cond (r .prepared) (Opens (before (headerIn (r .header)) a)) (Ends (take (r .length) out))
 
 -- the line of a refused preparing: by 7 the map is larger than the areas
 unfoldable pub refusalLine : model.Refusal → List ℕ

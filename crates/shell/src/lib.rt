@@ -1,5 +1,6 @@
 // The program's steps on slices: what it makes of its card, and what it answers to a line.
 ghost use mathlib.Core.Path.{_≡_};
+ghost use mathlib.Core.Bool.{true};
 ghost use mathlib.Core.List.{List};
 ghost use Prim.Native.Nat.{_<_, _≤_, min, ℕ};
 ghost use lib.ListN.{length, take};
@@ -13,14 +14,21 @@ ghost use Rattle.unit.specs.Shape.{headerIn, lentOf};
 ghost use Rattle.console.specs.Lines.{lineOf};
 ghost use Rattle.texts.specs.Areas.{Written};
 ghost use Rattle.lines.specs.Holds.{Holds};
-ghost use Rattle.shell.specs.Opening.{Lends, judged, junctionRoom, openedIn, opening, refusalLine, roadRoom};
+ghost use Rattle.shell.specs.Opening.{Lends, judged, junctionRoom, openedIn, opening, refusalLine, roadRoom, unlessOver};
 ghost use Rattle.shell.specs.Answering.{Answers};
 use answers::Answer;
 use card::Reading;
 use console::Line;
 use lines::Part;
 use network::Refusal;
+use unit::Answered;
 use unit::Header;
+
+// Room for 4,000 pairs, of four words each.
+pub const PAIRS_ROOM: usize = 16000;
+
+// Room for any answer.
+pub const OUT_ROOM: usize = 8192;
 
 // ---- the card
 
@@ -30,10 +38,11 @@ pub struct Sizes {
     pub m: usize,
 }
 
-// What the program makes of its card: a line of so many bytes, which ends it, or a prepared unit.
-pub enum Opened {
-    Ended(usize),
-    Prepared(Header),
+// What the program makes of its card: the number of bytes to print, and whether the unit is prepared; if so, its header.
+pub struct Opened {
+    pub header: Header,
+    pub length: usize,
+    pub prepared: bool,
 }
 
 // At most so many.
@@ -68,42 +77,63 @@ fn write_refusal(q: Refusal, out: &mut [u8]) -> usize
     console::write_answer(Answer::Refused(q), &route, out)
 }
 
-// What a preparing's answer comes to.
-fn judge(header: Header, answer: Answer, out: &mut [u8]) -> Opened
+// What a preparing's answer comes to. A file that is too long prints `no 0`, whatever its preparing answers.
+fn judge(bytes: usize, answered: Answered, out: &mut [u8]) -> Opened
     requires { ⌜ 8192 ≤ length (now out) ⌝ }
-    ensures { λ r. ⌜ ((a : Areas) → openedIn r (now (out .exit)) a ≡ judged (headerIn header) (answerIn answer) a) ⌝ }
+    ensures { λ r. ⌜ ((a : Areas) → openedIn r (now (out .exit)) a ≡ unlessOver bytes (judged (headerIn (answered .header)) (answerIn (answered .answer)) a)) ⌝ }
+    ensures { λ r. ⌜ (r .prepared ≡ true → r .length ≡ 0) ⌝ }
 {
+    let header = answered.header;
+    let answer = answered.answer;
+    if 32768 < bytes {
+        return Opened {
+            header: header,
+            length: console::write_unreadable(out),
+            prepared: false,
+        };
+    }
     match answer {
-        Answer::Refused(q) => Opened::Ended(write_refusal(q, out)),
-        Answer::Accepted => Opened::Prepared(header),
-        Answer::Estimated(_) => Opened::Prepared(header),
-        Answer::Gone(_, _, _) => Opened::Prepared(header),
+        Answer::Refused(q) => Opened {
+            header: header,
+            length: write_refusal(q, out),
+            prepared: false,
+        },
+        Answer::Accepted => Opened {
+            header: header,
+            length: 0,
+            prepared: true,
+        },
+        Answer::Estimated(_) => Opened {
+            header: header,
+            length: 0,
+            prepared: true,
+        },
+        Answer::Gone(_, _, _) => Opened {
+            header: header,
+            length: 0,
+            prepared: true,
+        },
     }
 }
 
-// Opens a card: its line stands first in `out`, or the areas are prepared.
+// Opens a card: its line stands first in `out`, or the areas are prepared and nothing is printed.
 pub fn open_card(
     file: &[u8],
     ranks: &mut [u32],
-    pairs: &mut [u32],
+    pairs: &mut [u32; PAIRS_ROOM],
     live: &mut [u32],
     down: &mut [u32],
     estimates: &mut [u32],
     elapsed: &mut [u32],
-    out: &mut [u8],
+    out: &mut [u8; OUT_ROOM],
 ) -> Opened
     requires { ⌜ Lends (now file) (areasOf (now ranks) (now pairs) (now live) (now down) (now estimates) (now elapsed)) ⌝ }
-    requires { ⌜ 8192 ≤ length (now out) ⌝ }
     ensures { λ r. ⌜ openedIn r (now (out .exit)) (areasOf (now (ranks .exit)) (now (pairs .exit)) (now (live .exit)) (now (down .exit)) (now (estimates .exit)) (now (elapsed .exit)))
         ≡ opening (now (file .entry)) (areasOf (now (ranks .entry)) (now (pairs .entry)) (now (live .entry)) (now (down .entry)) (now (estimates .entry)) (now (elapsed .entry))) ⌝ }
+    ensures { λ r. ⌜ (r .prepared ≡ true → r .length ≡ 0) ⌝ }
 {
-    if 32768 < file.len() {
-        return Opened::Ended(console::write_unreadable(out));
-    }
     let prepared = switch_on::prepare(file, ranks, pairs, live, down, estimates, elapsed);
-    let header = prepared.header;
-    let answer = prepared.answer;
-    judge(header, answer, out)
+    judge(file.len(), prepared, out)
 }
 
 // ---- a line
@@ -134,16 +164,15 @@ pub fn answer_line(
     header: Header,
     card: &[u8],
     ranks: &[u32],
-    pairs: &[u32],
+    pairs: &[u32; PAIRS_ROOM],
     live: &mut [u32],
     down: &mut [u32],
     estimates: &mut [u32],
     elapsed: &mut [u32],
-    route: &mut [u32],
-    log: &mut [u32],
-    out: &mut [u8],
+    route: &mut [u32; 200],
+    log: &mut [u32; 200],
+    out: &mut [u8; OUT_ROOM],
 ) -> Reply
-    requires { ⌜ (length (now route) ≤ 200) × (8192 ≤ length (now out)) ⌝ }
     ensures { λ r. ⌜ Answers (now (card .entry))
         (before (headerIn header) (areasOf (now (ranks .entry)) (now (pairs .entry)) (now (live .entry)) (now (down .entry)) (now (estimates .entry)) (now (elapsed .entry))))
         (lentOf (now (route .entry)) (now (log .entry))) (lineOf (now (line .entry))) (headerIn (r .header))

@@ -1,32 +1,31 @@
-use Rattle.shell.proofs.Cards.{open-way, over-way}
-use Rattle.unit.specs.Shape.{answeredIn}
-use Rattle.shell.specs.Opening.{openedIn}
+use Rattle.shell.proofs.Cards.{open-way}
 use Rattle.model.specs.Contracts.{areasOf}
-use native.Mathlib.Omega.{arith}
-use borrow.Author.Needs.{needs}
+use Rattle.shell.specs.Opening.{openedIn}
+use Rattle.unit.specs.Shape.{answeredIn}
+use Rattle.shell.proofs.Bounds.{room}
 use Rattle.shell.proofs.open_card.Statement.{statement}
 use Rattle.shell.proofs.open_card.Tie as tie
 
 returns : tie.Need-returns
-returns c = over-way (c .before .before .before .before .before .before .before .before .before .before .before .before .before .args .file .now) _ _ _ _ (c .before .before .before .before .if1 .taken) (c .before .before .before .before .before .before .before .before .before .before .before .before .before .pre .1) (c .before .before .write-unreadable .ensures)
-
-returns-2 : tie.Need-returns-2
-returns-2 c = open-way (c .before .before .before .before .before .before .before .before .before .before .before .before .before .before .before .before .before .before .before .before .before .before .before .before .before .before .before .before .before .before .before .before .before .args .file .now) (areasOf (c .before .before .before .before .before .before .before .before .before .before .before .before .before .before .before .before .before .before .before .before .before .before .before .before .before .before .before .before .before .before .before .before .before .args .ranks .now) (c .before .before .before .before .before .before .before .before .before .before .before .before .before .before .before .before .before .before .before .before .before .before .before .before .before .before .before .before .before .before .before .before .before .args .pairs .now) (c .before .before .before .before .before .before .before .before .before .before .before .before .before .before .before .before .before .before .before .before .before .before .before .before .before .before .before .before .before .before .before .before .before .args .live .now) (c .before .before .before .before .before .before .before .before .before .before .before .before .before .before .before .before .before .before .before .before .before .before .before .before .before .before .before .before .before .before .before .before .before .args .down .now) (c .before .before .before .before .before .before .before .before .before .before .before .before .before .before .before .before .before .before .before .before .before .before .before .before .before .before .before .before .before .before .before .before .before .args .estimates .now) (c .before .before .before .before .before .before .before .before .before .before .before .before .before .before .before .before .before .before .before .before .before .before .before .before .before .before .before .before .before .before .before .before .before .args .elapsed .now)) (c .before .before .before .before .before .before .before .before .before .before .before .before .before .before .before .before .before .before .before .before .before .before .before .before .before .before .before .before .before .before .before .before .before .pre .0) (omega (arith, c .before .before .before .before .before .before .before .before .before .before .before .before .before .before .before .before .before .before .before .before .before .before .before .before .if1 .left)) (answeredIn (c .before .before .before .before .before .before .before .before .before .before .before .before .before .before .before .before .before .prepare .result)) _ (openedIn (c .before .before .judge .result) (c .before .before .judge .last .1 .1 .0)) (c .before .before .before .before .before .before .before .before .before .before .before .before .before .before .before .before .before .prepare .ensures) (c .before .before .judge .ensures)
+returns c =
+    let s = c .before .before .before .before .before .before .before .before .before .before .before .before .before .before .before .before .before .before .before .before .before .before .before .before .before in
+    let a = s .args in
+    let p = c .before .before .before .before .before .before .before .before .before .before .before .before .prepare in
+    let j = c .judge in (
+      open-way (a .file .now) (areasOf (a .ranks .now) (a .pairs .now) (a .live .now) (a .down .now) (a .estimates .now) (a .elapsed .now)) (s .pre) (answeredIn (p .result))
+          (areasOf (p .last .1 .0) (p .last .1 .1 .0) (p .last .1 .1 .1 .0) (p .last .1 .1 .1 .1 .0) (p .last .1 .1 .1 .1 .1 .0) (p .last .1 .1 .1 .1 .1 .1 .0)) (openedIn (j .result) (j .last .1 .1 .0)) (p .ensures) (j .ensures .0),
+      j .ensures .1,
+    )
 
 pub open-card-spec : {M : Type 1} → statement M
 open-card-spec =
     tie.close
     (tie.spec
-    (λ c κs. search needs)
-    (λ c. search needs)
-    returns
-    (λ c κs. search needs)
-    (λ c κs. search needs)
-    (λ c. search needs)
-    (λ c. search needs)
-    (λ c. search needs)
-    (λ c. search needs)
-    (λ c. search needs)
-    (λ c. search needs)
-    (λ c. search needs)
-    returns-2)
+    (λ c κs. tt)
+    (λ c κs. room 8192 (c .before .before .before .before .before .before .before .before .before .before .before .before .before .before .before .before .before .before .before .before .before .before .before .before .args .out .now) (c .judge-arg .given .0 .1))
+    (λ c. c .before .before .before .before .before .before .before .before .before .before .before .before .prepare .kept .1 .0)
+    (λ c. c .before .before .before .before .before .before .before .before .before .before .before .before .prepare .kept .1 .1 .1 .0)
+    (λ c. c .before .before .before .before .before .before .before .before .before .before .before .before .prepare .kept .1 .1 .1 .1 .0)
+    (λ c. c .before .before .before .before .before .before .before .before .before .before .before .before .prepare .kept .1 .1 .1 .1 .1 .0)
+    (λ c. c .before .before .before .before .before .before .before .before .before .before .before .before .prepare .kept .1 .1 .1 .1 .1 .1 .0)
+    returns)
