@@ -3,10 +3,10 @@ ghost use Prim.Native.Nat.{_*_, _<_, _≤_};
 ghost use lib.ListN.{length};
 ghost use Rattle.ways.specs.Grouped.{Grouped};
 ghost use Rattle.relaxing.specs.State.{Explores, Sized};
+use choosing::choose;
+use choosing::settle;
 use keys::Choice;
-use keys::choose;
 use keys::is_logged;
-use keys::settle;
 use network::Junction;
 use relaxing::relax;
 

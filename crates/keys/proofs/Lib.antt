@@ -1,3 +1,1 @@
-pub mod Keys
 pub mod Tournament
-pub mod Upto

@@ -1,12 +1,9 @@
-// Keys of candidates, and the choice of the next: a tournament of blocks of 64 junctions, whose winners are kept.
+// Keys of candidates, and the order in which they are chosen.
 ghost use mathlib.Core.Path.{_≡_};
-ghost use Prim.Native.Nat.{_*_, _+_, _<_, _≤_};
+ghost use Prim.Native.Nat.{_+_, _<_};
 ghost use lib.Dec.{eqb};
 ghost use lib.ListN.{getD, length};
-ghost use Rattle.model.specs.Bytes.{listed};
-ghost use Rattle.model.specs.Calls.{first};
-ghost use Rattle.keys.specs.Keys.{before, kept, settledKey};
-ghost use Rattle.keys.specs.Winners.{Chooses, Entered, Leads, Settled, blockEnd};
+ghost use Rattle.keys.specs.Keys.{before, settledKey};
 use network::Junction;
 use network::Time;
 
@@ -22,25 +19,14 @@ pub fn key_of(time: Time, estimate: Time) -> u64
     time.word() as u64 + estimate.word() as u64
 }
 
+// What is chosen.
 pub enum Choice {
     At(Junction),
     Nothing,
 }
 
-// Every block's first junction wins, as it does where no junction is a candidate.
-pub fn reset(wins: &mut [u32])
-    requires { ⌜ length (now wins) ≤ 64 ⌝ }
-    ensures { λ _. ⌜ now (wins .exit) ≡ listed (length (now (wins .entry))) (λ b. 64 * b) ⌝ }
-{
-    let mut b = 0;
-    while b < wins.len() {
-        wins[b] = (64 * b) as u32;
-        b += 1;
-    }
-}
-
 // Does a come before b in the order of choice: by the smaller key, on equal keys by the smaller number?
-fn comes_before(keys: &[u64], a: u32, b: u32) -> bool
+pub fn comes_before(keys: &[u64], a: u32, b: u32) -> bool
     requires { ⌜ (a < length (now keys)) × (b < length (now keys)) ⌝ }
     ensures { λ r. ⌜ r ≡ before (now (keys .entry)) a b ⌝ }
 {
@@ -55,71 +41,6 @@ fn comes_before(keys: &[u64], a: u32, b: u32) -> bool
     a <= b
 }
 
-// The first in the order of choice from junction `from` to `to - 1`.
-fn winner(keys: &[u64], from: u32, to: u32) -> u32
-    requires { ⌜ (from < to) × (to ≤ length (now keys)) ⌝ }
-    ensures { λ w. ⌜ Leads (now (keys .entry)) from to w ⌝ }
-{
-    let mut at = from;
-    let mut i = from + 1;
-    while i < to {
-        let j = i;
-        i += 1;
-        if comes_before(keys, j, at) {
-            at = j;
-        }
-    }
-    at
-}
-
-// v's key has fallen: v may now win its block.
-pub fn enter(keys: &[u64], wins: &mut [u32], v: Junction)
-    requires { ⌜ (v .0 < length (now keys)) × (v .0 < 64 * length (now wins)) ⌝ }
-    ensures { λ _. ⌜ Entered (now (keys .entry)) (now (wins .entry)) (now (wins .exit)) (v .0) ⌝ }
-{
-    let a = v.0 as usize;
-    let b = a / 64;
-    let w = wins[b];
-    if keys.len() <= w as usize {
-        return;
-    }
-    if comes_before(keys, v.0, w) {
-        wins[b] = v.0;
-    }
-}
-
-// The candidate with the smallest key, on equal keys the smaller junction number.
-pub fn choose(keys: &[u64], wins: &[u32], n: u32) -> Choice
-    requires { ⌜ (0 < n) × (n ≤ 4096) × (n ≤ length (now keys)) × (n ≤ 64 * length (now wins)) ⌝ }
-    ensures { λ r. ⌜ Chooses (now (keys .entry)) (now (wins .entry)) n r ⌝ }
-{
-    let mut at: u32 = 0;
-    let mut b: u32 = 0;
-    while 64 * b < n {
-        let w = wins[b as usize];
-        b += 1;
-        if w < n {
-            if comes_before(keys, w, at) {
-                at = w;
-            }
-        }
-    }
-    if keys[at as usize] < SETTLED {
-        Choice::At(Junction(at))
-    } else {
-        Choice::Nothing
-    }
-}
-
-// Where block b of n junctions ends.
-fn block_end(n: u32, b: u32) -> u32
-    requires { ⌜ b < 64 ⌝ }
-    ensures { λ r. ⌜ r ≡ blockEnd n b ⌝ }
-{
-    let end = 64 * b + 64;
-    if end < n { end } else { n }
-}
-
 // Is v logged?
 pub fn is_logged(keys: &[u64], v: Junction) -> bool
     requires { ⌜ v .0 < length (now keys) ⌝ }
@@ -128,35 +49,3 @@ pub fn is_logged(keys: &[u64], v: Junction) -> bool
     let a = v.0 as usize;
     keys[a] == SETTLED
 }
-
-// The candidate v is logged as number c.
-pub fn settle(keys: &mut [u64], wins: &mut [u32], log: &mut [u32], n: u32, c: u32, v: Junction)
-    requires { ⌜ (v .0 < n) × (n ≤ 4096) × (n ≤ length (now keys)) × (n ≤ 64 * length (now wins)) × (c < length (now log)) ⌝ }
-    ensures { λ _. ⌜ Settled n c (v .0) (now (keys .entry)) (now (wins .entry)) (now (log .entry)) (now (keys .exit)) (now (wins .exit)) (now (log .exit)) ⌝ }
-{
-    let a = v.0 as usize;
-    let k = c as usize;
-    let b = v.0 / 64;
-    let at = b as usize;
-    keys[a] = SETTLED;
-    let to = block_end(n, b);
-    wins[at] = winner(keys, 64 * b, to);
-    log[k] = v.0;
-}
-
-// The times of candidates that were never logged become none.
-pub fn finish(times: &mut [u32], keys: &[u64])
-    requires { ⌜ length (now times) ≤ length (now keys) ⌝ }
-    ensures { λ _. ⌜ now (times .exit) ≡ listed (length (now (times .entry))) (kept (now (keys .entry)) (now (times .entry))) ⌝ }
-{
-    let mut i = 0;
-    while i < times.len() {
-        let k = i;
-        i += 1;
-        if keys[k] < SETTLED {
-            times[k] = Time::NONE.word();
-        }
-    }
-}
-
-// ---- roads by tail

@@ -1,9 +1,9 @@
 use borrow.Author.Needs.{needs}
 use mathlib.Core.Path.{_∙_, refl, sym}
 use Prim.Native.Nat.{_*_, _+_, _-_, _<_}
 use Rattle.keys.proofs.Tournament.{Passed, passed-found, passed-keep, passed-none, passed-skip, passed-start, passed-take}
-use Rattle.keys.proofs.choose.Statement.{statement}
-use Rattle.keys.proofs.choose.Tie as tie
+use Rattle.choosing.proofs.choose.Statement.{statement}
+use Rattle.choosing.proofs.choose.Tie as tie
 
 abbrev Inv-loop : tie.InvT-loop
 Inv-loop keys wins n at₀ b₀ at b = (64 * b < n + 64) × Passed keys wins n at b

@@ -2,10 +2,10 @@ use borrow.Author.Needs.{needs}
 use native.Mathlib.Omega.{arith}
 use mathlib.Core.Path.{_∙_, sym}
 use Prim.Native.Nat.{_-_, _≤_}
 use Rattle.keys.specs.Winners.{Leads}
 use Rattle.keys.proofs.Tournament.{leads-end, leads-keep, leads-start, leads-take}
-use Rattle.keys.proofs.winner.Statement.{statement}
-use Rattle.keys.proofs.winner.Tie as tie
+use Rattle.choosing.proofs.winner.Statement.{statement}
+use Rattle.choosing.proofs.winner.Tie as tie
 
 abbrev Inv-loop : tie.InvT-loop
 Inv-loop keys from to at₀ i₀ at i = (from ≤ i) × (i ≤ to) × Leads keys from i at

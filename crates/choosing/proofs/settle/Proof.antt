@@ -1,9 +1,9 @@
 use native.Mathlib.Omega.{arith}
 use lib.ListN.{length-set}
 use Rattle.keys.proofs.Tournament.{settled-with}
 use borrow.Author.Needs.{needs}
-use Rattle.keys.proofs.settle.Statement.{statement}
-use Rattle.keys.proofs.settle.Tie as tie
+use Rattle.choosing.proofs.settle.Statement.{statement}
+use Rattle.choosing.proofs.settle.Tie as tie
 
 winner-requires : tie.Need-winner-requires
 winner-requires c κs =

@@ -1,10 +1,10 @@
 use native.Mathlib.Omega.{arith}
 use mathlib.Core.Path.{_∙_, refl, sym}
 use Prim.Native.Nat.{_/_}
 use Rattle.keys.proofs.Tournament.{entered-far, entered-stays, entered-wins}
 use borrow.Author.Needs.{needs}
-use Rattle.keys.proofs.enter.Statement.{statement}
-use Rattle.keys.proofs.enter.Tie as tie
+use Rattle.choosing.proofs.enter.Statement.{statement}
+use Rattle.choosing.proofs.enter.Tie as tie
 
 cast-if1 : tie.Need-cast-if1
 cast-if1 c =

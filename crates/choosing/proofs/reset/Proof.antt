@@ -2,9 +2,9 @@ use borrow.Author.Needs.{needs}
 use mathlib.Core.Path.{_≡_, refl}
 use Prim.Native.Nat.{_*_, _-_, _≤_}
 use lib.ListN.{length, length-set}
-use Rattle.keys.proofs.Upto.{Upto, upto-end, upto-set, upto-start}
-use Rattle.keys.proofs.reset.Statement.{statement}
-use Rattle.keys.proofs.reset.Tie as tie
+use Rattle.choosing.proofs.Upto.{Upto, upto-end, upto-set, upto-start}
+use Rattle.choosing.proofs.reset.Statement.{statement}
+use Rattle.choosing.proofs.reset.Tie as tie
 
 abbrev Inv-loop : tie.InvT-loop
 Inv-loop wins₀ b₀ wins b = (b ≤ length wins₀) × (length wins ≡ length wins₀) × Upto (λ b. 64 * b) wins₀ wins b

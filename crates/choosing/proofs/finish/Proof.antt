@@ -2,11 +2,11 @@ use borrow.Author.Needs.{needs}
 use mathlib.Core.Path.{_≡_, _∙_}
 use Prim.Native.Nat.{_-_, _≤_}
 use lib.ListN.{length, length-set}
 use Rattle.keys.specs.Keys.{kept}
-use Rattle.keys.proofs.Keys.{kept-no, kept-yes}
-use Rattle.keys.proofs.Upto.{Upto, upto-end, upto-keep, upto-set, upto-start}
-use Rattle.keys.proofs.finish.Statement.{statement}
-use Rattle.keys.proofs.finish.Tie as tie
+use Rattle.choosing.proofs.Keys.{kept-no, kept-yes}
+use Rattle.choosing.proofs.Upto.{Upto, upto-end, upto-keep, upto-set, upto-start}
+use Rattle.choosing.proofs.finish.Statement.{statement}
+use Rattle.choosing.proofs.finish.Tie as tie
 
 abbrev Inv-loop : tie.InvT-loop
 Inv-loop times₀ keys i₀ times i = (i ≤ length times₀) × (length times ≡ length times₀) × Upto (kept keys times₀) times₀ times i
