@@ -1,6 +1,6 @@
 -- The ways through the functions that put an answer's text. Assumes nothing.
-use mathlib.Core.Path.{_∙_, _≡_, ap, sym}
-use mathlib.Core.Bool.{Bool, false, true}
+use mathlib.Core.Path.{_∙_, _≡_, ap, refl, sym}
+use mathlib.Core.Bool.{Bool, cond, false, true}
 use mathlib.Core.List.{List, [], _++_, _∷_}
 use Prim.Native.Nat.{_-_, ℕ}
 use borrow.Author.Tests.{eq-eqb, ne-eqb}
@@ -18,36 +18,49 @@ use Rattle.texts.specs.Areas.{Puts, spaced}
 use Rattle.texts.specs.Puts.{puts-as, puts-then, spaced-append}
 use Rattle.console.specs.Texts.{placesOf, refusalText, timeText, tripText, worded}
 
--- ---- a time
+-- ---- an estimate
 
 module _ (w : ℕ) (b : Bool) (e : b ≡ eqb w noneWord) {a : List ℕ} {at : ℕ} {z : List ℕ} {r : ℕ} where
-  pub time-none : b ≡ true → Puts (ascii " none") a at z r → Puts (timeText w) a at z r
+  pub time-none : b ≡ true → Puts (ascii "est none") a at z r → Puts (ascii "est" ++ timeText w) a at z r
   unfolding ofWord
   time-none h p = rw (← e, h) p
 
-  pub time-some : (u : ℕ) → u ≡ w → b ≡ false → Puts (spaced (u ∷ [])) a at z r → Puts (timeText w) a at z r
+  pub time-some : (u : ℕ) → u ≡ w → b ≡ false → Puts (ascii "est" ++ spaced (u ∷ [])) a at z r → Puts (ascii "est" ++ timeText w) a at z r
   unfolding ofWord
   time-some u f h p = rw (← e, h, ← f) p
 
 -- ---- a refusal
 
-with-places : (q : Refusal) (n : ℕ) (l : List ℕ) → n ≡ question q → placesOf q ≡ l → spaced (n ∷ []) ++ spaced l ≡ spaced (question q ∷ placesOf q)
-with-places q n l hn e = sym (spaced-append (n ∷ []) l) ∙ ap (λ (x : List ℕ). spaced (n ∷ x)) (sym e) ∙ ap (λ (x : ℕ). spaced (x ∷ placesOf q)) hn
+pub place-five : (n : ℕ) → n ≡ 5 → true ≡ cond (eqb n 5) true (eqb n 6)
+place-five n h = rw (eq-eqb n 5 h)
 
-module _ (q : Refusal) (n p : ℕ) (hn : n ≡ question q) (hp : p ≡ placeOf q) {a : List ℕ} {at : ℕ} {k : List ℕ} {i : ℕ} {m : List ℕ} {j : ℕ} where
-  placed : {z : List ℕ} {r : ℕ} → placesOf q ≡ p ∷ [] → Puts (ascii "no") a at k i → Puts (spaced (n ∷ [])) k i m j → Puts (spaced (p ∷ [])) m j z r → Puts (refusalText q) a at z r
-  placed e x y v = puts-then x (puts-as (with-places q n (p ∷ []) hn e) (puts-then y v))
+pub place-six : (n : ℕ) → (n ≡ 5 → ⊥) → n ≡ 6 → true ≡ cond (eqb n 5) true (eqb n 6)
+place-six n f h = rw (ne-eqb n 5 f, eq-eqb n 6 h)
 
-  pub refused-five : {z : List ℕ} {r : ℕ} → n ≡ 5 → Puts (ascii "no") a at k i → Puts (spaced (n ∷ [])) k i m j → Puts (spaced (p ∷ [])) m j z r → Puts (refusalText q) a at z r
-  refused-five h x y v = placed (rw (eq-eqb (question q) 5 (sym hn ∙ h), hp)) x y v
+pub place-none : (n : ℕ) → (n ≡ 5 → ⊥) → (n ≡ 6 → ⊥) → false ≡ cond (eqb n 5) true (eqb n 6)
+place-none n f g = rw (ne-eqb n 5 f, ne-eqb n 6 g)
 
-  pub refused-six : {z : List ℕ} {r : ℕ} → (n ≡ 5 → ⊥) → n ≡ 6 → Puts (ascii "no") a at k i → Puts (spaced (n ∷ [])) k i m j → Puts (spaced (p ∷ [])) m j z r → Puts (refusalText q) a at z r
-  refused-six f h x y v = placed (rw (ne-eqb (question q) 5 (λ g. f (hn ∙ g)), eq-eqb (question q) 6 (sym hn ∙ h), hp)) x y v
+-- one test for both numbers
+either : (b c : Bool) (l : List ℕ) → cond b l (cond c l []) ≡ cond (cond b true c) l []
+either true c l = refl
+either false c l = refl
 
-  pub refused-other : (n ≡ 5 → ⊥) → (n ≡ 6 → ⊥) → Puts (ascii "no") a at k i → Puts (spaced (n ∷ [])) k i m j → Puts (refusalText q) a at m j
-  refused-other f g x y =
-      let e : placesOf q ≡ [] = rw (ne-eqb (question q) 5 (λ h. f (hn ∙ h)), ne-eqb (question q) 6 (λ h. g (hn ∙ h))) in
-      puts-then x (puts-as (ap (λ (l : List ℕ). spaced (n ∷ l)) (sym e) ∙ ap (λ (x : ℕ). spaced (x ∷ placesOf q)) hn) y)
+module _ (q : Refusal) (n : ℕ) (b : Bool) (hn : n ≡ question q) (hb : b ≡ cond (eqb n 5) true (eqb n 6)) where
+  places : placesOf q ≡ cond b (placeOf q ∷ []) []
+  places =
+      either (eqb (question q) 5) (eqb (question q) 6) (placeOf q ∷ [])
+      ∙ ap (λ (x : Bool). cond x (placeOf q ∷ []) []) (sym (hb ∙ ap (λ (x : ℕ). cond (eqb x 5) true (eqb x 6)) hn))
+
+  refused : (l : List ℕ) → placesOf q ≡ l → ascii "no" ++ spaced (n ∷ l) ≡ refusalText q
+  refused l e = ap (λ (x : List ℕ). ascii "no" ++ spaced (n ∷ x)) (sym e) ∙ ap (λ (x : ℕ). ascii "no" ++ spaced (x ∷ placesOf q)) hn
+
+  pub refused-placed : {a : List ℕ} {at : ℕ} {m : List ℕ} {j : ℕ} {z : List ℕ} {r : ℕ} (p : ℕ) → p ≡ placeOf q → b ≡ true → Puts (ascii "no" ++ spaced (n ∷ [])) a at m j → Puts (spaced (p ∷ [])) m j z r → Puts (refusalText q) a at z r
+  refused-placed p hp h x v =
+      let e : placesOf q ≡ p ∷ [] = places ∙ rw (h, hp) in
+      puts-as (ap (λ (y : List ℕ). ascii "no" ++ y) (sym (spaced-append (n ∷ []) (p ∷ []))) ∙ refused (p ∷ []) e) (puts-then x v)
+
+  pub refused-other : {a : List ℕ} {at : ℕ} {m : List ℕ} {j : ℕ} → b ≡ false → Puts (ascii "no" ++ spaced (n ∷ [])) a at m j → Puts (refusalText q) a at m j
+  refused-other h x = let e : placesOf q ≡ [] = places ∙ rw h in puts-as (refused [] e) x
 
 -- ---- a go
 
@@ -55,9 +68,11 @@ module _ (q : Refusal) (n p : ℕ) (hn : n ≡ question q) (hp : p ≡ placeOf q
 pub first-is : (l : List ℕ) (k : ℕ) → take (k - 0) l ≡ take k l
 first-is l k = let z : k - 0 ≡ k = omega arith in rw z
 
-pub trip-put : (t c : ℕ) (l : List ℕ) {a : List ℕ} {at : ℕ} {k : List ℕ} {i : ℕ} {m : List ℕ} {j : ℕ} {o : List ℕ} {h : ℕ} {z : List ℕ} {r : ℕ}
-    → Puts (ascii "go") a at k i → Puts (spaced (t ∷ [])) k i m j → Puts (spaced (c ∷ [])) m j o h → Puts (spaced l) o h z r → Puts (tripText t c l) a at z r
-trip-put t c l p q s u = puts-then p (puts-as (sym (spaced-append (t ∷ []) (c ∷ l) ∙ ap (λ (x : List ℕ). spaced (t ∷ []) ++ x) (spaced-append (c ∷ []) l))) (puts-then q (puts-then s u)))
+pub trip-put : (t c : ℕ) (l : List ℕ) {a : List ℕ} {at : ℕ} {m : List ℕ} {j : ℕ} {o : List ℕ} {h : ℕ} {z : List ℕ} {r : ℕ}
+    → Puts (ascii "go" ++ spaced (t ∷ [])) a at m j → Puts (spaced (c ∷ [])) m j o h → Puts (spaced l) o h z r → Puts (tripText t c l) a at z r
+trip-put t c l p s u =
+    puts-as (ap (λ (x : List ℕ). ascii "go" ++ x) (sym (spaced-append (t ∷ []) (c ∷ l) ∙ ap (λ (x : List ℕ). spaced (t ∷ []) ++ x) (spaced-append (c ∷ []) l))))
+    (puts-then p (puts-then s u))
 
 -- ---- an answer
 

@@ -1,6 +1,6 @@
 // Text put into an area, as much of it as fits: bytes, and numbers in decimal digits.
 ghost use mathlib.Core.Path.{_≡_};
-ghost use mathlib.Core.List.{[], _∷_};
+ghost use mathlib.Core.List.{[], _++_, _∷_};
 ghost use Prim.Native.Nat.{_+_, _<_};
 ghost use Rattle.texts.specs.Areas.{Puts, decimal, spaced};
 
@@ -60,6 +60,14 @@ pub fn put_word(w: u32, out: &mut [u8], at: usize) -> usize
     ensures { λ r. ⌜ Puts (spaced (w ∷ [])) (now (out .entry)) at (now (out .exit)) r ⌝ }
 {
     put_spaced(w as u64, out, at)
+}
+
+// Puts a name, a space and a number.
+pub fn put_named(name: &[u8], n: u64, out: &mut [u8], at: usize) -> usize
+    ensures { λ r. ⌜ Puts (now (name .entry) ++ spaced (n ∷ [])) (now (out .entry)) at (now (out .exit)) r ⌝ }
+{
+    let end = put(name, out, at);
+    put_spaced(n, out, end)
 }
 
 // Puts each word as a number, one space before each.

@@ -1,6 +1,6 @@
 use mathlib.Core.Path.{ap}
+use Rattle.texts.specs.Puts.{puts-as}
 use Rattle.console.specs.Texts.{tripText}
-use Rattle.texts.specs.Puts.{puts-as, puts-then}
 use Rattle.console.proofs.Ways.{answer-put}
 use borrow.Author.Needs.{needs}
 use Rattle.console.proofs.put_answer.Statement.{statement}
@@ -13,7 +13,7 @@ returns-2 : tie.Need-returns-2
 returns-2 c = answer-put _ _ _ (c .before .before .before .before .before .enum-told .given .1) (c .before .before .put .ensures)
 
 returns-3 : tie.Need-returns-3
-returns-3 c = answer-put _ _ _ (c .before .before .before .before .before .before .before .before .before .before .answer2 .given .1) (puts-then (c .before .before .before .before .before .before .put2 .ensures) (c .before .before .put-time .ensures))
+returns-3 c = answer-put _ _ _ (c .before .before .before .before .before .answer2 .given .1) (c .before .before .put-estimate .ensures)
 
 returns-4 : tie.Need-returns-4
 returns-4 c = answer-put _ _ _ (c .before .before .before .before .before .before .answer3 .given .1) (puts-as (ap (tripText _ _) (c .before .before .before .before .first-roads .ensures)) (c .before .before .put-trip .ensures))
@@ -28,8 +28,6 @@ put-answer-spec =
     (λ c. search needs)
     (λ c κs. search needs)
     (λ c. search needs)
-    (λ c. search needs)
-    (λ c κs. search needs)
     (λ c κs. search needs)
     (λ c. search needs)
     (λ c κs. search needs)
