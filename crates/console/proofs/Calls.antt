@@ -11,7 +11,7 @@ use Rattle.fields.specs.declared.Number.the-variants.{Value}
 use Rattle.console.specs.declared.Line.{Line}
 use Rattle.console.specs.declared.Line.the-variants.{Call, Unreadable}
 use Rattle.console.specs.Lines.{callOf, lineOf, one, two}
-use Rattle.console.specs.Ascii.{ascii}
+use Rattle.texts.specs.Ascii.{ascii}
 
 module _ (w : List ℕ) (v : ℕ) where
   pub is-aim : true ≡ same w (ascii "aim") → Call (Aim (record { 0 = v })) ≡ callOf w v

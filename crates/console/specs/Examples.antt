@@ -12,7 +12,7 @@ use Rattle.fields.specs.Fields.{afterSpace, allDigits, beforeSpace, isDigit, is
 use Rattle.texts.specs.Areas.{decimal, digitsIn, shown, spaced}
 use Rattle.console.specs.declared.Line.{Line}
 use Rattle.console.specs.declared.Line.the-variants.{Call, Unreadable}
-use Rattle.console.specs.Ascii.{ascii}
+use Rattle.texts.specs.Ascii.{ascii}
 use Rattle.console.specs.Lines.{callOf, lineOf}
 use Rattle.console.specs.Texts.{answerText, unreadableText}
 

@@ -16,7 +16,7 @@ use Rattle.fields.specs.declared.Number.{Number}
 use Rattle.fields.specs.declared.Number.the-variants.{NotOne, Value}
 use Rattle.console.specs.declared.Line.{Line}
 use Rattle.console.specs.declared.Line.the-variants.{Call, Unreadable}
-use Rattle.console.specs.Ascii.{ascii}
+use Rattle.texts.specs.Ascii.{ascii}
 use Rattle.console.specs.Lines.{callOf, lineOf, one, two}
 
 -- "a call's word and its numbers, one space before each"

@@ -1,4 +1,3 @@
-pub mod Ascii
 pub mod Lines
 pub mod Texts
 pub mod Decimals

@@ -6,7 +6,7 @@ use Rattle.answers.specs.declared.Call.the-variants.{Aim, Estimate, Go, Set}
 use Rattle.fields.specs.Fields.{afterSpace, beforeSpace, numberOf, same}
 use Rattle.fields.specs.declared.Number.{Number}
 use Rattle.fields.specs.declared.Number.the-variants.{NotOne, Value}
-use Rattle.console.specs.Ascii.{ascii}
+use Rattle.texts.specs.Ascii.{ascii}
 use Rattle.console.specs.declared.Line.{Line}
 use Rattle.console.specs.declared.Line.the-variants.{Call, Unreadable}
 

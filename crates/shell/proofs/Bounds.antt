@@ -14,7 +14,8 @@ use Rattle.model.specs.Types.{Accepted, Answer, Estimated, Gone, Refusal, Refus
 use Rattle.model.specs.Word.{ofWord}
 use Rattle.model.specs.Card.{question}
 use Rattle.texts.specs.Areas.{Written, decimal, digitsIn, shown, spaced}
-use Rattle.console.specs.Texts.{answerText, newline, placesOf, refusalText, totalText, unreadableText, worded}
+use Rattle.answer_texts.specs.Texts.{placesOf, refusalText, totalText, worded}
+use Rattle.console.specs.Texts.{answerText, newline, unreadableText}
 
 digits-length : (f n : ℕ) → length (digitsIn f n) ≤ f
 unfolding digitsIn

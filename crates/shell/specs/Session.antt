@@ -21,7 +21,8 @@ use Rattle.dispatch.specs.Calls.{lentAfter}
 use Rattle.answers.specs.declared.Call as unit
 use Rattle.answers.specs.declared.Call.the-variants.{Aim, Estimate, Go, Set}
 use Rattle.console.specs.Lines.{lineOf}
-use Rattle.console.specs.Texts.{answerText, newline, tripText, unreadableText}
+use Rattle.answer_texts.specs.Texts.{tripText}
+use Rattle.console.specs.Texts.{answerText, newline, unreadableText}
 use Rattle.console.specs.declared.Line.{Line}
 use Rattle.console.specs.declared.Line.the-variants.{Call, Unreadable}
 use Rattle.shell.specs.Answering.{Answers}

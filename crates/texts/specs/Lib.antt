@@ -1,3 +1,4 @@
 pub mod Areas
 pub mod Decimals
 pub mod Puts
+pub mod Ascii

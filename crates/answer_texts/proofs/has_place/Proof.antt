@@ -1,6 +1,6 @@
-use Rattle.console.proofs.Ways.{place-five, place-none, place-six}
-use Rattle.console.proofs.has_place.Statement.{statement}
-use Rattle.console.proofs.has_place.Tie as tie
+use Rattle.answer_texts.proofs.Ways.{place-five, place-none, place-six}
+use Rattle.answer_texts.proofs.has_place.Statement.{statement}
+use Rattle.answer_texts.proofs.has_place.Tie as tie
 
 returns : tie.Need-returns
 returns c = place-five _ (c .if1 .taken)

@@ -1,10 +1,10 @@
-use Rattle.console.proofs.Ways.{first-is}
+use Rattle.answer_texts.proofs.Ways.{first-is}
 use mathlib.Core.Path.{sym}
 use native.Mathlib.Nat.{le-of-lt}
 use lib.Seq.{take-all}
 use borrow.Author.Needs.{needs}
-use Rattle.console.proofs.first_roads.Statement.{statement}
-use Rattle.console.proofs.first_roads.Tie as tie
+use Rattle.answer_texts.proofs.first_roads.Statement.{statement}
+use Rattle.answer_texts.proofs.first_roads.Tie as tie
 
 returns : tie.Need-returns
 returns c = first-is (c .before .before .args .route .now) (c .before .before .args .k)

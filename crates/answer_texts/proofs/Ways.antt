@@ -13,10 +13,10 @@ use Rattle.model.specs.Card.{question}
 use Rattle.network.specs.Refusals.{placeOf}
 use Rattle.answers.specs.declared.Answer.{Answer}
 use Rattle.answers.specs.Shape.{answerIn}
-use Rattle.console.specs.Ascii.{ascii}
+use Rattle.texts.specs.Ascii.{ascii}
 use Rattle.texts.specs.Areas.{Puts, spaced}
 use Rattle.texts.specs.Puts.{puts-as, puts-then, spaced-append}
-use Rattle.console.specs.Texts.{placesOf, refusalText, timeText, tripText, worded}
+use Rattle.answer_texts.specs.Texts.{placesOf, refusalText, timeText, tripText, worded}
 
 -- ---- an estimate
 

@@ -1,10 +1,10 @@
 use mathlib.Core.Path.{ap}
 use Rattle.texts.specs.Puts.{puts-as}
-use Rattle.console.specs.Texts.{tripText}
-use Rattle.console.proofs.Ways.{answer-put}
+use Rattle.answer_texts.specs.Texts.{tripText}
+use Rattle.answer_texts.proofs.Ways.{answer-put}
 use borrow.Author.Needs.{needs}
-use Rattle.console.proofs.put_answer.Statement.{statement}
-use Rattle.console.proofs.put_answer.Tie as tie
+use Rattle.answer_texts.proofs.put_answer.Statement.{statement}
+use Rattle.answer_texts.proofs.put_answer.Tie as tie
 
 returns : tie.Need-returns
 returns c = answer-put _ _ _ (c .before .before .before .before .before .answer .given .1) (c .before .before .put-refusal .ensures)

@@ -1,8 +1,8 @@
 use Rattle.network.specs.Refusals.{refusalIn}
-use Rattle.console.proofs.Ways.{refused-other, refused-placed}
+use Rattle.answer_texts.proofs.Ways.{refused-other, refused-placed}
 use borrow.Author.Needs.{needs}
-use Rattle.console.proofs.put_refusal.Statement.{statement}
-use Rattle.console.proofs.put_refusal.Tie as tie
+use Rattle.answer_texts.proofs.put_refusal.Statement.{statement}
+use Rattle.answer_texts.proofs.put_refusal.Tie as tie
 
 returns : tie.Need-returns
 returns c = refused-placed (refusalIn (c .before .before .before .before .before .before .before .before .before .before .before .before .before .before .args .q)) _ _ (c .before .before .before .before .before .before .before .before .before .before .before .before .question-of .ensures) (c .before .before .before .before .before .before .has-place .ensures) _ (c .before .before .before .before .place-of .ensures) (c .before .before .before .before .before .if1 .taken) (c .before .before .before .before .before .before .before .before .before .put-named .ensures) (c .before .before .put-word .ensures)

@@ -1,7 +1,7 @@
-use Rattle.console.proofs.Ways.{time-none, time-some}
+use Rattle.answer_texts.proofs.Ways.{time-none, time-some}
 use borrow.Author.Needs.{needs}
-use Rattle.console.proofs.put_estimate.Statement.{statement}
-use Rattle.console.proofs.put_estimate.Tie as tie
+use Rattle.answer_texts.proofs.put_estimate.Statement.{statement}
+use Rattle.answer_texts.proofs.put_estimate.Tie as tie
 
 returns : tie.Need-returns
 returns c = time-none _ _ (c .before .before .before .before .before .before .is-none .ensures) (c .before .before .before .before .before .if1 .taken) (c .before .before .put .ensures)

@@ -1,7 +1,7 @@
-use Rattle.console.proofs.Ways.{trip-put}
+use Rattle.answer_texts.proofs.Ways.{trip-put}
 use borrow.Author.Needs.{needs}
-use Rattle.console.proofs.put_trip.Statement.{statement}
-use Rattle.console.proofs.put_trip.Tie as tie
+use Rattle.answer_texts.proofs.put_trip.Statement.{statement}
+use Rattle.answer_texts.proofs.put_trip.Tie as tie
 
 returns : tie.Need-returns
 returns c = trip-put _ _ _ (c .before .before .before .before .before .before .before .before .before .before .put-named .ensures) (c .before .before .before .before .before .before .put-word .ensures) (c .before .before .put-words .ensures)

@@ -1,0 +1,2 @@
+-- Laws of the definitions, which several proofs cite.
+mod Ways
