@@ -1,11 +1,9 @@
 // The program: reads its card, then lines to the end of the input, and writes each answer at once.
 ghost use mathlib.Core.Path.{_≡_};
-ghost use Prim.Native.Nat.{_-_, _<_, _≤_};
-ghost use lib.ListN.{length};
+ghost use Prim.Native.Nat.{_-_, _≤_};
 ghost use Rattle.io.specs.Counts.{Counts};
 ghost use Rattle.model.specs.Card.{readCard};
-ghost use Rattle.model.specs.Contracts.{areasOf};
-ghost use Rattle.shell.specs.Opening.{Lends, junctionRoom, roadRoom};
+ghost use Rattle.shell.specs.Opening.{junctionRoom, roadRoom};
 use lines::Reader;
 
 // The longest card that is read, and one byte more, which shows that a file is longer.
