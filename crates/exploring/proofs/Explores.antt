@@ -4,7 +4,7 @@ use mathlib.Core.Logic.{_⊎_, inl, inr}
 use mathlib.Core.Bool.{false, true}
 use mathlib.Core.Option.{none, some}
 use mathlib.Core.List.{List, [], _++_, _∷_, map-append, reverse, reverse-cons}
-use Prim.Native.Nat.{_+_, _<_, _≤_, ℕ}
+use Prim.Native.Nat.{_*_, _+_, _-_, _<_, _≤_, ℕ}
 use borrow.Author.Tests.{eq-eqb, eqb-false, eqb-true, ne-eqb}
 use lib.Dec.{eqb}
 use lib.ListN.{getD, length, length-reverse, set}
@@ -50,6 +50,26 @@ least-of keys n b j h e = rw e at h
 
 nothing-of : (keys : List ℕ) (n : ℕ) (b : Choice) → Chosen keys n b → b ≡ Nothing → (v : ℕ) → v < n → settledKey ≤ getD keys v 0
 nothing-of keys n b h e = rw e at h
+
+-- ---- lengths that are kept, and the count
+
+pub room-kept : {a b n : ℕ} → a ≡ b → n ≤ b → n ≤ a
+room-kept e h = omega arith
+
+pub blocks-kept : {a b n : ℕ} → a ≡ b → n ≤ 64 * b → n ≤ 64 * a
+blocks-kept e h = omega arith
+
+pub below-room : {z n a : ℕ} → z < n → n ≤ a → z < a
+below-room l h = omega arith
+
+pub below-kept : {z n a b : ℕ} → z < n → a ≡ b → n ≤ b → z < a
+below-kept l e h = omega arith
+
+pub count-in : {c n : ℕ} → c < n → c + 1 ≤ n
+count-in h = omega arith
+
+pub count-less : (c n : ℕ) → c < n → n - (c + 1) < n - c
+count-less c n h = omega arith
 
 -- the number of the next entry fits
 pub count-fits : (c n : ℕ) → c < n → n ≤ 4096 → Fits w32 (c + 1)

@@ -1,9 +1,8 @@
 use borrow.Author.Needs.{needs}
-use native.Mathlib.Omega.{arith}
 use mathlib.Core.Path.{_≡_, _∙_, refl, sym}
 use Prim.Native.Nat.{_-_, _≤_}
 use lib.ListN.{length}
-use Rattle.exploring.proofs.Explores.{Goes, count-fits, goes-found, goes-full, goes-none, goes-on, goes-start, inside-of}
+use Rattle.exploring.proofs.Explores.{Goes, below-kept, below-room, blocks-kept, count-fits, count-in, count-less, goes-found, goes-full, goes-none, goes-on, goes-start, inside-of, room-kept}
 use Rattle.exploring.proofs.explore.Statement.{statement}
 use Rattle.exploring.proofs.explore.Tie as tie
 
@@ -28,14 +27,14 @@ settle-requires c κs =
     let at-loop-test = at-choose .before .before .before in
     let at-loop = at-loop-test .before in
     let start = at-loop .before .before .before .before .before .before .before .before .before .before .before .before .before .before .before in
-    let q = inside-of _ (at-choose .choose .result) _ (at-choose .choose .ensures .inside) (at-v .v .given .1) in (q, start .pre .7 .n-high, omega (arith, at-loop .loop .inv .3, start .pre .1), omega (arith, at-loop .loop .inv .5, start .pre .3), omega (arith, at-loop-test .loop-test .taken, at-loop .loop .inv .6, start .pre .0))
+    let q = inside-of _ (at-choose .choose .result) _ (at-choose .choose .ensures .inside) (at-v .v .given .1) in (q, start .pre .7 .n-high, room-kept (at-loop .loop .inv .3) (start .pre .1), blocks-kept (at-loop .loop .inv .5) (start .pre .3), below-kept (at-loop-test .loop-test .taken) (at-loop .loop .inv .6) (start .pre .0))
 
 is-logged-requires : tie.Need-is-logged-requires Inv-loop μ-loop
 is-logged-requires c κs =
     let at-settle = c .before .before .before .before .before .before .before in
     let at-loop = at-settle .before .before .before .before .before .before .before .before .before .before .before in
     let start = at-loop .before .before .before .before .before .before .before .before .before .before .before .before .before .before .before in
-    omega (arith, start .pre .8, start .pre .1, at-loop .loop .inv .3, at-settle .settle .kept .0)
+    below-kept (start .pre .8) (at-settle .settle .kept .0 ∙ at-loop .loop .inv .3) (start .pre .1)
 
 returns-2 : tie.Need-returns-2 Inv-loop μ-loop
 returns-2 c =
@@ -45,7 +44,7 @@ returns-2 c =
     let at-loop-test = at-choose .before .before .before in
     let at-loop = at-loop-test .before in
     let start = at-loop .before .before .before .before .before .before .before .before .before .before .before .before .before .before .before in
-    let q = inside-of _ (at-choose .choose .result) _ (at-choose .choose .ensures .inside) (at-v .v .given .1) in goes-found _ _ _ _ _ _ _ _ _ _ (at-loop .loop .inv .7) (at-choose .choose .result) (at-choose .choose .ensures) _ (at-v .v .given .1) (omega (arith, q, at-loop .loop .inv .3, start .pre .1)) (omega (arith, at-loop-test .loop-test .taken, start .pre .0)) _ _ _ (at-settle .settle .ensures) (sym (c .before .is-logged .ensures) ∙ c .if1 .taken)
+    let q = inside-of _ (at-choose .choose .result) _ (at-choose .choose .ensures .inside) (at-v .v .given .1) in goes-found _ _ _ _ _ _ _ _ _ _ (at-loop .loop .inv .7) (at-choose .choose .result) (at-choose .choose .ensures) _ (at-v .v .given .1) (below-kept q (at-loop .loop .inv .3) (start .pre .1)) (below-room (at-loop-test .loop-test .taken) (start .pre .0)) _ _ _ (at-settle .settle .ensures) (sym (c .before .is-logged .ensures) ∙ c .if1 .taken)
 
 relax-requires : tie.Need-relax-requires Inv-loop μ-loop
 relax-requires c κs =
@@ -54,12 +53,12 @@ relax-requires c κs =
     let at-choose = at-v .before .before in
     let at-loop = at-choose .before .before .before .before in
     let start = at-loop .before .before .before .before .before .before .before .before .before .before .before .before .before .before .before in
-    let q = inside-of _ (at-choose .choose .result) _ (at-choose .choose .ensures .inside) (at-v .v .given .1) in (q, omega (arith, at-settle .settle .kept .0, at-loop .loop .inv .3, start .pre .1), omega (arith, at-loop .loop .inv .4, start .pre .2), omega (arith, at-settle .settle .kept .1 .0, at-loop .loop .inv .5, start .pre .3), start .pre .4, start .pre .5, start .pre .6, record { n-high = start .pre .7 .n-high; m-high = start .pre .7 .m-high; count-high = start .pre .7 .count-high; roads-are = start .pre .7 .roads-are; order-is = start .pre .7 .order-is; ranks-are = start .pre .7 .ranks-are; pairs-are = start .pre .7 .pairs-are; live-is = start .pre .7 .live-is; down-is = start .pre .7 .down-is; estimates-are = omega (arith, at-loop .loop .inv .1, start .pre .7 .estimates-are); elapsed-is = omega (arith, at-loop .loop .inv .2, start .pre .7 .elapsed-is) })
+    let q = inside-of _ (at-choose .choose .result) _ (at-choose .choose .ensures .inside) (at-v .v .given .1) in (q, room-kept (at-settle .settle .kept .0 ∙ at-loop .loop .inv .3) (start .pre .1), room-kept (at-loop .loop .inv .4) (start .pre .2), blocks-kept (at-settle .settle .kept .1 .0 ∙ at-loop .loop .inv .5) (start .pre .3), start .pre .4, start .pre .5, start .pre .6, record { n-high = start .pre .7 .n-high; m-high = start .pre .7 .m-high; count-high = start .pre .7 .count-high; roads-are = start .pre .7 .roads-are; order-is = start .pre .7 .order-is; ranks-are = start .pre .7 .ranks-are; pairs-are = start .pre .7 .pairs-are; live-is = start .pre .7 .live-is; down-is = start .pre .7 .down-is; estimates-are = at-loop .loop .inv .1 ∙ start .pre .7 .estimates-are; elapsed-is = at-loop .loop .inv .2 ∙ start .pre .7 .elapsed-is })
 
 loop-less : tie.Need-loop-less Inv-loop μ-loop
 loop-less c =
     let at-loop-test = c .before .before .before .before .before .before .before .before .before .before .before .before .before .before .before .before .before .before .before .before .before .before .before .before .before .before .before .before .before .before .before .before .before .before .before in
-    omega (arith, at-loop-test .loop-test .taken)
+    count-less _ _ (at-loop-test .loop-test .taken)
 
 loop-again : tie.Need-loop-again Inv-loop μ-loop
 loop-again c =
@@ -72,7 +71,7 @@ loop-again c =
     let at-loop-test = at-choose .before .before .before in
     let at-loop = at-loop-test .before in
     let start = at-loop .before .before .before .before .before .before .before .before .before .before .before .before .before .before .before in
-    let q = inside-of _ (at-choose .choose .result) _ (at-choose .choose .ensures .inside) (at-v .v .given .1) in (omega (arith, at-loop-test .loop-test .taken), omega (arith, at-relax .relax .kept .1 .1 .1 .1 .1 .1 .1 .1 .1 .0, at-loop .loop .inv .1), omega (arith, at-relax .relax .kept .1 .1 .1 .1 .1 .1 .1 .1 .1 .1 .0, at-loop .loop .inv .2), omega (arith, at-relax .relax .kept .1 .1 .1 .1 .1 .1 .1 .1 .1 .1 .1 .0, at-settle .settle .kept .0, at-loop .loop .inv .3), omega (arith, at-relax .relax .kept .1 .1 .1 .1 .1 .1 .1 .1 .1 .1 .1 .1 .0, at-loop .loop .inv .4), omega (arith, at-relax .relax .kept .1 .1 .1 .1 .1 .1 .1 .1 .1 .1 .1 .1 .1 .0, at-settle .settle .kept .1 .0, at-loop .loop .inv .5), omega (arith, at-settle .settle .kept .1 .1 .0, at-loop .loop .inv .6), goes-on _ _ _ _ _ _ _ _ _ _ (at-loop .loop .inv .7) (at-choose .choose .result) (at-choose .choose .ensures) _ (at-v .v .given .1) (omega (arith, q, at-loop .loop .inv .3, start .pre .1)) (omega (arith, at-loop-test .loop-test .taken, start .pre .0)) _ _ _ (at-settle .settle .ensures) _ _ _ _ _ (omega (arith, at-loop .loop .inv .3, start .pre .1, start .pre .8)) (sym (at-is-logged .is-logged .ensures) ∙ at-if1 .if1 .left) (at-relax .relax .ensures))
+    let q = inside-of _ (at-choose .choose .result) _ (at-choose .choose .ensures .inside) (at-v .v .given .1) in (count-in (at-loop-test .loop-test .taken), at-relax .relax .kept .1 .1 .1 .1 .1 .1 .1 .1 .1 .0 ∙ at-loop .loop .inv .1, at-relax .relax .kept .1 .1 .1 .1 .1 .1 .1 .1 .1 .1 .0 ∙ at-loop .loop .inv .2, at-relax .relax .kept .1 .1 .1 .1 .1 .1 .1 .1 .1 .1 .1 .0 ∙ at-settle .settle .kept .0 ∙ at-loop .loop .inv .3, at-relax .relax .kept .1 .1 .1 .1 .1 .1 .1 .1 .1 .1 .1 .1 .0 ∙ at-loop .loop .inv .4, at-relax .relax .kept .1 .1 .1 .1 .1 .1 .1 .1 .1 .1 .1 .1 .1 .0 ∙ at-settle .settle .kept .1 .0 ∙ at-loop .loop .inv .5, at-settle .settle .kept .1 .1 .0 ∙ at-loop .loop .inv .6, goes-on _ _ _ _ _ _ _ _ _ _ (at-loop .loop .inv .7) (at-choose .choose .result) (at-choose .choose .ensures) _ (at-v .v .given .1) (below-kept q (at-loop .loop .inv .3) (start .pre .1)) (below-room (at-loop-test .loop-test .taken) (start .pre .0)) _ _ _ (at-settle .settle .ensures) _ _ _ _ _ (below-kept (start .pre .8) (at-loop .loop .inv .3) (start .pre .1)) (sym (at-is-logged .is-logged .ensures) ∙ at-if1 .if1 .left) (at-relax .relax .ensures))
 
 returns-3 : tie.Need-returns-3 Inv-loop μ-loop
 returns-3 c = goes-full _ _ _ _ _ _ _ _ _ _ (c .before .loop .inv .7) (c .loop-test .left)
