@@ -4,7 +4,7 @@ use mathlib.Core.Logic.{_⊎_, inl, inr}
 use mathlib.Core.Bool.{cond, false, true}
 use mathlib.Core.Option.{none, some}
 use mathlib.Core.List.{List}
-use Prim.Native.Nat.{_-_, _<_, ℕ}
+use Prim.Native.Nat.{_<_, ℕ}
 use borrow.Author.Tests.{eq-eqb, eqb-true, ne-eqb}
 use lib.Dec.{eqb}
 use native.Mathlib.Omega.{arith}
@@ -13,7 +13,7 @@ use Rattle.graph.specs.Least.{minBelow}
 use Rattle.graph.specs.Path.{Path, Weights, empty, link, path-join}
 use Rattle.graph.specs.Pairs.{up}
 use Rattle.graph.specs.Records.{pairOf}
-use Rattle.graph.specs.Estimate.{downTotal, estimate, estimate-law}
+use Rattle.graph.specs.Estimate.{downTotal, estimate-law}
 use Rattle.graph.specs.Reach.{Ups, path-reaches, reaches, reaches-path}
 use Rattle.graph.specs.Bound.{totals-fit}
 use Rattle.graph.specs.Map.{Map, pairsOf, rank, weights}
