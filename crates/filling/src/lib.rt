@@ -32,10 +32,10 @@ pub fn clear(
         ≡ zeroed (areasOf (now (ranks .entry)) (now (pairs .entry)) (now (live .entry)) (now (down .entry)) (now (estimates .entry)) (now (elapsed .entry))) ⌝ }
 {
     let zero = Time::of_word(0);
-    hierarchy::fill(ranks, zero);
-    hierarchy::fill(pairs, zero);
-    hierarchy::fill(live, zero);
-    hierarchy::fill(down, zero);
-    hierarchy::fill(estimates, zero);
-    hierarchy::fill(elapsed, zero);
+    descents::fill(ranks, zero);
+    descents::fill(pairs, zero);
+    descents::fill(live, zero);
+    descents::fill(down, zero);
+    descents::fill(estimates, zero);
+    descents::fill(elapsed, zero);
 }

@@ -28,10 +28,11 @@ use Rattle.model.specs.Good.{AimFacts, Filled, filled-no, filled-yes}
 use Rattle.model.specs.Use.{pairIn}
 use Rattle.network.specs.Width.{fit, fit-is, fit-min}
 use Rattle.hierarchy.specs.Estimates.{aim-filled}
-use Rattle.hierarchy.specs.Walks.{Climbed, Holds, Risen, Walked, above, estimateAt, over, standing}
+use Rattle.hierarchy.specs.Walks.{Climbed, Risen, Walked, above, estimateAt, over, standing}
+use Rattle.records.specs.Holds.{Holds, Ranked, down-small, order-rank, ranked}
 use Rattle.records.specs.Words.{Starts, answer, highIn, leads, lowIn, upIn}
 use Rattle.records.specs.Tests.{Leads, answer-asked, answer-other, leads-facts}
-use Rattle.hierarchy.proofs.Facts.{Ranked, above-closed, above-here, above-link, ascending, climbs, down-small, estimate-small, idle, order-rank, over-all, over-here, over-idle, over-other, placed, ranked, up-small}
+use Rattle.hierarchy.proofs.Facts.{above-closed, above-here, above-link, ascending, climbs, estimate-small, idle, over-all, over-here, over-idle, over-other, placed, up-small}
 
 -- the pair of record i
 abbrev At : Map → ℕ → Pair

@@ -1,29 +1,29 @@
--- What the records and the order give of the map that they hold.
-use mathlib.Core.Path.{_∙_, _≡_, ap, ap₂, refl, sym}
+-- What the records give of the estimates of the map that they hold.
+use mathlib.Core.Path.{_∙_, _≡_, ap, refl, sym}
 use mathlib.Core.Logic.{_⊎_, inl, inr}
 use mathlib.Core.Bool.{cond, false, true}
 use mathlib.Core.Option.{none, some}
 use mathlib.Core.List.{List}
-use Prim.Native.Nat.{_-_, _<_, ℕ}
+use Prim.Native.Nat.{_<_, ℕ}
 use borrow.Author.Tests.{eq-eqb, eqb-true, ne-eqb}
 use lib.Dec.{eqb}
 use native.Mathlib.Omega.{arith}
 use Rattle.graph.specs.Total.{Tested, Total, _⊓_, _⊕_, cond-no, cond-yes, decide, decideOption, true-false}
 use Rattle.graph.specs.Least.{minBelow}
 use Rattle.graph.specs.Path.{Path, Weights, empty, link, path-join}
-use Rattle.graph.specs.Pairs.{down, up}
-use Rattle.graph.specs.Records.{Kept, Pair, pairOf, rows-member}
-use Rattle.graph.specs.Estimate.{downTotal, estimate, estimate-law}
+use Rattle.graph.specs.Pairs.{up}
+use Rattle.graph.specs.Records.{pairOf}
+use Rattle.graph.specs.Estimate.{downTotal, estimate-law}
 use Rattle.graph.specs.Reach.{Ups, path-reaches, reaches, reaches-path}
 use Rattle.graph.specs.Bound.{totals-fit}
-use Rattle.graph.specs.Ranks.{rank-of-vertex}
 use Rattle.graph.specs.Map.{Map, pairsOf, rank, weights}
-use Rattle.graph.specs.Rows.{ranked-down, ranked-downTotal, ranked-estimate, ranked-up, rows-ascend, rows-has, ups-rows}
+use Rattle.graph.specs.Rows.{ranked-estimate, ranked-up, rows-ascend, rows-has, ups-rows}
 use Rattle.model.specs.Word.{noneWord, unasked, word}
 use Rattle.model.specs.Good.{UpClosed}
-use Rattle.model.specs.Use.{pairIn, pairIn-mem}
+use Rattle.model.specs.Use.{pairIn}
 use Rattle.network.specs.Width.{fit, fit-is}
-use Rattle.hierarchy.specs.Walks.{Holds, above, estimateAt, over}
+use Rattle.hierarchy.specs.Walks.{above, estimateAt, over}
+use Rattle.records.specs.Holds.{Holds, Ranked, ranked}
 use Rattle.records.specs.Words.{Ascending, highIn, leads, lowIn, upIn}
 use Rattle.records.specs.Tests.{leads-by}
 use Rattle.hierarchy.proofs.Places.{ascend-places, minOver-places, place-of}
@@ -53,32 +53,7 @@ module _ (M : Map) where
 
 -- ---- the records
 
--- record i by its two ranks
-pub record Ranked (M : Map) (i low high : ℕ) : Type 0 where
-  pub low-is : pairIn (pairsOf M) i .low ≡ low
-  pub high-is : pairIn (pairsOf M) i .high ≡ high
-  pub up-is : pairIn (pairsOf M) i .upTime ≡ up (weights M) low high
-  pub down-is : pairIn (pairsOf M) i .downTime ≡ down (weights M) low high
-  pub rises : low < high
-  pub below : high < M .vertices
-
 module _ {M : Map} {n : ℕ} {order pairs : List ℕ} {count : ℕ} (o : Holds M n order pairs count) where
-  pub ranked : (i : ℕ) → i < count → Ranked M i (pairIn (pairsOf M) i .low) (pairIn (pairsOf M) i .high)
-  ranked i l = go (rows-member (weights M) (M .vertices) (M .vertices) (pairIn-mem (pairsOf M) i (omega (arith, l, o .count-is))))
-    where
-      go : Kept (weights M) (M .vertices) (M .vertices) (pairIn (pairsOf M) i) → Ranked M i (pairIn (pairsOf M) i .low) (pairIn (pairsOf M) i .high)
-      go k =
-          let a = ap (λ (p : Pair). p .low) (k .is) in
-          let b = ap (λ (p : Pair). p .high) (k .is) in
-          record {
-            low-is = refl;
-            high-is = refl;
-            up-is = ap (λ (p : Pair). p .upTime) (k .is) ∙ sym (ap₂ (up (weights M)) a b);
-            down-is = ap (λ (p : Pair). p .downTime) (k .is) ∙ sym (ap₂ (down (weights M)) a b);
-            rises = omega (arith, a, b, k .less);
-            below = omega (arith, b, k .highs);
-          }
-
   pub ascending : Ascending pairs count
   ascending i k ik kc =
       let a = o .records i (omega arith) .low in
@@ -97,21 +72,12 @@ module _ {M : Map} {n : ℕ} {order pairs : List ℕ} {count : ℕ} (o : Holds M
 
   pub up-small : (i u : ℕ) → i < count → pairIn (pairsOf M) i .upTime ≡ some u → u < unasked
   up-small i u l e =
-      let k = ranked i l in
+      let k = ranked o i l in
       let b = totals-fit (o .vertices-high) (ranked-up (o .valid) (o .most) (pairIn (pairsOf M) i .low) (pairIn (pairsOf M) i .high) (omega (arith, k .rises, k .below)) (sym (k .up-is) ∙ e)) in
-      omega (arith, b)
-
-  pub down-time-small : (i u : ℕ) → i < count → pairIn (pairsOf M) i .downTime ≡ some u → u < unasked
-  down-time-small i u l e =
-      let k = ranked i l in
-      let b = totals-fit (o .vertices-high) (ranked-down (o .valid) (o .most) (pairIn (pairsOf M) i .low) (pairIn (pairsOf M) i .high) (k .below) (sym (k .down-is) ∙ e)) in
       omega (arith, b)
 
   pub estimate-small : (t r u : ℕ) → rank M t < M .vertices → r < M .vertices → estimateAt M t r ≡ some u → u < unasked
   estimate-small t r u lt lr e = let b = totals-fit (o .vertices-high) (ranked-estimate (o .valid) (o .most) (rank M t) r lt lr e) in omega (arith, b)
-
-  pub down-small : (t r u : ℕ) → r < M .vertices → downTotal (weights M) (rank M t) r ≡ some u → u < unasked
-  down-small t r u lr e = let b = totals-fit (o .vertices-high) (ranked-downTotal (o .valid) (o .most) (rank M t) r lr e) in omega (arith, b)
 
   -- ---- a record of rank r that does not lead up has no up time
 
@@ -120,7 +86,7 @@ module _ {M : Map} {n : ℕ} {order pairs : List ℕ} {count : ℕ} (o : Holds M
   idle r i l f e = go (decideOption (pairIn (pairsOf M) i .upTime))
     where
       k : Ranked M i (pairIn (pairsOf M) i .low) (pairIn (pairsOf M) i .high)
-      k = ranked i l
+      k = ranked o i l
 
       go : (pairIn (pairsOf M) i .upTime ≡ none) ⊎ ((c : ℕ) × (pairIn (pairsOf M) i .upTime ≡ some c)) → pairIn (pairsOf M) i .upTime ≡ none
       go (inl q) = q
@@ -162,8 +128,3 @@ module _ {M : Map} {n : ℕ} {order pairs : List ℕ} {count : ℕ} (o : Holds M
       ap (λ (x : Total). word (fit (downTotal w (rank M t) r ⊓ x))) a
       ∙ ap (λ (x : Total). word (fit x)) (sym (estimate-law w v (rank M t) r))
       ∙ ap word (fit-is (estimateAt M t r) (λ u e. estimate-small t r u lt lr e))
-
-  -- ---- junctions and ranks
-
-  pub order-rank : (r : ℕ) → r < M .vertices → rank M (M .order r) ≡ r
-  order-rank r l = rank-of-vertex (o .valid .orders) r l

@@ -2,4 +2,3 @@ pub mod Places
 pub mod Facts
 pub mod Climbs
 pub mod Prepares
-pub mod Descends

@@ -1,35 +1,23 @@
 -- What the walk over the records of a rank answers and leaves. Definitions only.
 use mathlib.Core.Path.{_≡_}
-use mathlib.Core.Bool.{Bool, _&&_, cond, false, not, true}
+use mathlib.Core.Bool.{Bool, cond, false, true}
 use mathlib.Core.Option.{none, some}
 use mathlib.Core.List.{List}
-use Prim.Native.Nat.{_*_, _+_, _<_, _≤_, ℕ}
+use Prim.Native.Nat.{_*_, _<_, ℕ}
 use lib.Dec.{eqb, ltb}
-use lib.ListN.{getD, length}
+use lib.ListN.{getD}
 use Rattle.graph.specs.Total.{Total, _⊓_, _⊕_}
 use Rattle.graph.specs.Least.{minBelow}
-use Rattle.graph.specs.Network.{Arc}
-use Rattle.graph.specs.Bound.{CostsAtMost}
 use Rattle.graph.specs.Estimate.{downTotal, estimate}
 use Rattle.graph.specs.Reach.{reaches}
-use Rattle.graph.specs.Map.{Map, Valid, estimateOf, pairsOf, rank, weights}
+use Rattle.graph.specs.Map.{Map, estimateOf, pairsOf, rank, weights}
 use Rattle.model.specs.Bytes.{wordAt}
 use Rattle.model.specs.Word.{noneWord, unasked, word}
 use Rattle.model.specs.Calls.{filled}
 use Rattle.model.specs.Good.{AimFacts}
-use Rattle.model.specs.Use.{RecordAt, pairIn}
+use Rattle.model.specs.Use.{pairIn}
 use Rattle.network.specs.Width.{fit}
-
--- ---- a map of n junctions, as the order and the records hold it
-
-pub record Holds (M : Map) (n : ℕ) (order pairs : List ℕ) (count : ℕ) : Type 0 where
-  pub valid : Valid M
-  pub most : CostsAtMost (Arc (M .base)) 1000000
-  pub vertices-are : M .vertices ≡ n
-  pub vertices-high : M .vertices ≤ 4096
-  pub junction : (r : ℕ) → r < M .vertices → wordAt order (4 * r) ≡ M .order r
-  pub count-is : count ≡ length (pairsOf M)
-  pub records : (i : ℕ) → i < count → RecordAt pairs i (pairIn (pairsOf M) i)
+use Rattle.records.specs.Holds.{Holds}
 
 -- ---- estimates by rank
 

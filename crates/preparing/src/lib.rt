@@ -32,9 +32,9 @@ pub fn prepare_areas(
         }
         Contracted::Kept(count) => {
             filling::fill_live(roads, live);
-            hierarchy::fill(down, Time::NONE);
-            hierarchy::fill(estimates, Time::UNASKED);
-            hierarchy::fill(elapsed, Time::NONE);
+            descents::fill(down, Time::NONE);
+            descents::fill(estimates, Time::UNASKED);
+            descents::fill(elapsed, Time::NONE);
             Contracted::Kept(count)
         }
     }

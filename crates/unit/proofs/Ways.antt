@@ -22,7 +22,7 @@ use Rattle.model.specs.Contracts.{AimContract, Anywhere, CallContract, Estimate
 use Rattle.model.specs.Good.{AimFacts, Aims, Good, left-good}
 use Rattle.model.specs.Chain.{step-lengths}
 use Rattle.network.specs.Bodies.{mapIn}
-use Rattle.hierarchy.specs.Downs.{Descended}
+use Rattle.descents.specs.Downs.{Descended}
 use Rattle.hierarchy.specs.Estimates as estimates-of
 use Rattle.search.specs.Searches.{Found, Searches}
 use Rattle.card.specs.Parts.{orderIn, roadsIn}

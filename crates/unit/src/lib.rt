@@ -156,8 +156,8 @@ impl Header {
                 answer: Answer::Refused(Refusal::NoJunction),
             };
         }
-        hierarchy::down_totals(n, p, questions::order_of(card, n, m), pairs, down, j);
-        hierarchy::fill(estimates, Time::UNASKED);
+        descents::down_totals(n, p, questions::order_of(card, n, m), pairs, down, j);
+        descents::fill(estimates, Time::UNASKED);
         Answered {
             header: Header {
                 n: n,

@@ -1,10 +1,10 @@
 use mathlib.Core.Path.{_∙_, sym}
 use borrow.Author.Tests.{eqb-true}
 use native.Mathlib.Omega.{arith}
-use Rattle.hierarchy.proofs.Descends.{handed, no-high, no-higher, no-low, no-lower, no-rest}
+use Rattle.descents.proofs.Descends.{handed, no-high, no-higher, no-low, no-lower, no-rest}
 use borrow.Author.Needs.{needs}
-use Rattle.hierarchy.proofs.hand_down.Statement.{statement}
-use Rattle.hierarchy.proofs.hand_down.Tie as tie
+use Rattle.descents.proofs.hand_down.Statement.{statement}
+use Rattle.descents.proofs.hand_down.Tie as tie
 
 returns : tie.Need-returns
 returns c = no-low _ _ _ _ _ _ (c .before .before .low-of .ensures) (c .if1 .taken)

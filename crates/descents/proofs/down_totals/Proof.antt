@@ -1,11 +1,11 @@
-use Rattle.hierarchy.proofs.Descends.{descend-end, descend-start, descend-turn}
-use Rattle.hierarchy.specs.Downs.{Descending}
+use Rattle.descents.proofs.Descends.{descend-end, descend-start, descend-turn}
+use Rattle.descents.specs.Downs.{Descending}
 use lib.ListN.{length, length-set}
 use mathlib.Core.Path.{_∙_, _≡_}
 use Prim.Native.Nat.{_-_, _≤_}
 use borrow.Author.Needs.{needs}
-use Rattle.hierarchy.proofs.down_totals.Statement.{statement}
-use Rattle.hierarchy.proofs.down_totals.Tie as tie
+use Rattle.descents.proofs.down_totals.Statement.{statement}
+use Rattle.descents.proofs.down_totals.Tie as tie
 
 abbrev Inv-loop : tie.InvT-loop
 Inv-loop n count order pairs down₀ t i₀ down i = (i ≤ count) × (length down ≡ n) × Descending n order pairs count t i down

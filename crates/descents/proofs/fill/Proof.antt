@@ -1,11 +1,11 @@
-use Rattle.hierarchy.proofs.Descends.{fill-end, fill-turn}
+use Rattle.descents.proofs.Descends.{fill-end, fill-turn}
 use lib.ListN.{getD, length, length-set}
 use mathlib.Core.Path.{_≡_}
 use Prim.Native.Nat.{_-_, _<_, _≤_, ℕ}
 use native.Mathlib.Omega.{arith}
 use borrow.Author.Needs.{needs}
-use Rattle.hierarchy.proofs.fill.Statement.{statement}
-use Rattle.hierarchy.proofs.fill.Tie as tie
+use Rattle.descents.proofs.fill.Statement.{statement}
+use Rattle.descents.proofs.fill.Tie as tie
 
 abbrev Inv-loop : tie.InvT-loop
 Inv-loop area₀ w i₀ area i = (i ≤ length area) × (length area ≡ length area₀) × ((k : ℕ) → k < i → getD area k 0 ≡ w)

@@ -10,7 +10,7 @@ use Rattle.model.specs.Word.{noneWord, ofWord, word}
 use Rattle.model.specs.Bytes.{listed, wordAt}
 use Rattle.network.specs.Width.{fit}
 use Rattle.network.specs.Bodies.{Prepared, mapIn}
-use Rattle.hierarchy.specs.Walks.{Holds}
+use Rattle.records.specs.Holds.{Holds}
 use Rattle.records.specs.Words.{downIn, highIn, lowIn}
 
 -- The down totals z for the target t.

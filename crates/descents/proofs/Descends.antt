@@ -13,20 +13,20 @@ use native.Mathlib.Numerals.{add-one}
 use native.Mathlib.Omega.{arith}
 use Rattle.graph.specs.Total.{Total, _⊓_, _⊕_, cond-no, cond-yes, ⊕-none}
 use Rattle.graph.specs.Records.{Pair}
+use Rattle.graph.specs.Bound.{totals-fit}
 use Rattle.graph.specs.Folds.{hand, hand-all, pass, pass-append, seed}
 use Rattle.graph.specs.Ranks.{rank-below, vertex-of-rank}
 use Rattle.graph.specs.Map.{Map, downTotalOf, pairsOf, rank, weights}
+use Rattle.graph.specs.Rows.{ranked-down}
 use Rattle.model.specs.Bytes.{wordAt}
-use Rattle.model.specs.Word.{noneWord, ofWord, ofWord-none, ofWord-word, word}
+use Rattle.model.specs.Word.{noneWord, ofWord, ofWord-none, ofWord-word, unasked, word}
 use Rattle.model.specs.Ends.{listed-is}
 use Rattle.model.specs.Use.{pairIn}
 use Rattle.network.specs.Width.{Fits, fit, fit-is, fit-min, fit-ofWord, fit-out, fit-word, fits, fits-in, fits-out}
 use Rattle.network.specs.Bodies.{mapIn}
-use Rattle.hierarchy.specs.Walks.{Holds}
+use Rattle.records.specs.Holds.{Holds, Ranked, down-small, order-rank, prepared-holds, ranked}
 use Rattle.records.specs.Words.{downIn, highIn, lowIn}
-use Rattle.hierarchy.specs.Downs.{Descended, Descending, Handed, higherIn, lowerIn}
-use Rattle.hierarchy.proofs.Facts.{Ranked, down-small, down-time-small, order-rank, ranked}
-use Rattle.hierarchy.proofs.Prepares.{prepared-holds}
+use Rattle.descents.specs.Downs.{Descended, Descending, Handed, higherIn, lowerIn}
 
 -- ---- an area filled with one word
 
@@ -70,6 +70,13 @@ module _ {M : Map} {n : ℕ} {order pairs : List ℕ} {count : ℕ} (o : Holds M
   -- ranks tell junctions apart
   same-rank : (v u : ℕ) → v < M .vertices → u < M .vertices → rank M v ≡ rank M u → v ≡ u
   same-rank v u lv lu e = sym (vertex-of-rank (o .valid .orders) v lv) ∙ ap (M .order) e ∙ vertex-of-rank (o .valid .orders) u lu
+
+  -- a down time is below the marks
+  down-time-small : (i u : ℕ) → i < count → pairIn (pairsOf M) i .downTime ≡ some u → u < unasked
+  down-time-small i u l e =
+      let k = ranked o i l in
+      let b = totals-fit (o .vertices-high) (ranked-down (o .valid) (o .most) (pairIn (pairsOf M) i .low) (pairIn (pairsOf M) i .high) (k .below) (sym (k .down-is) ∙ e)) in
+      omega (arith, b)
 
   -- the totals that the records below k have made
   made : ℕ → ℕ → ℕ → Total
@@ -133,7 +140,7 @@ module _ {M : Map} {n : ℕ} {order pairs : List ℕ} {count : ℕ} (o : Holds M
         (rw (old (higherIn order pairs k) higher-below) (fit-word (made t k (rank M (higherIn order pairs k)))))
 
     time-is : ofWord (downIn pairs k) ≡ pairIn (pairsOf M) k .downTime
-    time-is = ap ofWord (o .records k l .downs) ∙ ofWord-word (pairIn (pairsOf M) k .downTime) (λ u q. let b = down-time-small o k u l q in omega arith)
+    time-is = ap ofWord (o .records k l .downs) ∙ ofWord-word (pairIn (pairsOf M) k .downTime) (λ u q. let b = down-time-small k u l q in omega arith)
 
     turn-at : (v : ℕ) → v < M .vertices → getD z v 0 ≡ word (fit (made t (suc k) (rank M v)))
     turn-at v lv = ap (λ (x : List ℕ). getD x v 0) z-is ∙ go (ℕ-discrete v (higherIn order pairs k)) ∙ sym (ap (λ (x : Total). word (fit x)) (made-next t k (rank M v) l))
