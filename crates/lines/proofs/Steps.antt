@@ -1,7 +1,7 @@
 -- One step of the reader. Assumes nothing.
 use mathlib.Core.Path.{_∙_, _≡_, ap, refl, sym}
 use mathlib.Core.Logic.{_≢_, _⊎_, inl, inr}
-use mathlib.Core.Bool.{false, true}
+use mathlib.Core.Bool.{false, false≢true, true}
 use mathlib.Core.List.{List, [], _++_, _∷_}
 use Prim.Native.Nat.{_+_, _-_, _<_, _≤_, suc, ℕ}
 use lib.Dec.{ltb}
@@ -19,7 +19,7 @@ use Rattle.lines.specs.declared.Reader.{Reader}
 pub started : (turns : ℕ) → AtStart (record { at = 0; end = 0; part = record { kept = 0; long = false }; ready = false; turns = turns })
 started turns = record {
   nothing = λ chunk. refl;
-  no-line = λ area. record { fits = omega arith; whole = λ l. refl; more = λ l. let z : _≡_ {A = ℕ} 0 1 = cc in let y : ⊥ = omega arith in absurd y };
+  no-line = λ area. record { fits = omega arith; whole = λ l. refl; more = λ l. absurd (false≢true l) };
   waits = refl;
 }
 

@@ -1,7 +1,7 @@
 -- A byte more of a line. Assumes nothing.
 use mathlib.Core.Path.{_∙_, _≡_, ap, refl, sym}
 use mathlib.Core.Logic.{_⊎_, inl, inr}
-use mathlib.Core.Bool.{Bool, false, true}
+use mathlib.Core.Bool.{Bool, false, false≢true, true}
 use mathlib.Core.List.{List, [], _++_, _∷_}
 use Prim.Native.Nat.{_+_, _<_, _≤_, suc, ℕ}
 use lib.ListN.{length, length-append, length-set, length-take, set, take}
@@ -10,9 +10,6 @@ use native.Mathlib.Numerals.{add-one}
 use native.Mathlib.Omega.{arith}
 use Rattle.lines.specs.Holds.{Holds}
 use Rattle.lines.specs.declared.Part.{Part}
-
-true-false : {b : Bool} → b ≡ true → b ≡ false → ⊥
-true-false p q = let z : _≡_ {A = ℕ} 0 1 = cc in omega arith
 
 module _ (p : Part) (b : ℕ) (area xs : List ℕ) (holds : Holds p area xs) where
   pub byte-kept : p .kept < length area → Holds (record { kept = p .kept + 1; long = p .long }) (set area (p .kept) b) (xs ++ (b ∷ []))
@@ -25,7 +22,7 @@ module _ (p : Part) (b : ℕ) (area xs : List ℕ) (holds : Holds p area xs) whe
   pub byte-dropped : length area ≤ p .kept → Holds (record { kept = p .kept; long = true }) area (xs ++ (b ∷ []))
   byte-dropped h = record {
     fits = holds .fits;
-    whole = λ l. absurd (true-false refl l);
+    whole = λ l. absurd (false≢true (sym l));
     more = λ l. (omega (arith, h, holds .fits), go (p .long) refl);
   }
     where

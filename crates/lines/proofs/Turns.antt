@@ -1,7 +1,7 @@
 -- The loop around the reader's steps. Assumes nothing.
 use mathlib.Core.Path.{_∙_, _≡_, ap, ap₂, refl, subst, sym}
 use mathlib.Core.Logic.{_≢_, _⊎_, inl, inr}
-use mathlib.Core.Bool.{Bool, false, true}
+use mathlib.Core.Bool.{Bool, false, false≢true, true}
 use mathlib.Core.List.{List, [], _++_, _∷_, append-assoc, append-nil}
 use Prim.Native.Nat.{_+_, _-_, _<_, _≤_, suc, zero, ℕ}
 use lib.Dec.{ltb}
@@ -60,7 +60,7 @@ turned-start from r chunk area e p w t = inl (record {
   reads = [];
   last = refl;
   plain = tt;
-  holds = subst (λ (q : Part). Holds q area []) (sym p) (record { fits = omega arith; whole = λ l. refl; more = λ l. let z : _≡_ {A = ℕ} 0 1 = cc in let y : ⊥ = omega arith in absurd y });
+  holds = subst (λ (q : Part). Holds q area []) (sym p) (record { fits = omega arith; whole = λ l. refl; more = λ l. absurd (false≢true l) });
   gave = tt;
   bytes = append-nil (unread from chunk) ∙ e;
   waits = w;

@@ -1,6 +1,6 @@
 -- All lines of the input: those that calls of `next_line` take, one after the other, are document 01's. Assumes nothing.
 use mathlib.Core.Path.{_∙_, _≡_, ap, ap₂, refl, subst, sym}
-use mathlib.Core.Bool.{Bool, false, true}
+use mathlib.Core.Bool.{Bool, false, false≢true, true}
 use mathlib.Core.List.{List, [], _++_, _∷_, append-assoc, map}
 use Prim.Native.Nat.{_<_, ℕ}
 use lib.Dec.{eqb, ltb}
@@ -59,14 +59,11 @@ at-the-end (b ∷ c ∷ line) p =
     ap₂ (λ (t : Bool) (l : List (List ℕ)). onFirst t b l) (ne-eqb b newline (p .0)) (at-the-end (c ∷ line) (p .1) ∙ ap (λ (t : Bool). ifReady t (c ∷ line)) (lt-ltb 0 (length (c ∷ line)) (omega arith)))
     ∙ ap (λ (t : Bool). ifReady t (b ∷ c ∷ line)) (sym (lt-ltb 0 (length (b ∷ c ∷ line)) (omega arith)))
 
-no-newline-yet : false ≡ true → ⊥
-no-newline-yet e = let z : _≡_ {A = ℕ} 0 1 = cc in omega arith
-
 taken-more : (input line rest more : List ℕ) (reads : List (List ℕ)) (t : Bool) → Plain line → Ends input line rest reads t → Gave reads → t ≡ true → linesOf (input ++ more) ≡ line ∷ linesOf (rest ++ more)
 taken-more input line rest more reads t p (at-newline g e) w q =
     ap (λ (x : List ℕ). linesOf (x ++ more)) e ∙ ap linesOf (append-assoc line (newline ∷ rest) more) ∙ at-a-newline line (rest ++ more) p
 taken-more input line rest more reads t p (at-end g e f) w q = let z : ⊥ = omega (arith, w .0) in absurd z
-taken-more input line rest more reads t p (out-of-turns g e f) w q = absurd (no-newline-yet q)
+taken-more input line rest more reads t p (out-of-turns g e f) w q = absurd (false≢true q)
 
 taken-last : (input line rest : List ℕ) (reads earlier : List (List ℕ)) (t : Bool) → Plain line → Ends input line rest reads t → reads ≡ [] ∷ earlier → linesOf input ≡ ifReady t line
 taken-last input line rest reads earlier t p (at-newline g e) q = let z : ⊥ = omega (arith, subst Gave q g .0) in absurd z
