@@ -7,7 +7,9 @@ use Rattle.answer_texts.proofs.first_roads.Statement.{statement}
 use Rattle.answer_texts.proofs.first_roads.Tie as tie
 
 returns : tie.Need-returns
-returns c = first-is (c .before .before .args .route .now) (c .before .before .args .k)
+returns c =
+    let start = c .before .before in
+    first-is (start .args .route .now) (start .args .k)
 
 returns-2 : tie.Need-returns-2
 returns-2 c = sym (take-all _ _ (le-of-lt (c .if1 .left)))

@@ -4,10 +4,19 @@ use Rattle.answer_texts.proofs.put_estimate.Statement.{statement}
 use Rattle.answer_texts.proofs.put_estimate.Tie as tie
 
 returns : tie.Need-returns
-returns c = time-none _ _ (c .before .before .before .before .before .before .is-none .ensures) (c .before .before .before .before .before .if1 .taken) (c .before .before .put .ensures)
+returns c =
+    let after-put = c .before .before in
+    let then1 = after-put .before .before .before in
+    let after-is-none = then1 .before in
+    time-none _ _ (after-is-none .is-none .ensures) (then1 .if1 .taken) (after-put .put .ensures)
 
 returns-2 : tie.Need-returns-2
-returns-2 c = time-some _ _ (c .before .before .before .before .before .before .before .is-none .ensures) _ (c .before .before .before .before .word .ensures) (c .before .before .before .before .before .before .if1 .left) (c .before .before .put-named .ensures)
+returns-2 c =
+    let after-put-named = c .before .before in
+    let after-word = after-put-named .before .before in
+    let else1 = after-word .before .before in
+    let after-is-none = else1 .before in
+    time-some _ _ (after-is-none .is-none .ensures) _ (after-word .word .ensures) (else1 .if1 .left) (after-put-named .put-named .ensures)
 
 pub put-estimate-spec : {M : Type 1} → statement M
 put-estimate-spec =

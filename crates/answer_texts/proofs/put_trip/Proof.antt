@@ -4,7 +4,11 @@ use Rattle.answer_texts.proofs.put_trip.Statement.{statement}
 use Rattle.answer_texts.proofs.put_trip.Tie as tie
 
 returns : tie.Need-returns
-returns c = trip-put _ _ _ (c .before .before .before .before .before .before .before .before .before .before .put-named .ensures) (c .before .before .before .before .before .before .put-word .ensures) (c .before .before .put-words .ensures)
+returns c =
+    let after-put-words = c .before .before in
+    let after-put-word = after-put-words .before .before .before .before in
+    let after-put-named = after-put-word .before .before .before .before in
+    trip-put _ _ _ (after-put-named .put-named .ensures) (after-put-word .put-word .ensures) (after-put-words .put-words .ensures)
 
 pub put-trip-spec : {M : Type 1} → statement M
 put-trip-spec =

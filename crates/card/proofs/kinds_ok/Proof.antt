@@ -7,10 +7,18 @@ returns : tie.Need-returns
 returns c = kinds-1 _ _ 0 0 (c .before .word-at .ensures) (c .if1 .taken)
 
 returns-2 : tie.Need-returns-2
-returns-2 c = kinds-2 _ _ _ 0 (c .before .before .before .word-at .ensures) (c .before .word-at2 .ensures) (c .before .before .if1 .left) (c .if2 .taken)
+returns-2 c =
+    let else1 = c .before .before in
+    let after-word-at = else1 .before in
+    kinds-2 _ _ _ 0 (after-word-at .word-at .ensures) (c .before .word-at2 .ensures) (else1 .if1 .left) (c .if2 .taken)
 
 returns-3 : tie.Need-returns-3
-returns-3 c = kinds-3 _ _ _ _ (c .before .before .before .before .word-at .ensures) (c .before .before .word-at2 .ensures) (c .before .before .before .if1 .left) (c .word-at3 .ensures) (c .before .if2 .left)
+returns-3 c =
+    let after-word-at2 = c .before .before in
+    let else1 = after-word-at2 .before in
+    let after-word-at = else1 .before in
+    kinds-3 _ _ _ _ (after-word-at .word-at .ensures) (after-word-at2 .word-at2 .ensures) (else1 .if1 .left) (c .word-at3 .ensures)
+    (c .before .if2 .left)
 
 pub kinds-ok-spec : {M : Type 1} → statement M
 kinds-ok-spec =

@@ -10,16 +10,42 @@ returns : tie.Need-returns
 returns c = read-1 _ (c .if1 .taken)
 
 returns-2 : tie.Need-returns-2
-returns-2 c = read-2 _ (c .before .before .if1 .left) (sym (c .before .kinds-ok .ensures) ∙ not-true _ (c .if2 .taken))
+returns-2 c =
+    let else1 = c .before .before in
+    read-2 _ (else1 .if1 .left) (sym (c .before .kinds-ok .ensures) ∙ not-true _ (c .if2 .taken))
 
 returns-3 : tie.Need-returns-3
-returns-3 c = read-3 _ (c .before .before .before .before .if1 .left) (sym (c .before .before .before .kinds-ok .ensures) ∙ not-false _ (c .before .before .if2 .left)) (sym (c .before .starts-ok .ensures) ∙ not-true _ (c .if3 .taken))
+returns-3 c =
+    let else2 = c .before .before in
+    let after-kinds-ok = else2 .before in
+    let else1 = after-kinds-ok .before in
+    read-3 _ (else1 .if1 .left) (sym (after-kinds-ok .kinds-ok .ensures) ∙ not-false _ (else2 .if2 .left))
+    (sym (c .before .starts-ok .ensures) ∙ not-true _ (c .if3 .taken))
 
 returns-4 : tie.Need-returns-4
-returns-4 c = read-failed _ (c .before .before .before .before .before .before .before .before .if1 .left) (sym (c .before .before .before .before .before .before .before .kinds-ok .ensures) ∙ not-false _ (c .before .before .before .before .before .before .if2 .left)) (sym (c .before .before .before .before .before .starts-ok .ensures) ∙ not-false _ (c .before .before .before .before .if3 .left)) _ (c .before .before .before .check .ensures) _ (ap verdictIn (sym (c .before .q .given .1)))
+returns-4 c =
+    let after-check = c .before .before .before in
+    let else3 = after-check .before in
+    let after-starts-ok = else3 .before in
+    let else2 = after-starts-ok .before in
+    let after-kinds-ok = else2 .before in
+    let else1 = after-kinds-ok .before in
+    read-failed _ (else1 .if1 .left) (sym (after-kinds-ok .kinds-ok .ensures) ∙ not-false _ (else2 .if2 .left))
+    (sym (after-starts-ok .starts-ok .ensures) ∙ not-false _ (else3 .if3 .left)) _ (after-check .check .ensures)
+    _ (ap verdictIn (sym (c .before .q .given .1)))
 
 returns-5 : tie.Need-returns-5
-returns-5 c = read-passed _ (c .before .before .before .before .before .before .before .before .before .if1 .left) (sym (c .before .before .before .before .before .before .before .before .kinds-ok .ensures) ∙ not-false _ (c .before .before .before .before .before .before .before .if2 .left)) (sym (c .before .before .before .before .before .before .starts-ok .ensures) ∙ not-false _ (c .before .before .before .before .before .if3 .left)) _ (c .before .before .before .before .check .ensures) _ _ (ap verdictIn (sym (c .before .before .enum-told .given .1))) (c .before .word-at .ensures) (c .word-at2 .ensures)
+returns-5 c =
+    let after-enum-told = c .before .before in
+    let after-check = after-enum-told .before .before in
+    let else3 = after-check .before in
+    let after-starts-ok = else3 .before in
+    let else2 = after-starts-ok .before in
+    let after-kinds-ok = else2 .before in
+    let else1 = after-kinds-ok .before in
+    read-passed _ (else1 .if1 .left) (sym (after-kinds-ok .kinds-ok .ensures) ∙ not-false _ (else2 .if2 .left))
+    (sym (after-starts-ok .starts-ok .ensures) ∙ not-false _ (else3 .if3 .left)) _ (after-check .check .ensures)
+    _ _ (ap verdictIn (sym (after-enum-told .enum-told .given .1))) (c .before .word-at .ensures) (c .word-at2 .ensures)
 
 pub read-spec : {M : Type 1} → statement M
 read-spec =

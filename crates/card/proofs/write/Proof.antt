@@ -7,19 +7,44 @@ use Rattle.card.proofs.write.Statement.{statement}
 use Rattle.card.proofs.write.Tie as tie
 
 add-if1-2 : tie.Need-add-if1-2
-add-if1-2 c = (let z = rows-low (c .before .before .before .before .before .before .args .roads .now) (c .before .before .before .before .before .before .args .order .now) (ap verdictIn (sym (c .enum-told .given .1)) ∙ c .before .before .check .ensures) in omega (arith, z .0, z .1))
+add-if1-2 c =
+    let after-check = c .before .before in
+    let start = after-check .before .before .before .before in
+    (let z = rows-low (start .args .roads .now) (start .args .order .now)
+    (ap verdictIn (sym (c .enum-told .given .1)) ∙ after-check .check .ensures) in omega (arith, z .0, z .1))
 
 returns : tie.Need-returns
-returns c = write-7 (c .before .before .before .before .before .before .before .args .roads .now) (c .before .before .before .before .before .before .before .args .order .now) _ (ap verdictIn (sym (c .before .enum-told .given .1)) ∙ c .before .before .before .check .ensures) (c .if1 .taken)
+returns c =
+    let after-check = c .before .before .before in
+    let start = after-check .before .before .before .before in
+    write-7 (start .args .roads .now) (start .args .order .now)
+    _ (ap verdictIn (sym (c .before .enum-told .given .1)) ∙ after-check .check .ensures) (c .if1 .taken)
 
 put-card-requires : tie.Need-put-card-requires
-put-card-requires c κs = (let z = rows-low (c .before .before .before .before .before .before .before .before .args .roads .now) (c .before .before .before .before .before .before .before .before .args .order .now) (ap verdictIn (sym (c .before .before .enum-told .given .1)) ∙ c .before .before .before .before .check .ensures) in (z .0, z .1, c .before .if1 .left))
+put-card-requires c κs =
+    let after-enum-told = c .before .before in
+    let after-check = after-enum-told .before .before in
+    let start = after-check .before .before .before .before in
+    (let z = rows-low (start .args .roads .now) (start .args .order .now)
+    (ap verdictIn (sym (after-enum-told .enum-told .given .1)) ∙ after-check .check .ensures) in (z .0, z .1, c .before .if1 .left))
 
 returns-2 : tie.Need-returns-2
-returns-2 c = write-refused (c .before .before .before .before .before .before .before .args .roads .now) (c .before .before .before .before .before .before .before .args .order .now) _ _ (ap verdictIn (sym (c .before .q .given .1)) ∙ c .before .before .before .check .ensures)
+returns-2 c =
+    let after-check = c .before .before .before in
+    let start = after-check .before .before .before .before in
+    write-refused (start .args .roads .now) (start .args .order .now)
+    _ _ (ap verdictIn (sym (c .before .q .given .1)) ∙ after-check .check .ensures)
 
 returns-3 : tie.Need-returns-3
-returns-3 c = write-made (c .before .before .before .before .before .before .before .before .before .before .before .args .roads .now) (c .before .before .before .before .before .before .before .before .before .before .before .args .order .now) _ (ap verdictIn (sym (c .before .before .before .before .before .enum-told .given .1)) ∙ c .before .before .before .before .before .before .before .check .ensures) _ (c .before .before .before .before .if1 .left) (c .before .before .put-card .ensures)
+returns-3 c =
+    let after-put-card = c .before .before in
+    let else1 = after-put-card .before .before in
+    let after-enum-told = else1 .before in
+    let after-check = after-enum-told .before .before in
+    let start = after-check .before .before .before .before in
+    write-made (start .args .roads .now) (start .args .order .now)
+    _ (ap verdictIn (sym (after-enum-told .enum-told .given .1)) ∙ after-check .check .ensures) _ (else1 .if1 .left)
+    (after-put-card .put-card .ensures)
 
 pub write-spec : {M : Type 1} → statement M
 write-spec =

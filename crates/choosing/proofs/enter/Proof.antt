@@ -19,12 +19,14 @@ returns c =
 returns-2 : tie.Need-returns-2
 returns-2 c =
     let start = c .before .before .before .before .before .before .before in
-    entered-wins (start .args .keys .now) (start .args .wins .now) _ _ _ (start .pre .1) refl refl _ refl (sym (c .before .comes-before .ensures) ∙ c .if2 .taken)
+    entered-wins (start .args .keys .now) (start .args .wins .now) _ _ _ (start .pre .1) refl refl _ refl
+    (sym (c .before .comes-before .ensures) ∙ c .if2 .taken)
 
 returns-3 : tie.Need-returns-3
 returns-3 c =
     let start = c .before .before .before .before .before .before .before in
-    entered-stays (start .args .keys .now) (start .args .wins .now) _ _ _ (start .pre .1) refl refl (sym (c .before .comes-before .ensures) ∙ c .if2 .left)
+    entered-stays (start .args .keys .now) (start .args .wins .now) _ _ _ (start .pre .1) refl refl
+    (sym (c .before .comes-before .ensures) ∙ c .if2 .left)
 
 pub enter-spec : {M : Type 1} → statement M
 enter-spec =

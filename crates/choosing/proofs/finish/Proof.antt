@@ -19,14 +19,24 @@ loop-holds c = (search needs, search needs, upto-start _ _)
 
 loop-again : tie.Need-loop-again Inv-loop μ-loop
 loop-again c =
-    let at-loop = c .before .before .before .before in
-    let start = at-loop .before .before .before in
-    (search needs, simp length-set (search needs), upto-set _ _ _ _ (at-loop .loop .inv .2) _ (c .before .before .before .loop-test .taken) (c .word .ensures ∙ kept-no (start .args .keys .now) (start .args .times .now) (at-loop .loop .i) (c .before .if1 .taken)))
+    let in-loop = c .before .before .before in
+    let at-loop = in-loop .before in
+    let start = at-loop .before .before .before in (
+      search needs,
+      simp length-set (search needs),
+      upto-set _ _ _ _ (at-loop .loop .inv .2) _ (in-loop .loop-test .taken)
+          (c .word .ensures ∙ kept-no (start .args .keys .now) (start .args .times .now) (at-loop .loop .i) (c .before .if1 .taken)),
+    )
 
 loop-again-2 : tie.Need-loop-again-2 Inv-loop μ-loop
 loop-again-2 c =
-    let start = c .before .before .before .before .before .before in
-    (search needs, search needs, upto-keep _ _ _ _ (c .before .before .before .loop .inv .2) (kept-yes (start .args .keys .now) (start .args .times .now) (c .before .before .before .loop .i) (c .if1 .left)))
+    let at-loop = c .before .before .before in
+    let start = at-loop .before .before .before in (
+      search needs,
+      search needs,
+      upto-keep _ _ _ _ (at-loop .loop .inv .2) (kept-yes (start .args .keys .now) (start .args .times .now) (at-loop .loop .i)
+          (c .if1 .left)),
+    )
 
 returns : tie.Need-returns Inv-loop μ-loop
 returns c = upto-end _ _ _ _ (c .before .loop .inv .2) (search needs) (c .loop-test .left)

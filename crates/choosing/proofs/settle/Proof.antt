@@ -7,13 +7,17 @@ use Rattle.choosing.proofs.settle.Tie as tie
 
 winner-requires : tie.Need-winner-requires
 winner-requires c κs =
-    let start = c .before .before .before .before .before .before .before in
-    (omega (arith, c .before .block-end .ensures, start .pre .0), simp length-set (omega (arith, c .before .block-end .ensures, start .pre .2)))
+    let after-block-end = c .before in
+    let start = after-block-end .before .before .before .before .before .before in (
+      omega (arith, after-block-end .block-end .ensures, start .pre .0),
+      simp length-set (omega (arith, after-block-end .block-end .ensures, start .pre .2)),
+    )
 
 returns : tie.Need-returns
 returns c =
-    let start = c .before .before .before .before .before .before .before .before in
-    settled-with _ _ _ _ _ _ _ _ (start .pre .0) (start .pre .3) (c .before .before .block-end .ensures) (c .winner .ensures)
+    let after-block-end = c .before .before in
+    let start = after-block-end .before .before .before .before .before .before in
+    settled-with _ _ _ _ _ _ _ _ (start .pre .0) (start .pre .3) (after-block-end .block-end .ensures) (c .winner .ensures)
 
 pub settle-spec : {M : Type 1} → statement M
 settle-spec =

@@ -17,10 +17,17 @@ loop-holds : tie.Need-loop-holds Inv-loop μ-loop
 loop-holds c = (search needs, search needs, leads-start _ _)
 
 loop-again : tie.Need-loop-again Inv-loop μ-loop
-loop-again c = (search needs, search needs, leads-take _ _ _ _ (c .before .before .before .loop .inv .2) (c .before .before .before .loop .inv .0) (sym (c .before .comes-before .ensures) ∙ c .if1 .taken))
+loop-again c =
+    let at-loop = c .before .before .before in (
+      search needs,
+      search needs,
+      leads-take _ _ _ _ (at-loop .loop .inv .2) (at-loop .loop .inv .0) (sym (c .before .comes-before .ensures) ∙ c .if1 .taken),
+    )
 
 loop-again-2 : tie.Need-loop-again-2 Inv-loop μ-loop
-loop-again-2 c = (search needs, search needs, leads-keep _ _ _ _ (c .before .before .before .loop .inv .2) (sym (c .before .comes-before .ensures) ∙ c .if1 .left))
+loop-again-2 c =
+    let at-loop = c .before .before .before in
+    (search needs, search needs, leads-keep _ _ _ _ (at-loop .loop .inv .2) (sym (c .before .comes-before .ensures) ∙ c .if1 .left))
 
 returns : tie.Need-returns Inv-loop μ-loop
 returns c = leads-end _ _ _ _ (c .before .loop .inv .2) _ (omega arith)

@@ -4,7 +4,10 @@ use Rattle.console.proofs.read_set.Statement.{statement}
 use Rattle.console.proofs.read_set.Tie as tie
 
 returns : tie.Need-returns
-returns c = set-is _ _ _ _ _ (c .before .before .before .before .before .road .given .1) (c .before .before .time .given .1) (c .of-word .ensures)
+returns c =
+    let after-time = c .before .before in
+    let after-road = after-time .before .before .before in
+    set-is _ _ _ _ _ (after-road .road .given .1) (after-time .time .given .1) (c .of-word .ensures)
 
 pub read-set-spec : {M : Type 1} → statement M
 read-set-spec =

@@ -18,16 +18,41 @@ loop-holds : tie.Need-loop-holds Inv-loop μ-loop
 loop-holds c = (search needs, search needs, record { at = λ i h. absurd (omega arith) })
 
 slice-write-ranks : tie.Need-slice-write-ranks Inv-loop μ-loop
-slice-write-ranks c = omega (arith, map-facts (c .before .before .before .before .before .before .pre .0 .1) .order-is, c .before .before .before .before .before .before .pre .1, c .before .junction-of .ensures, junction-below (c .before .before .before .before .before .before .pre .0 .1) (c .before .before .before .loop .k) (omega (arith, map-facts (c .before .before .before .before .before .before .pre .0 .1) .order-is, c .before .before .before .before .before .before .pre .1)))
+slice-write-ranks c =
+    let at-loop = c .before .before .before in
+    let start = at-loop .before .before .before in
+    omega (
+      arith,
+      map-facts (start .pre .0 .1) .order-is,
+      start .pre .1,
+      c .before .junction-of .ensures,
+      junction-below (start .pre .0 .1) (at-loop .loop .k) (omega (arith, map-facts (start .pre .0 .1) .order-is, start .pre .1)),
+    )
 
 add-k : tie.Need-add-k Inv-loop μ-loop
-add-k c = omega (arith, map-facts (c .before .before .before .before .before .before .pre .0 .1) .order-is, map-facts (c .before .before .before .before .before .before .pre .0 .1) .vertices-high, c .before .before .before .before .before .before .pre .1)
+add-k c =
+    let start = c .before .before .before .before .before .before in
+    omega (arith, map-facts (start .pre .0 .1) .order-is, map-facts (start .pre .0 .1) .vertices-high, start .pre .1)
 
 loop-again : tie.Need-loop-again Inv-loop μ-loop
-loop-again c = (search needs, simp length-set (search needs), filled-turn (c .before .before .before .before .before .before .pre .0 .1) _ _ _ (omega (arith, map-facts (c .before .before .before .before .before .before .pre .0 .1) .order-is, c .before .before .before .before .before .before .pre .1)) (omega (arith, map-facts (c .before .before .before .before .before .before .pre .0 .1) .order-is, c .before .before .before .before .before .before .pre .1)) (c .before .junction-of .ensures) (c .before .before .before .loop .inv .2))
+loop-again c =
+    let at-loop = c .before .before .before in
+    let start = at-loop .before .before .before in (
+      search needs,
+      simp length-set (search needs),
+      filled-turn (start .pre .0 .1) _ _ _ (omega (arith, map-facts (start .pre .0 .1) .order-is, start .pre .1)) (omega (
+        arith,
+        map-facts (start .pre .0 .1) .order-is,
+        start .pre .1,
+      )) (c .before .junction-of .ensures) (at-loop .loop .inv .2),
+    )
 
 returns : tie.Need-returns Inv-loop μ-loop
-returns c = λ roads. filled-end (c .before .before .before .before .pre .0 .1) (c .before .loop .k) _ (omega (arith, map-facts (c .before .before .before .before .pre .0 .1) .order-is, c .before .before .before .before .pre .1)) (omega (arith, map-facts (c .before .before .before .before .pre .0 .1) .order-is, c .before .before .before .before .pre .1)) (c .before .loop .inv .2)
+returns c =
+    let at-loop = c .before in
+    let start = at-loop .before .before .before in
+    λ roads. filled-end (start .pre .0 .1) (at-loop .loop .k) _ (omega (arith, map-facts (start .pre .0 .1) .order-is, start .pre .1))
+    (omega (arith, map-facts (start .pre .0 .1) .order-is, start .pre .1)) (at-loop .loop .inv .2)
 
 pub fill-ranks-spec : {M : Type 1} → statement M
 fill-ranks-spec =

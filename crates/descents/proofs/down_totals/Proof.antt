@@ -14,23 +14,30 @@ abbrev μ-loop : tie.MeasureT-loop
 μ-loop n count order pairs down₀ t i₀ down i = count - i
 
 loop-holds : tie.Need-loop-holds Inv-loop μ-loop
-loop-holds c = (
-  search needs,
-  simp length-set (search needs),
-  descend-start _ _ _ _ _ (search needs) _ _ _ (c .before .before .before .before .before .before .before .before .before .before .pre .3)
-      (c .before .before .before .before .before .fill .ensures) (c .word .ensures ∙ c .before .of-word .ensures),
-)
+loop-holds c =
+    let after-fill = c .before .before .before .before .before in
+    let start = after-fill .before .before .before .before .before in (
+      search needs,
+      simp length-set (search needs),
+      descend-start _ _ _ _ _ (search needs) _ _ _ (start .pre .3)
+          (after-fill .fill .ensures) (c .word .ensures ∙ c .before .of-word .ensures),
+    )
 
 loop-again : tie.Need-loop-again Inv-loop μ-loop
-loop-again c = (
-  search needs,
-  search needs,
-  descend-turn _ _ _ _ _ _ _ _ (c .before .before .before .before .loop-test .taken) (c .before .before .before .before .before .loop .inv .1)
-      (c .before .before .before .before .before .loop .inv .2) (c .before .before .hand-down .ensures),
-)
+loop-again c =
+    let after-hand-down = c .before .before in
+    let in-loop = after-hand-down .before .before in
+    let at-loop = in-loop .before in (
+      search needs,
+      search needs,
+      descend-turn _ _ _ _ _ _ _ _ (in-loop .loop-test .taken) (at-loop .loop .inv .1)
+          (at-loop .loop .inv .2) (after-hand-down .hand-down .ensures),
+    )
 
 returns : tie.Need-returns Inv-loop μ-loop
-returns c = descend-end _ _ _ _ _ _ _ (c .loop-test .left) (c .before .loop .inv .1) (search needs) (c .before .loop .inv .2)
+returns c =
+    let at-loop = c .before in
+    descend-end _ _ _ _ _ _ _ (c .loop-test .left) (at-loop .loop .inv .1) (search needs) (at-loop .loop .inv .2)
 
 pub down-totals-spec : {M : Type 1} → statement M
 down-totals-spec =

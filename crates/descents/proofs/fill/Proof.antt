@@ -17,12 +17,20 @@ loop-less : tie.Need-loop-less Inv-loop μ-loop
 loop-less c = simp length-set (omega arith)
 
 loop-again : tie.Need-loop-again Inv-loop μ-loop
-loop-again c = (simp length-set (search needs), simp length-set (search needs), fill-turn (c .before .loop .area) _ _ (c .loop-test .taken) (c .before .loop .inv .2))
+loop-again c =
+    let at-loop = c .before in (
+      simp length-set (search needs),
+      simp length-set (search needs),
+      fill-turn (at-loop .loop .area) _ _ (c .loop-test .taken) (at-loop .loop .inv .2),
+    )
 
 returns : tie.Need-returns Inv-loop μ-loop
 returns c =
-    fill-end (c .before .before .before .before .args .area .now) (c .before .loop .area) _ _ _ (c .before .loop .inv .1) (c .loop-test .left) (c .before .loop .inv .2)
-    (c .before .before .word .ensures)
+    let at-loop = c .before in
+    let after-word = at-loop .before in
+    let start = after-word .before .before in
+    fill-end (start .args .area .now) (at-loop .loop .area) _ _ _ (at-loop .loop .inv .1) (c .loop-test .left) (at-loop .loop .inv .2)
+    (after-word .word .ensures)
 
 pub fill-spec : {M : Type 1} → statement M
 fill-spec =

@@ -7,25 +7,54 @@ use Rattle.descents.proofs.hand_down.Statement.{statement}
 use Rattle.descents.proofs.hand_down.Tie as tie
 
 returns : tie.Need-returns
-returns c = no-low _ _ _ _ _ _ (c .before .before .low-of .ensures) (c .if1 .taken)
+returns c =
+    let after-low-of = c .before .before in
+    no-low _ _ _ _ _ _ (after-low-of .low-of .ensures) (c .if1 .taken)
 
 returns-2 : tie.Need-returns-2
-returns-2 c = no-lower _ _ _ _ _ _ _ (c .before .before .before .before .before .low-of .ensures) (c .before .before .junction-of .ensures) (c .if2 .taken)
+returns-2 c =
+    let after-junction-of = c .before .before in
+    let after-low-of = after-junction-of .before .before .before in
+    no-lower _ _ _ _ _ _ _ (after-low-of .low-of .ensures) (after-junction-of .junction-of .ensures) (c .if2 .taken)
 
 returns-3 : tie.Need-returns-3
-returns-3 c = no-rest _ _ _ _ _ _ _ (c .before .before .of-word .result .0) (c .before .before .before .before .before .before .before .before .before .before .low-of .ensures) (c .before .before .before .before .before .before .before .junction-of .ensures) (c .before .before .of-word .ensures) (eqb-true _ _ (sym (c .before .is-none .ensures) ∙ c .if3 .taken))
+returns-3 c =
+    let after-of-word = c .before .before in
+    let after-junction-of = after-of-word .before .before .before .before .before in
+    let after-low-of = after-junction-of .before .before .before in
+    no-rest _ _ _ _ _ _ _ (after-of-word .of-word .result .0) (after-low-of .low-of .ensures) (after-junction-of .junction-of .ensures)
+    (after-of-word .of-word .ensures) (eqb-true _ _ (sym (c .before .is-none .ensures) ∙ c .if3 .taken))
 
 returns-4 : tie.Need-returns-4
-returns-4 c = no-high _ _ _ _ _ _ (c .before .before .high-of .ensures) (c .if4 .taken)
+returns-4 c =
+    let after-high-of = c .before .before in
+    no-high _ _ _ _ _ _ (after-high-of .high-of .ensures) (c .if4 .taken)
 
 returns-5 : tie.Need-returns-5
-returns-5 c = no-higher _ _ _ _ _ _ _ (c .before .before .before .before .before .high-of .ensures) (c .before .before .junction-of2 .ensures) (c .if5 .taken)
+returns-5 c =
+    let after-junction-of2 = c .before .before in
+    let after-high-of = after-junction-of2 .before .before .before in
+    no-higher _ _ _ _ _ _ _ (after-high-of .high-of .ensures) (after-junction-of2 .junction-of2 .ensures) (c .if5 .taken)
 
 slice-write-down : tie.Need-slice-write-down
-slice-write-down c = omega (arith, c .before .before .before .before .before .before .if5 .left, c .before .before .before .before .before .before .before .before .before .before .before .before .before .before .before .before .before .before .before .before .before .before .before .before .before .before .pre .2)
+slice-write-down c =
+    let else5 = c .before .before .before .before .before .before in
+    let else2 = else5 .before .before .before .before .before .before .before .before .before .before .before in
+    let start = else2 .before .before .before .before .before .before .before .before .before in
+    omega (arith, else5 .if5 .left, start .pre .2)
 
 returns-6 : tie.Need-returns-6
-returns-6 c = handed _ _ _ _ _ _ _ _ _ _ _ _ _ _ (c .before .before .before .before .before .before .before .before .before .before .before .before .before .before .before .before .before .before .before .before .before .before .low-of .ensures) (c .before .before .before .before .before .before .before .before .before .before .before .high-of .ensures) (c .before .before .before .before .before .before .before .before .before .before .before .before .before .before .before .before .before .before .before .junction-of .ensures) (c .before .before .before .before .before .before .before .before .junction-of2 .ensures) (c .before .before .before .of-word2 .ensures) (c .before .before .down-of .ensures) (c .before .before .before .before .before .before .before .before .before .before .before .before .before .before .of-word .ensures) (c .before .or-sum .ensures) (c .word .ensures)
+returns-6 c =
+    let after-down-of = c .before .before in
+    let after-of-word2 = after-down-of .before in
+    let after-junction-of2 = after-of-word2 .before .before .before .before .before in
+    let after-high-of = after-junction-of2 .before .before .before in
+    let after-of-word = after-high-of .before .before .before in
+    let after-junction-of = after-of-word .before .before .before .before .before in
+    let after-low-of = after-junction-of .before .before .before in
+    handed _ _ _ _ _ _ _ _ _ _ _ _ _ _ (after-low-of .low-of .ensures) (after-high-of .high-of .ensures)
+    (after-junction-of .junction-of .ensures) (after-junction-of2 .junction-of2 .ensures) (after-of-word2 .of-word2 .ensures)
+    (after-down-of .down-of .ensures) (after-of-word .of-word .ensures) (c .before .or-sum .ensures) (c .word .ensures)
 
 pub hand-down-spec : {M : Type 1} → statement M
 hand-down-spec =

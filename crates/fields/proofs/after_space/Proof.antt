@@ -4,10 +4,14 @@ use Rattle.fields.proofs.after_space.Statement.{statement}
 use Rattle.fields.proofs.after_space.Tie as tie
 
 returns : tie.Need-returns
-returns c = after-is _ _ (c .before .before .space-in .ensures .0)
+returns c =
+    let after-space-in = c .before .before in
+    after-is _ _ (after-space-in .space-in .ensures .0)
 
 returns-2 : tie.Need-returns-2
-returns-2 c = after-none _ _ (c .before .before .space-in .ensures .0) (search needs)
+returns-2 c =
+    let after-space-in = c .before .before in
+    after-none _ _ (after-space-in .space-in .ensures .0) (search needs)
 
 pub after-space-spec : {M : Type 1} → statement M
 after-space-spec =

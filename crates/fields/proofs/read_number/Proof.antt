@@ -25,19 +25,42 @@ loop-holds : tie.Need-loop-holds Inv-loop μ-loop
 loop-holds c = (omega arith, omega arith, refl, refl)
 
 returns-3 : tie.Need-returns-3 Inv-loop μ-loop
-returns-3 c = below-digits _ (c .before .before .before .before .loop .i) (c .before .before .before .before .loop .v) _ (search needs) (c .before .wide .ensures) (c .before .before .before .before .loop .inv .2) (c .before .before .before .before .loop .inv .3) (c .if3 .taken)
+returns-3 c =
+    let at-loop = c .before .before .before .before in
+    below-digits _ (at-loop .loop .i) (at-loop .loop .v) _ (search needs) (c .before .wide .ensures) (at-loop .loop .inv .2)
+    (at-loop .loop .inv .3) (c .if3 .taken)
 
 returns-4 : tie.Need-returns-4 Inv-loop μ-loop
-returns-4 c = above-digits _ (c .before .before .before .before .before .loop .i) (c .before .before .before .before .before .loop .v) _ (search needs) (c .before .before .wide .ensures) (c .before .before .before .before .before .loop .inv .2) (c .before .before .before .before .before .loop .inv .3) (c .if4 .taken)
+returns-4 c =
+    let after-wide = c .before .before in
+    let at-loop = after-wide .before .before .before in
+    above-digits _ (at-loop .loop .i) (at-loop .loop .v) _ (search needs) (after-wide .wide .ensures) (at-loop .loop .inv .2)
+    (at-loop .loop .inv .3) (c .if4 .taken)
 
 returns-5 : tie.Need-returns-5 Inv-loop μ-loop
-returns-5 c = overflow _ (c .before .before .before .before .before .before .before .loop .i) (c .before .before .before .before .before .before .before .loop .v) _ (search needs) (c .before .before .before .before .wide .ensures) (c .before .before .before .before .before .before .before .loop .inv .2) (c .before .before .before .before .before .before .before .loop .inv .3) (c .if5 .taken)
+returns-5 c =
+    let after-wide = c .before .before .before .before in
+    let at-loop = after-wide .before .before .before in
+    overflow _ (at-loop .loop .i) (at-loop .loop .v) _ (search needs) (after-wide .wide .ensures) (at-loop .loop .inv .2)
+    (at-loop .loop .inv .3) (c .if5 .taken)
 
 loop-again : tie.Need-loop-again Inv-loop μ-loop
-loop-again c = (search needs, c .if5 .left, value-next _ (c .before .before .before .before .before .before .before .loop .i) (c .before .before .before .before .before .before .before .loop .v) _ (search needs) (c .before .before .before .before .wide .ensures) (c .before .before .before .before .before .before .before .loop .inv .2) (c .before .before .before .before .before .before .before .loop .inv .3), digits-next _ (c .before .before .before .before .before .before .before .loop .i) (c .before .before .before .before .before .before .before .loop .v) _ (search needs) (c .before .before .before .before .wide .ensures) (c .before .before .before .before .before .before .before .loop .inv .2) (c .before .before .before .before .before .before .before .loop .inv .3) (search needs) (search needs))
+loop-again c =
+    let after-wide = c .before .before .before .before in
+    let at-loop = after-wide .before .before .before in (
+      search needs,
+      c .if5 .left,
+      value-next _ (at-loop .loop .i) (at-loop .loop .v) _ (search needs) (after-wide .wide .ensures) (at-loop .loop .inv .2)
+          (at-loop .loop .inv .3),
+      digits-next _ (at-loop .loop .i) (at-loop .loop .v) _ (search needs) (after-wide .wide .ensures) (at-loop .loop .inv .2)
+          (at-loop .loop .inv .3) (search needs) (search needs),
+    )
 
 returns-6 : tie.Need-returns-6 Inv-loop μ-loop
-returns-6 c = complete _ (c .before .loop .i) (c .before .loop .v) (search needs) (search needs) (search needs) (search needs) (c .before .loop .inv .2) (c .before .loop .inv .3)
+returns-6 c =
+    let at-loop = c .before in
+    complete _ (at-loop .loop .i) (at-loop .loop .v) (search needs) (search needs) (search needs) (search needs) (at-loop .loop .inv .2)
+    (at-loop .loop .inv .3)
 
 pub read-number-spec : {M : Type 1} → statement M
 read-number-spec =

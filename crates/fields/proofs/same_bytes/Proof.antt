@@ -21,13 +21,22 @@ loop-holds : tie.Need-loop-holds Inv-loop μ-loop
 loop-holds c = (omega arith, search needs, refl)
 
 returns-2 : tie.Need-returns-2 Inv-loop μ-loop
-returns-2 c = same-stop _ _ (c .before .before .before .before .loop .i) (c .before .before .before .before .loop .inv .1) (c .before .before .before .before .loop .inv .2) (search needs) (c .if2 .taken)
+returns-2 c =
+    let at-loop = c .before .before .before .before in
+    same-stop _ _ (at-loop .loop .i) (at-loop .loop .inv .1) (at-loop .loop .inv .2) (search needs) (c .if2 .taken)
 
 loop-again : tie.Need-loop-again Inv-loop μ-loop
-loop-again c = (search needs, search needs, same-turn _ _ (c .before .before .before .before .loop .i) (c .before .before .before .before .loop .inv .1) (c .before .before .before .before .loop .inv .2) (search needs) (c .if2 .left))
+loop-again c =
+    let at-loop = c .before .before .before .before in (
+      search needs,
+      search needs,
+      same-turn _ _ (at-loop .loop .i) (at-loop .loop .inv .1) (at-loop .loop .inv .2) (search needs) (c .if2 .left),
+    )
 
 returns-3 : tie.Need-returns-3 Inv-loop μ-loop
-returns-3 c = same-end _ _ (c .before .loop .i) (c .before .loop .inv .1) (c .before .loop .inv .2) (search needs)
+returns-3 c =
+    let at-loop = c .before in
+    same-end _ _ (at-loop .loop .i) (at-loop .loop .inv .1) (at-loop .loop .inv .2) (search needs)
 
 pub same-bytes-spec : {M : Type 1} → statement M
 same-bytes-spec =

@@ -14,10 +14,20 @@ abbrev μ-loop : tie.MeasureT-loop
 μ-loop roads live₀ i₀ live i = length live₀ - i
 
 loop-again : tie.Need-loop-again Inv-loop μ-loop
-loop-again c = (search needs, search needs, bases-turn _ (c .before .before .before .loop .i) (c .before .before .before .loop .live) _ _ (c .before .before .loop-test .taken) (c .before .before .before .loop .inv .2) (c .before .base-of .ensures) (c .word .ensures))
+loop-again c =
+    let in-loop = c .before .before in
+    let at-loop = in-loop .before in (
+      search needs,
+      search needs,
+      bases-turn _ (at-loop .loop .i) (at-loop .loop .live) _ _ (in-loop .loop-test .taken) (at-loop .loop .inv .2)
+          (c .before .base-of .ensures) (c .word .ensures),
+    )
 
 returns : tie.Need-returns Inv-loop μ-loop
-returns c = bases-end (c .before .before .before .before .args .roads .now) (c .before .loop .i) _ _ (c .before .loop .inv .1) (omega arith) (c .before .loop .inv .2)
+returns c =
+    let at-loop = c .before in
+    let start = at-loop .before .before .before in
+    bases-end (start .args .roads .now) (at-loop .loop .i) _ _ (at-loop .loop .inv .1) (omega arith) (at-loop .loop .inv .2)
 
 pub fill-live-spec : {M : Type 1} → statement M
 fill-live-spec =

@@ -6,7 +6,14 @@ use Rattle.fronts.proofs.begin_front.Statement.{statement}
 use Rattle.fronts.proofs.begin_front.Tie as tie
 
 returns : tie.Need-returns
-returns c = record { cursor-is = refl; ahead-is = refl; ends-are = refl; soon-is = ap (set (c .before .before .before .before .before .before .before .before .args .soon .now) (c .before .before .before .before .before .before .before .before .args .r .0 / 32)) (c .least .ensures) }
+returns c =
+    let start = c .before .before .before .before .before .before .before .before in
+    record {
+      cursor-is = refl;
+      ahead-is = refl;
+      ends-are = refl;
+      soon-is = ap (set (start .args .soon .now) (start .args .r .0 / 32)) (c .least .ensures);
+    }
 
 pub begin-front-spec : {M : Type 1} → statement M
 begin-front-spec =

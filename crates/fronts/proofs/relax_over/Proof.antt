@@ -8,7 +8,9 @@ use Rattle.fronts.proofs.relax_over.Statement.{statement}
 use Rattle.fronts.proofs.relax_over.Tie as tie
 
 abbrev Inv-loop : tie.InvT-loop
-Inv-loop pairs i end ups₀ downs₀ touched₀ k down up j₀ ups downs touched j = (i + 1 ≤ j) × (j ≤ end) × (length ups ≡ length ups₀) × (length downs ≡ length downs₀) × (length touched ≡ length touched₀) × Going pairs (i + 1) end (down .0) (up .0) j ups₀ downs₀ touched₀ ups downs touched
+Inv-loop pairs i end ups₀ downs₀ touched₀ k down up j₀ ups downs touched j = (i + 1 ≤ j) × (j ≤ end) × (length ups ≡ length ups₀)
+    × (length downs ≡ length downs₀) × (length touched ≡ length touched₀)
+    × Going pairs (i + 1) end (down .0) (up .0) j ups₀ downs₀ touched₀ ups downs touched
 
 abbrev μ-loop : tie.MeasureT-loop
 μ-loop pairs i end ups₀ downs₀ touched₀ k down up j₀ ups downs touched j = end - j
@@ -17,22 +19,60 @@ loop-holds : tie.Need-loop-holds Inv-loop μ-loop
 loop-holds c = (search needs, search needs, refl, refl, refl, going-start _ _ _ _ _ _ _ _)
 
 cast-h : tie.Need-cast-h Inv-loop μ-loop
-cast-h c = let q = c .before .before .before .before .before .before .before .before .before .before .before .pre .2 .ups-in (c .before .before .loop .j) (c .before .before .loop .inv .0) (c .before .loop-test .taken) in search needs
+cast-h c =
+    let q = (let at-loop = c .before .before in
+    let start = at-loop .before .before .before .before .before .before .before .before .before in
+    start .pre .2 .ups-in (at-loop .loop .j) (at-loop .loop .inv .0) (c .before .loop-test .taken)) in search needs
 
 relax-entry-requires : tie.Need-relax-entry-requires Inv-loop μ-loop
-relax-entry-requires c κs = in-length _ _ _ (c .before .before .before .before .before .before .before .before .before .before .before .before .before .before .pre .2 .ups-in (c .before .before .before .before .before .loop .j) (c .before .before .before .before .before .loop .inv .0) (c .before .before .before .before .loop-test .taken)) (c .before .before .before .before .before .loop .inv .2)
+relax-entry-requires c κs =
+    let in-loop = c .before .before .before .before in
+    let at-loop = in-loop .before in
+    let start = at-loop .before .before .before .before .before .before .before .before .before in
+    in-length _ _ _ (start .pre .2 .ups-in (at-loop .loop .j) (at-loop .loop .inv .0) (in-loop .loop-test .taken)) (at-loop .loop .inv .2)
 
 relax-entry-requires-2 : tie.Need-relax-entry-requires-2 Inv-loop μ-loop
-relax-entry-requires-2 c κs = in-length _ _ _ (c .before .before .before .before .before .before .before .before .before .before .before .before .before .before .before .before .before .before .before .before .pre .2 .downs-in (c .before .before .before .before .before .before .before .before .before .before .before .loop .j) (c .before .before .before .before .before .before .before .before .before .before .before .loop .inv .0) (c .before .before .before .before .before .before .before .before .before .before .loop-test .taken)) (c .before .before .before .before .before .before .before .before .before .before .before .loop .inv .3)
+relax-entry-requires-2 c κs =
+    let in-loop = c .before .before .before .before .before .before .before .before .before .before in
+    let at-loop = in-loop .before in
+    let start = at-loop .before .before .before .before .before .before .before .before .before in
+    in-length _ _ _ (start .pre .2 .downs-in (at-loop .loop .j) (at-loop .loop .inv .0) (in-loop .loop-test .taken)) (at-loop .loop .inv .3)
 
 mark-requires : tie.Need-mark-requires Inv-loop μ-loop
-mark-requires c κs = in-blocks _ _ _ (c .before .before .before .before .before .before .before .before .before .before .before .before .before .before .before .before .before .before .before .before .before .before .before .before .pre .2 .marks-in (c .before .before .before .before .before .before .before .before .before .before .before .before .before .before .before .loop .j) (c .before .before .before .before .before .before .before .before .before .before .before .before .before .before .before .loop .inv .0) (c .before .before .before .before .before .before .before .before .before .before .before .before .before .before .loop-test .taken)) (c .before .before .before .before .before .before .before .before .before .before .before .before .before .before .before .loop .inv .4)
+mark-requires c κs =
+    let after-of-word3 = c .before .before .before .before .before .before .before .before .before .before in
+    let in-loop = after-of-word3 .before .before .before .before in
+    let at-loop = in-loop .before in
+    let start = at-loop .before .before .before .before .before .before .before .before .before in
+    in-blocks _ _ _ (start .pre .2 .marks-in (at-loop .loop .j) (at-loop .loop .inv .0) (in-loop .loop-test .taken)) (at-loop .loop .inv .4)
 
 loop-less : tie.Need-loop-less Inv-loop μ-loop
-loop-less c = less _ _ (c .before .before .before .before .before .before .before .before .before .before .before .before .before .before .before .before .before .loop-test .taken)
+loop-less c =
+    let after-relax-entry = c .before .before .before .before .before .before .before .before .before .before .before .before in
+    let in-loop = after-relax-entry .before .before .before .before .before in
+    less _ _ (in-loop .loop-test .taken)
 
 loop-again : tie.Need-loop-again Inv-loop μ-loop
-loop-again c = (le-more _ _ (c .before .before .before .before .before .before .before .before .before .before .before .before .before .before .before .before .before .before .loop .inv .0), lt-next _ _ (c .before .before .before .before .before .before .before .before .before .before .before .before .before .before .before .before .before .loop-test .taken), c .before .before .before .before .before .before .before .before .before .before .before .before .relax-entry .kept .0 ∙ c .before .before .before .before .before .before .before .before .before .before .before .before .before .before .before .before .before .before .loop .inv .2, c .before .before .before .before .before .before .relax-entry2 .kept .0 ∙ c .before .before .before .before .before .before .before .before .before .before .before .before .before .before .before .before .before .before .loop .inv .3, c .before .before .mark .kept .0 ∙ c .before .before .before .before .before .before .before .before .before .before .before .before .before .before .before .before .before .before .loop .inv .4, going-turn _ _ _ _ _ _ _ _ (c .before .before .before .before .before .before .before .before .before .before .before .before .before .before .before .before .before .before .loop .j) _ _ _ _ _ _ _ _ _ (c .before .before .before .before .before .before .before .before .before .before .before .before .before .before .before .before .before .before .loop .inv .0) (c .before .before .before .before .before .before .before .before .before .before .before .before .before .before .before .before .before .loop-test .taken) refl (c .before .before .before .before .before .before .before .before .before .before .before .before .before .of-word3 .ensures) (c .before .before .before .before .before .before .before .before .before .before .before .before .relax-entry .ensures) (c .before .before .before .before .before .before .before .of-word4 .ensures) (c .before .before .before .before .before .before .relax-entry2 .ensures) (in-blocks _ _ _ (c .before .before .before .before .before .before .before .before .before .before .before .before .before .before .before .before .before .before .before .before .before .before .before .before .before .before .before .pre .2 .marks-in (c .before .before .before .before .before .before .before .before .before .before .before .before .before .before .before .before .before .before .loop .j) (c .before .before .before .before .before .before .before .before .before .before .before .before .before .before .before .before .before .before .loop .inv .0) (c .before .before .before .before .before .before .before .before .before .before .before .before .before .before .before .before .before .loop-test .taken)) (c .before .before .before .before .before .before .before .before .before .before .before .before .before .before .before .before .before .before .loop .inv .4)) (c .before .before .mark .ensures) (c .before .before .before .before .before .before .before .before .before .before .before .before .before .before .before .before .before .before .loop .inv .5))
+loop-again c =
+    let after-mark = c .before .before in
+    let after-relax-entry2 = after-mark .before .before .before .before in
+    let after-of-word4 = after-relax-entry2 .before in
+    let after-relax-entry = after-of-word4 .before .before .before .before .before in
+    let after-of-word3 = after-relax-entry .before in
+    let in-loop = after-of-word3 .before .before .before .before in
+    let at-loop = in-loop .before in
+    let start = at-loop .before .before .before .before .before .before .before .before .before in (
+      le-more _ _ (at-loop .loop .inv .0),
+      lt-next _ _ (in-loop .loop-test .taken),
+      after-relax-entry .relax-entry .kept .0 ∙ at-loop .loop .inv .2,
+      after-relax-entry2 .relax-entry2 .kept .0 ∙ at-loop .loop .inv .3,
+      after-mark .mark .kept .0 ∙ at-loop .loop .inv .4,
+      going-turn _ _ _ _ _ _ _ _ (at-loop .loop .j) _ _ _ _ _ _ _ _ _ (at-loop .loop .inv .0) (in-loop .loop-test .taken) refl
+          (after-of-word3 .of-word3 .ensures) (after-relax-entry .relax-entry .ensures) (after-of-word4 .of-word4 .ensures)
+          (after-relax-entry2 .relax-entry2 .ensures) (in-blocks
+          _ _ _ (start .pre .2 .marks-in (at-loop .loop .j) (at-loop .loop .inv .0) (in-loop .loop-test .taken)) (at-loop .loop .inv .4))
+          (after-mark .mark .ensures) (at-loop .loop .inv .5),
+    )
 
 same-length : tie.Need-same-length Inv-loop μ-loop
 same-length c = c .before .loop .inv .2
@@ -44,7 +84,12 @@ same-length-3 : tie.Need-same-length-3 Inv-loop μ-loop
 same-length-3 c = c .before .loop .inv .4
 
 returns : tie.Need-returns Inv-loop μ-loop
-returns c = going-end (c .before .loop .inv .1) (c .loop-test .left) (c .before .before .before .before .of-word .ensures) (c .before .before .of-word2 .ensures) (c .before .loop .inv .5)
+returns c =
+    let at-loop = c .before in
+    let after-of-word2 = at-loop .before in
+    let after-of-word = after-of-word2 .before .before in
+    going-end (at-loop .loop .inv .1) (c .loop-test .left) (after-of-word .of-word .ensures) (after-of-word2 .of-word2 .ensures)
+    (at-loop .loop .inv .5)
 
 pub relax-over-spec : {M : Type 1} → statement M
 relax-over-spec =

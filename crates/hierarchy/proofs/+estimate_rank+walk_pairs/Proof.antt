@@ -85,23 +85,63 @@ pub +estimate-rank+walk-pairs-spec : {M : Type 1} → statement M
     (λ c κs. search needs)
     (λ c κs. search needs)
     (λ c. search needs)
-    (λ c. stands _ _ _ _ _ _ _ (search needs) (search needs) _ (c .before .before .known-of .ensures) (eqb-false _ _ (sym (c .before .is-unasked .ensures) ∙ not-true _ (c .if1 .taken))))
+    (λ c.
+    let after-known-of = c .before .before in
+    stands _ _ _ _ _ _ _ (search needs) (search needs) _ (after-known-of .known-of .ensures)
+    (eqb-false _ _ (sym (c .before .is-unasked .ensures) ∙ not-true _ (c .if1 .taken))))
     (λ c κs. search needs)
-    (λ c. search needs)
-    (λ c. let u = unasked-entry _ _ _ _ _ (c .before .junction-of .ensures) (sym (c .before .before .before .before .known-of .ensures) ∙ eqb-true _ _ (sym (c .before .before .before .is-unasked .ensures) ∙ not-false _ (c .before .before .if1 .left))) in search needs)
-    (λ c. let u = unasked-entry _ _ _ _ _ (c .before .before .junction-of .ensures) (sym (c .before .before .before .before .before .known-of .ensures) ∙ eqb-true _ _ (sym (c .before .before .before .before .is-unasked .ensures) ∙ not-false _ (c .before .before .before .if1 .left))) in search needs)
-    (λ c κs. search needs)
-    (λ c κs. search needs)
-    (λ c κs. search needs)
-    (λ c κs. search needs)
-    (λ c. search needs)
-    (λ c. let u : _ < _ = unasked-entry _ _ _ _ _ (c .before .before .before .before .before .before .before .before .before .junction-of .ensures) (sym (c .before .before .before .before .before .before .before .before .before .before .before .before .known-of .ensures) ∙ eqb-true _ _ (sym (c .before .before .before .before .before .before .before .before .before .before .before .is-unasked .ensures) ∙ not-false _ (c .before .before .before .before .before .before .before .before .before .before .if1 .left))) .0 in omega (arith, u, c .before .before .before .before .walk-pairs .kept .1 .1 .1 .1 .1 .0, c .before .before .before .before .before .before .before .before .before .before .before .before .before .before .before .before .before .before .pre .1 .4))
     (λ c. search needs)
     (λ c.
-    let u = unasked-entry _ _ _ _ _ (c .before .before .before .before .before .before .before .before .before .junction-of .ensures) (sym (c .before .before .before .before .before .before .before .before .before .before .before .before .known-of .ensures) ∙ eqb-true _ _ (sym (c .before .before .before .before .before .before .before .before .before .before .before .is-unasked .ensures) ∙ not-false _ (c .before .before .before .before .before .before .before .before .before .before .if1 .left))) in
-    let p = c .before .before .before .before .before .before .before .before .before .before .before .before .before .before .before .before .before .before .pre .1 in
-    computed _ _ _ _ _ _ _ (p .0) (c .before .before .before .before .before .before .before .before .before .junction-of .result .0) (c .before .before .before .before .before .before .before .before .before .junction-of .ensures) _ _ _ _ _ (u .1) (c .before .before .before .before .walk-pairs .kept .1 .1 .1 .1 .1 .0 ∙ p .4) (c .before .before .before .before .before .before .of-word .ensures)
-    (c .before .before .before .before .walk-pairs .ensures) (c .before .answer-of .ensures)
+    let u = (let else1 = c .before .before in
+    let after-is-unasked = else1 .before in
+    let after-known-of = after-is-unasked .before in
+    unasked-entry _ _ _ _ _ (c .before .junction-of .ensures)
+    (sym (after-known-of .known-of .ensures) ∙ eqb-true
+    _ _ (sym (after-is-unasked .is-unasked .ensures) ∙ not-false _ (else1 .if1 .left)))) in search needs)
+    (λ c.
+    let u = (let after-junction-of = c .before .before in
+    let else1 = after-junction-of .before in
+    let after-is-unasked = else1 .before in
+    let after-known-of = after-is-unasked .before in
+    unasked-entry _ _ _ _ _ (after-junction-of .junction-of .ensures)
+    (sym (after-known-of .known-of .ensures) ∙ eqb-true
+    _ _ (sym (after-is-unasked .is-unasked .ensures) ∙ not-false _ (else1 .if1 .left)))) in search needs)
+    (λ c κs. search needs)
+    (λ c κs. search needs)
+    (λ c κs. search needs)
+    (λ c κs. search needs)
+    (λ c. search needs)
+    (λ c.
+    let after-walk-pairs = c .before .before .before .before in
+    let after-junction-of = after-walk-pairs .before .before .before .before .before in
+    let else1 = after-junction-of .before in
+    let after-is-unasked = else1 .before in
+    let after-known-of = after-is-unasked .before in
+    let start = after-known-of .before .before .before .before .before .before in
+    let u : _ < _ = unasked-entry _ _ _ _ _ (after-junction-of .junction-of .ensures)
+    (sym (after-known-of .known-of .ensures) ∙ eqb-true
+    _ _ (sym (after-is-unasked .is-unasked .ensures) ∙ not-false _ (else1 .if1 .left))) .0 in omega (
+      arith,
+      u,
+      after-walk-pairs .walk-pairs .kept .1 .1 .1 .1 .1 .0,
+      start .pre .1 .4,
+    ))
+    (λ c. search needs)
+    (λ c.
+    let after-walk-pairs = c .before .before .before .before in
+    let after-of-word = after-walk-pairs .before .before in
+    let after-junction-of = after-of-word .before .before .before in
+    let else1 = after-junction-of .before in
+    let after-is-unasked = else1 .before in
+    let after-known-of = after-is-unasked .before in
+    let start = after-known-of .before .before .before .before .before .before in
+    let u = unasked-entry _ _ _ _ _ (after-junction-of .junction-of .ensures)
+    (sym (after-known-of .known-of .ensures) ∙ eqb-true
+    _ _ (sym (after-is-unasked .is-unasked .ensures) ∙ not-false _ (else1 .if1 .left))) in
+    let p = start .pre .1 in
+    computed _ _ _ _ _ _ _ (p .0) (after-junction-of .junction-of .result .0) (after-junction-of .junction-of .ensures) _ _ _ _ _ (u .1)
+    (after-walk-pairs .walk-pairs .kept .1 .1 .1 .1 .1 .0 ∙ p .4) (after-of-word .of-word .ensures)
+    (after-walk-pairs .walk-pairs .ensures) (c .before .answer-of .ensures)
     (c .word .ensures)))
     λ t. walk-pairs-lts.spec (
       start-of-reads.Asked,
@@ -132,20 +172,28 @@ pub +estimate-rank+walk-pairs-spec : {M : Type 1} → statement M
     (λ c. search needs)
     (λ c κs. search needs)
     (λ c. search needs)
-    (λ c. walk-stop _ _ _ _ _ _ _ _ (search needs) _ _ _ (c .before .before .before .before .before .loop .inv .2) _ (c .before .before .before .before .loop-test .taken) (c .before .before .before .low-of .ensures) (c .if1 .taken))
+    (λ c. walk-stop _ _ _ _ _ _ _ _ (search needs) _ _ _ (c .before .before .before .before .before .loop .inv .2)
+    _ (c .before .before .before .before .loop-test .taken) (c .before .before .before .low-of .ensures) (c .if1 .taken))
     (λ c κs. search needs)
     (λ c κs. search needs)
     (λ c κs. search needs)
     (λ c κs.
-    let f = leads-facts _ _ _ _ _ (sym (c .before .before .leads-up .ensures) ∙ c .before .if2 .taken) in
-    let p = c .before .before .before .before .before .before .before .before .before .before .before .before .before .before .before .before .pre .1 in
-    (f .below, p .1, p .2, c .before .before .before .before .before .before .before .before .before .before .loop .inv .1))
+    let after-leads-up = c .before .before in
+    let at-loop = after-leads-up .before .before .before .before .before .before .before .before in
+    let start = at-loop .before .before .before .before .before .before in
+    let f = leads-facts _ _ _ _ _ (sym (after-leads-up .leads-up .ensures) ∙ c .before .if2 .taken) in
+    let p = start .pre .1 in
+    (f .below, p .1, p .2, at-loop .loop .inv .1))
     (λ c κs. search needs)
     (λ c κs.
-    let f = leads-facts _ _ _ _ _ (sym (c .before .before .before .before .before .before .leads-up .ensures) ∙ c .before .before .before .before .before .if2 .taken) in
-    let p = c .before .before .before .before .before .before .before .before .before .before .before .before .before .before .before .before .before .before .before .before .pre .1 in (
+    let then2 = c .before .before .before .before .before in
+    let after-leads-up = then2 .before in
+    let at-loop = after-leads-up .before .before .before .before .before .before .before .before in
+    let start = at-loop .before .before .before .before .before .before in
+    let f = leads-facts _ _ _ _ _ (sym (after-leads-up .leads-up .ensures) ∙ then2 .if2 .taken) in
+    let p = start .pre .1 in (
       omega (arith, f .rises, f .below),
-      (f .below, p .1, p .2, p .3, c .before .before .before .before .before .before .before .before .before .before .before .before .before .before .loop .inv .1, p .5, p .6),
+      (f .below, p .1, p .2, p .3, at-loop .loop .inv .1, p .5, p .6),
     ))
     (λ c κs. search needs)
     (λ c. search needs)
@@ -155,28 +203,50 @@ pub +estimate-rank+walk-pairs-spec : {M : Type 1} → statement M
       search needs,
       search needs,
       walk-take _ _ _ _ _ _ _ _ (c .before .before .before .before .before .before .before .before .before .before .before .before .before .before .before .before .before .before .before .before .before .before .before .before .pre .1 .0) _ _ _ (l .2) (d .before .before .before .before .before .before .before .loop-test .taken)
-          (leads-read _ _ _ _ _ _ _ _ _ (d .leads-up .ensures) (d .before .before .before .before .before .before .low-of .ensures) (d .before .before .high-of .ensures) (d .before .up-of .ensures) ∙ c .before .before .before .before .before .before .before .before .before .if2 .taken) _ _ _ _ _ (d .before .before .high-of .ensures)
+          (leads-read _ _ _ _ _ _ _ _ _ (d .leads-up .ensures) (d .before .before .before .before .before .before .low-of .ensures)
+          (d .before .before .high-of .ensures) (d .before .up-of .ensures)
+          ∙ c .before .before .before .before .before .before .before .before .before .if2 .taken)
+          _ _ _ _ _ (d .before .before .high-of .ensures)
           (d .before .up-of .ensures) (c .before .before .before .estimate-rank .ensures) (c .or-sum .ensures),
     ))
     (λ c κs. search needs)
     (λ c. search needs)
     (λ c.
-    let d = c .before .before .before .before .before .before in
-    let l = d .before .before .before .before .before .before .before .before .loop .inv in
-    let f = leads-facts _ _ _ _ _ (sym (d .leads-up .ensures) ∙ c .before .before .before .before .before .if2 .taken) in (
+    let after-is-unasked = c .before .before in
+    let after-known-of = after-is-unasked .before in
+    let then2 = after-known-of .before .before in
+    let after-leads-up = then2 .before in
+    let after-up-of = after-leads-up .before in
+    let after-high-of = after-up-of .before in
+    let after-low-of = after-high-of .before .before .before .before in
+    let in-loop = after-low-of .before in
+    let at-loop = in-loop .before in
+    let start = at-loop .before .before .before .before .before .before in
+    let l = at-loop .loop .inv in
+    let f = leads-facts _ _ _ _ _ (sym (after-leads-up .leads-up .ensures) ∙ then2 .if2 .taken) in (
       search needs,
       search needs,
-      walk-take _ _ _ _ _ _ _ _ (c .before .before .before .before .before .before .before .before .before .before .before .before .before .before .before .before .before .before .before .before .pre .1 .0) _ _ _ (l .2) (d .before .before .before .before .before .before .before .loop-test .taken)
-          (leads-read _ _ _ _ _ _ _ _ _ (d .leads-up .ensures) (d .before .before .before .before .before .before .low-of .ensures) (d .before .before .high-of .ensures) (d .before .up-of .ensures) ∙ c .before .before .before .before .before .if2 .taken) _ _ _ _ _ (d .before .before .high-of .ensures)
-          (d .before .up-of .ensures) (stands _ _ _ _ _ _ _ (f .below) (l .1) _ (c .before .before .before .known-of .ensures) (eqb-false _ _ (sym (c .before .before .is-unasked .ensures) ∙ c .before .if3 .left))) (c .or-sum2 .ensures),
+      walk-take _ _ _ _ _ _ _ _ (start .pre .1 .0) _ _ _ (l .2) (in-loop .loop-test .taken)
+          (leads-read _ _ _ _ _ _ _ _ _ (after-leads-up .leads-up .ensures) (after-low-of .low-of .ensures)
+          (after-high-of .high-of .ensures) (after-up-of .up-of .ensures) ∙ then2 .if2 .taken) _ _ _ _ _ (after-high-of .high-of .ensures)
+          (after-up-of .up-of .ensures) (stands _ _ _ _ _ _ _ (f .below) (l .1) _ (after-known-of .known-of .ensures)
+          (eqb-false _ _ (sym (after-is-unasked .is-unasked .ensures) ∙ c .before .if3 .left))) (c .or-sum2 .ensures),
     ))
     (λ c. search needs)
     (λ c.
-    let d = c .before in (
+    let after-up-of = c .before .before in
+    let after-high-of = after-up-of .before in
+    let after-low-of = after-high-of .before .before .before .before in
+    let in-loop = after-low-of .before in
+    let at-loop = in-loop .before in
+    let start = at-loop .before .before .before .before .before .before in (
       search needs,
       search needs,
-      walk-skip _ _ _ _ _ _ _ _ (c .before .before .before .before .before .before .before .before .before .before .before .before .before .before .before .pre .1 .0) _ _ _ (d .before .before .before .before .before .before .before .before .loop .inv .2) (d .before .before .before .before .before .before .before .loop-test .taken)
-          (leads-read _ _ _ _ _ _ _ _ _ (d .leads-up .ensures) (d .before .before .before .before .before .before .low-of .ensures) (d .before .before .high-of .ensures) (d .before .up-of .ensures) ∙ c .if2 .left),
+      walk-skip _ _ _ _ _ _ _ _ (start .pre .1 .0) _ _ _ (at-loop .loop .inv .2) (in-loop .loop-test .taken)
+          (leads-read _ _ _ _ _ _ _ _ _ (c .before .leads-up .ensures) (after-low-of .low-of .ensures) (after-high-of .high-of .ensures)
+          (after-up-of .up-of .ensures) ∙ c .if2 .left),
     ))
     (λ c. search needs)
-    (λ c. walk-end _ _ _ _ _ _ _ _ (search needs) _ _ _ (c .before .loop .inv .2) (c .before .loop .inv .0) (c .loop-test .left))
+    (λ c.
+    let at-loop = c .before in
+    walk-end _ _ _ _ _ _ _ _ (search needs) _ _ _ (at-loop .loop .inv .2) (at-loop .loop .inv .0) (c .loop-test .left))

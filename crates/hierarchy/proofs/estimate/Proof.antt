@@ -4,12 +4,16 @@ use Rattle.hierarchy.proofs.estimate.Statement.{statement}
 use Rattle.hierarchy.proofs.estimate.Tie as tie
 
 returns : tie.Need-returns
-returns c = unranked _ _ _ _ _ _ _ _ _ (search needs) (search needs) (c .before .before .rank-of .ensures) (c .if1 .taken)
+returns c =
+    let after-rank-of = c .before .before in
+    unranked _ _ _ _ _ _ _ _ _ (search needs) (search needs) (after-rank-of .rank-of .ensures) (c .if1 .taken)
 
 returns-2 : tie.Need-returns-2
 returns-2 c =
-    estimated _ _ _ _ _ _ _ _ _ (search needs) (search needs) (c .before .before .before .before .before .before .rank-of .ensures) _ _
-    (c .before .before .estimate-rank .ensures)
+    let after-estimate-rank = c .before .before in
+    let after-rank-of = after-estimate-rank .before .before .before .before in
+    estimated _ _ _ _ _ _ _ _ _ (search needs) (search needs) (after-rank-of .rank-of .ensures) _ _
+    (after-estimate-rank .estimate-rank .ensures)
 
 pub estimate-spec : {M : Type 1} → statement M
 estimate-spec = tie.close (tie.spec (λ c κs. search needs) returns (λ c κs. search needs) (λ c. search needs) returns-2)

@@ -4,12 +4,14 @@ use Rattle.hierarchy.proofs.known_of.Statement.{statement}
 use Rattle.hierarchy.proofs.known_of.Tie as tie
 
 returns : tie.Need-returns
-returns c = standing-none _ _ _ _ _ (c .before .before .junction-of .ensures) (c .if1 .taken)
+returns c =
+    let after-junction-of = c .before .before in
+    standing-none _ _ _ _ _ (after-junction-of .junction-of .ensures) (c .if1 .taken)
 
 returns-2 : tie.Need-returns-2
 returns-2 c =
-    let u = c .before .before .before in
-    standing-entry _ _ _ _ _ (u .before .before .junction-of .ensures) (search needs) _ (c .of-word .ensures)
+    let after-junction-of = c .before .before .before .before .before in
+    standing-entry _ _ _ _ _ (after-junction-of .junction-of .ensures) (search needs) _ (c .of-word .ensures)
 
 pub known-of-spec : {M : Type 1} → statement M
 known-of-spec =

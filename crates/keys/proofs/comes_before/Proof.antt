@@ -4,7 +4,9 @@ use Rattle.keys.proofs.comes_before.Statement.{statement}
 use Rattle.keys.proofs.comes_before.Tie as tie
 
 returns : tie.Need-returns
-returns c = before-less (c .before .before .before .args .keys .now) _ _ (c .if1 .taken)
+returns c =
+    let start = c .before .before .before in
+    before-less (start .args .keys .now) _ _ (c .if1 .taken)
 
 returns-2 : tie.Need-returns-2
 returns-2 c =

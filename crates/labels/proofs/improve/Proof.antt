@@ -5,8 +5,9 @@ use Rattle.labels.proofs.improve.Tie as tie
 
 returns : tie.Need-returns
 returns c =
-    let at-of-word = c .before .before .before .before .before in
-    stored-at _ _ _ _ _ _ _ _ _ _ _ _ (at-of-word .of-word .ensures) (c .word .ensures) (c .before .before .improved .ensures)
+    let after-improved = c .before .before in
+    let after-of-word = after-improved .before .before .before in
+    stored-at _ _ _ _ _ _ _ _ _ _ _ _ (after-of-word .of-word .ensures) (c .word .ensures) (after-improved .improved .ensures)
 
 pub improve-spec : {M : Type 1} → statement M
 improve-spec =

@@ -15,31 +15,32 @@ returns-2 c = settled (c .if2 .taken)
 
 returns-3 : tie.Need-returns-3
 returns-3 c =
-    let at-if2 = c .before .before .before .before .before in
-    let at-if1 = at-if2 .before in
-    let at-is-none = at-if1 .before in
-    takes-over _ _ _ _ _ _ _ (c .key-of .ensures) (eqb-false _ _ (sym (at-is-none .is-none .ensures) ∙ at-if1 .if1 .left)) (at-if2 .if2 .left) (omega arith)
+    let else2 = c .before .before .before .before .before in
+    let else1 = else2 .before in
+    let after-is-none = else1 .before in
+    takes-over _ _ _ _ _ _ _ (c .key-of .ensures) (eqb-false _ _ (sym (after-is-none .is-none .ensures) ∙ else1 .if1 .left))
+    (else2 .if2 .left) (omega arith)
 
 returns-4 : tie.Need-returns-4
 returns-4 c =
-    let at-if2 = c .before .before .before .before .before in
-    let at-if1 = at-if2 .before in
-    let at-is-none = at-if1 .before in
-    later (eqb-false _ _ (sym (at-is-none .is-none .ensures) ∙ at-if1 .if1 .left)) (at-if2 .if2 .left) (omega arith)
+    let else2 = c .before .before .before .before .before in
+    let else1 = else2 .before in
+    let after-is-none = else1 .before in
+    later (eqb-false _ _ (sym (after-is-none .is-none .ensures) ∙ else1 .if1 .left)) (else2 .if2 .left) (omega arith)
 
 returns-5 : tie.Need-returns-5
 returns-5 c =
-    let at-if2 = c .before .before .before .before .before .before .before in
-    let at-if1 = at-if2 .before in
-    let at-is-none = at-if1 .before in
-    tied (eqb-false _ _ (sym (at-is-none .is-none .ensures) ∙ at-if1 .if1 .left)) (at-if2 .if2 .left) (omega arith) (c .if5 .taken)
+    let else2 = c .before .before .before .before .before .before .before in
+    let else1 = else2 .before in
+    let after-is-none = else1 .before in
+    tied (eqb-false _ _ (sym (after-is-none .is-none .ensures) ∙ else1 .if1 .left)) (else2 .if2 .left) (omega arith) (c .if5 .taken)
 
 returns-6 : tie.Need-returns-6
 returns-6 c =
-    let at-if2 = c .before .before .before .before .before .before .before in
-    let at-if1 = at-if2 .before in
-    let at-is-none = at-if1 .before in
-    behind (eqb-false _ _ (sym (at-is-none .is-none .ensures) ∙ at-if1 .if1 .left)) (at-if2 .if2 .left) (omega arith) (c .if5 .left)
+    let else2 = c .before .before .before .before .before .before .before in
+    let else1 = else2 .before in
+    let after-is-none = else1 .before in
+    behind (eqb-false _ _ (sym (after-is-none .is-none .ensures) ∙ else1 .if1 .left)) (else2 .if2 .left) (omega arith) (c .if5 .left)
 
 pub improved-spec : {M : Type 1} → statement M
 improved-spec =

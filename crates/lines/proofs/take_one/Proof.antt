@@ -8,7 +8,10 @@ returns : tie.Need-returns
 returns c = took-newline _ _ _ _ (c .if1 .taken)
 
 returns-2 : tie.Need-returns-2
-returns-2 c = took-byte _ _ _ _ _ _ (c .before .before .before .before .if1 .left) (c .before .before .take-byte .ensures)
+returns-2 c =
+    let after-take-byte = c .before .before in
+    let else1 = after-take-byte .before .before in
+    took-byte _ _ _ _ _ _ (else1 .if1 .left) (after-take-byte .take-byte .ensures)
 
 pub take-one-spec : {M : Type 1} → statement M
 take-one-spec = tie.close (tie.spec (λ c. search needs) returns (λ c κs. search needs) (λ c. search needs) returns-2)

@@ -11,15 +11,17 @@ use Rattle.lines.proofs.take_read.Tie as tie
 
 returns : tie.Need-returns
 returns c =
-    let start = c .before .before .before .before .before in
+    let after-count = c .before .before in
+    let start = after-count .before .before .before in
     let same = ap (λ (z : ℤ). clamped z (length (start .args .chunk .now))) (toZ-ofZ (start .fits .got)) in
-    (search needs, read-none _ _ _ _ (c .before .before .count .ensures .1 ∙ same) (c .before .if1 .taken))
+    (search needs, read-none _ _ _ _ (after-count .count .ensures .1 ∙ same) (c .before .if1 .taken))
 
 returns-2 : tie.Need-returns-2
 returns-2 c =
-    let start = c .before .before .before .before in
+    let after-count = c .before in
+    let start = after-count .before .before .before in
     let same = ap (λ (z : ℤ). clamped z (length (start .args .chunk .now))) (toZ-ofZ (start .fits .got)) in
-    (c .before .count .ensures .0 .0, read-some _ _ _ _ (c .before .count .ensures .1 ∙ same) (c .if1 .left))
+    (after-count .count .ensures .0 .0, read-some _ _ _ _ (after-count .count .ensures .1 ∙ same) (c .if1 .left))
 
 pub take-read-spec : {M : Type 1} → statement M
 take-read-spec = tie.close (tie.spec (λ c κs. search needs) returns returns-2)

@@ -9,31 +9,59 @@ use Rattle.linking.proofs.link_roads.Statement.{statement}
 use Rattle.linking.proofs.link_roads.Tie as tie
 
 abbrev Inv-loop : tie.InvT-loop
-Inv-loop roads ranks first₀ next₀ m i₀ first next i = (i ≤ m) × (length first ≡ length first₀) × (length next ≡ length next₀) × Linked (netIn roads ranks) (length ranks) i first next
+Inv-loop roads ranks first₀ next₀ m i₀ first next i =
+    (i ≤ m) × (length first ≡ length first₀) × (length next ≡ length next₀) × Linked (netIn roads ranks) (length ranks) i first next
 
 abbrev μ-loop : tie.MeasureT-loop
 μ-loop roads ranks first₀ next₀ m i₀ first next i = m - i
 
 loop-holds : tie.Need-loop-holds Inv-loop μ-loop
-loop-holds c = (search needs, search needs, search needs, linked-start _ _ _ _ (c .before .before .before .before .pre .3))
+loop-holds c =
+    let start = c .before .before .before .before in
+    (search needs, search needs, search needs, linked-start _ _ _ _ (start .pre .3))
 
 slice-read-next : tie.Need-slice-read-next Inv-loop μ-loop
-slice-read-next c = omega (arith, c .before .before .row-of .ensures .1, c .before .before .before .before .before .before .before .before .before .pre .1, c .before .before .before .before .loop .inv .1)
+slice-read-next c =
+    let after-row-of = c .before .before in
+    let at-loop = after-row-of .before .before in
+    let start = at-loop .before .before .before .before .before in
+    omega (arith, after-row-of .row-of .ensures .1, start .pre .1, at-loop .loop .inv .1)
 
 slice-write-next : tie.Need-slice-write-next Inv-loop μ-loop
-slice-write-next c = omega (arith, c .before .before .before .before .before .before .before .before .before .pre .2, c .before .before .before .before .loop .inv .2)
+slice-write-next c =
+    let at-loop = c .before .before .before .before in
+    let start = at-loop .before .before .before .before .before in
+    omega (arith, start .pre .2, at-loop .loop .inv .2)
 
 cast-first : tie.Need-cast-first Inv-loop μ-loop
-cast-first c = omega (arith, c .before .before .before .before .before .before .before .before .before .pre .0 .most)
+cast-first c =
+    let start = c .before .before .before .before .before .before .before .before .before in
+    omega (arith, start .pre .0 .most)
 
 slice-write-first : tie.Need-slice-write-first Inv-loop μ-loop
-slice-write-first c = omega (arith, c .before .before .row-of .ensures .1, c .before .before .before .before .before .before .before .before .before .pre .1, c .before .before .before .before .loop .inv .1)
+slice-write-first c =
+    let after-row-of = c .before .before in
+    let at-loop = after-row-of .before .before in
+    let start = at-loop .before .before .before .before .before in
+    omega (arith, after-row-of .row-of .ensures .1, start .pre .1, at-loop .loop .inv .1)
 
 loop-again : tie.Need-loop-again Inv-loop μ-loop
-loop-again c = (search needs, simp length-set (c .before .before .before .before .loop .inv .1), simp length-set (c .before .before .before .before .loop .inv .2), linked-turn _ _ _ _ (c .before .before .before .before .loop .i) (c .before .before .row-of .result .0) _ (omega (arith, c .before .before .before .before .before .before .before .before .before .pre .1, c .before .before .before .before .loop .inv .1)) (omega (arith, c .before .before .before .before .before .before .before .before .before .pre .2, c .before .before .before .before .loop .inv .2)) (c .before .before .row-of .ensures .1) (c .before .before .row-of .ensures .0) refl (c .before .before .before .before .loop .inv .3))
+loop-again c =
+    let after-row-of = c .before .before in
+    let at-loop = after-row-of .before .before in
+    let start = at-loop .before .before .before .before .before in (
+      search needs,
+      simp length-set (at-loop .loop .inv .1),
+      simp length-set (at-loop .loop .inv .2),
+      linked-turn _ _ _ _ (at-loop .loop .i) (after-row-of .row-of .result .0) _ (omega (arith, start .pre .1, at-loop .loop .inv .1))
+          (omega (arith, start .pre .2, at-loop .loop .inv .2)) (after-row-of .row-of .ensures .1) (after-row-of .row-of .ensures .0) refl
+          (at-loop .loop .inv .3),
+    )
 
 returns : tie.Need-returns Inv-loop μ-loop
-returns c = linked-end _ _ _ _ (c .before .loop .i) _ (c .before .loop .inv .0) (c .loop-test .left) (c .before .loop .inv .3)
+returns c =
+    let at-loop = c .before in
+    linked-end _ _ _ _ (at-loop .loop .i) _ (at-loop .loop .inv .0) (c .loop-test .left) (at-loop .loop .inv .3)
 
 pub link-roads-spec : {M : Type 1} → statement M
 link-roads-spec =

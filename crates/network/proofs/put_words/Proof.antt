@@ -14,10 +14,17 @@ abbrev μ-loop : tie.MeasureT-loop
 μ-loop s₀ words i₀ s i = length words - i
 
 loop-again : tie.Need-loop-again Inv-loop μ-loop
-loop-again c = (search needs, search needs, put-turn _ _ _ _ _ (c .before .before .before .before .before .loop-test .taken) (c .before .before .before .before .before .before .loop .inv .2) (c .before .before .put-word .ensures))
+loop-again c =
+    let after-put-word = c .before .before in
+    let in-loop = after-put-word .before .before .before in
+    let at-loop = in-loop .before in
+    (search needs, search needs, put-turn _ _ _ _ _ (in-loop .loop-test .taken) (at-loop .loop .inv .2) (after-put-word .put-word .ensures))
 
 returns : tie.Need-returns Inv-loop μ-loop
-returns c = put-end (c .before .before .before .before .args .s .now) (c .before .before .before .before .args .words .now) (c .before .loop .i) _ (c .before .before .before .before .pre) (omega arith) (c .before .loop .inv .2)
+returns c =
+    let at-loop = c .before in
+    let start = at-loop .before .before .before in
+    put-end (start .args .s .now) (start .args .words .now) (at-loop .loop .i) _ (start .pre) (omega arith) (at-loop .loop .inv .2)
 
 pub put-words-spec : {M : Type 1} → statement M
 put-words-spec =

@@ -11,7 +11,11 @@ use Rattle.passing.proofs.pass_lower.Statement.{statement}
 use Rattle.passing.proofs.pass_lower.Tie as tie
 
 abbrev Inv-loop : tie.InvT-loop
-Inv-loop pairs n r cursor₀ ahead₀ ends soon₀ ups₀ downs₀ touched₀ v₀ cursor ahead soon ups downs touched v = (v ≤ r .0) × (v < r .0 → 32 * (v / 32) ≡ v) × (length cursor ≡ length cursor₀) × (length ahead ≡ length ahead₀) × (length soon ≡ length soon₀) × (length ups ≡ length ups₀) × (length downs ≡ length downs₀) × (length touched ≡ length touched₀) × ((w : Weights) → Lower w n (r .0) 0 pairs cursor₀ ahead₀ ends soon₀ ups₀ downs₀ touched₀ → Lower w n (r .0) v pairs cursor ahead ends soon ups downs touched)
+Inv-loop pairs n r cursor₀ ahead₀ ends soon₀ ups₀ downs₀ touched₀ v₀ cursor ahead soon ups downs touched v = (v ≤ r .0)
+    × (v < r .0 → 32 * (v / 32) ≡ v) × (length cursor ≡ length cursor₀) × (length ahead ≡ length ahead₀) × (length soon ≡ length soon₀)
+    × (length ups ≡ length ups₀) × (length downs ≡ length downs₀) × (length touched ≡ length touched₀)
+    × ((w : Weights) → Lower w n (r .0) 0 pairs cursor₀ ahead₀ ends soon₀ ups₀ downs₀ touched₀ → Lower w n (r .0) v pairs cursor ahead ends
+    soon ups downs touched)
 
 abbrev μ-loop : tie.MeasureT-loop
 μ-loop pairs n r cursor₀ ahead₀ ends soon₀ ups₀ downs₀ touched₀ v₀ cursor ahead soon ups downs touched v = r .0 - v
@@ -20,49 +24,120 @@ loop-holds : tie.Need-loop-holds Inv-loop μ-loop
 loop-holds c = (search needs, λ h. refl, refl, refl, refl, refl, refl, refl, λ w s. s)
 
 add-least : tie.Need-add-least Inv-loop μ-loop
-add-least c = let i = c .before .before .before .before .before .before .before .before .before .before .before .pre .0 .1 .stage .inside in let p = c .before .before .before .before .before .before .before .before .before .before .before .pre .1 in search needs
+add-least c =
+    let i = (let start = c .before .before .before .before .before .before .before .before .before .before .before in
+    start .pre .0 .1 .stage .inside) in
+    let p = (let start = c .before .before .before .before .before .before .before .before .before .before .before in
+    start .pre .1) in search needs
 
 slice-read-if2 : tie.Need-slice-read-if2 Inv-loop μ-loop
-slice-read-if2 c = block-in _ _ _ _ _ (c .before .before .before .before .before .before .before .before .before .before .before .before .before .pre .0 .1 .sooner .wide) (c .before .before .before .before .before .before .before .before .before .before .before .before .before .pre .0 .1 .stage .inside) (c .before .before .if1 .taken) (c .before .before .before .before .loop .inv .4)
+slice-read-if2 c =
+    let then1 = c .before .before in
+    let at-loop = then1 .before .before in
+    let start = at-loop .before .before .before .before .before .before .before .before .before in
+    block-in _ _ _ _ _ (start .pre .0 .1 .sooner .wide) (start .pre .0 .1 .stage .inside) (then1 .if1 .taken) (at-loop .loop .inv .4)
 
 pass-block-requires : tie.Need-pass-block-requires Inv-loop μ-loop
-pass-block-requires c κs = ((c .before .before .before .before .before .before .before .before .before .before .before .before .before .before .before .before .before .before .before .before .pre .0 .0, (c .before .before .before .before .before .before .before .before .before .before .before .loop .inv .8 (c .before .before .before .before .before .before .before .before .before .before .before .before .before .before .before .before .before .before .before .before .pre .0 .0) (c .before .before .before .before .before .before .before .before .before .before .before .before .before .before .before .before .before .before .before .before .pre .0 .1)) .stage), block-from _ _ _ (c .before .before .before .before .before .before .before .before .least .ensures) (c .before .before .before .before .before .before .before .before .before .if1 .taken), min-le _ _ _ (c .before .before .before .before .before .before .before .before .least .ensures))
+pass-block-requires c κs =
+    let after-least = c .before .before .before .before .before .before .before .before in
+    let then1 = after-least .before in
+    let at-loop = then1 .before .before in
+    let start = at-loop .before .before .before .before .before .before .before .before .before in (
+      (start .pre .0 .0, (at-loop .loop .inv .8 (start .pre .0 .0) (start .pre .0 .1)) .stage),
+      block-from _ _ _ (after-least .least .ensures) (then1 .if1 .taken),
+      min-le _ _ _ (after-least .least .ensures),
+    )
 
 slice-write-soon : tie.Need-slice-write-soon Inv-loop μ-loop
-slice-write-soon c = block-in _ _ _ _ _ (c .before .before .before .before .before .before .before .before .before .before .before .before .before .before .before .before .before .before .before .before .before .before .before .before .before .before .before .before .before .before .before .pre .0 .1 .sooner .wide) (c .before .before .before .before .before .before .before .before .before .before .before .before .before .before .before .before .before .before .before .before .before .before .before .before .before .before .before .before .before .before .before .pre .0 .1 .stage .inside) (c .before .before .before .before .before .before .before .before .before .before .before .before .before .before .before .before .before .before .before .before .if1 .taken) (c .before .before .before .before .before .before .before .before .before .before .before .before .before .before .before .before .before .before .before .before .before .before .loop .inv .4)
+slice-write-soon c =
+    let after-pass-block = c .before .before .before .before .before .before .before .before .before .before in
+    let then1 = after-pass-block .before .before .before .before .before .before .before .before .before .before in
+    let at-loop = then1 .before .before in
+    let start = at-loop .before .before .before .before .before .before .before .before .before in
+    block-in _ _ _ _ _ (start .pre .0 .1 .sooner .wide) (start .pre .0 .1 .stage .inside) (then1 .if1 .taken) (at-loop .loop .inv .4)
 
 loop-less : tie.Need-loop-less Inv-loop μ-loop
-loop-less c = block-less _ _ _ (c .before .before .before .before .before .before .before .before .before .before .before .before .before .before .before .before .before .before .before .least .ensures) (c .before .before .before .before .before .before .before .before .before .before .before .before .before .before .before .before .before .before .before .before .if1 .taken)
+loop-less c =
+    let after-pass-block = c .before .before .before .before .before .before .before .before .before .before in
+    let after-least = after-pass-block .before .before .before .before .before .before .before .before .before in
+    let then1 = after-least .before in
+    block-less _ _ _ (after-least .least .ensures) (then1 .if1 .taken)
 
 loop-again : tie.Need-loop-again Inv-loop μ-loop
-loop-again c = (min-le _ _ _ (c .before .before .before .before .before .before .before .before .before .before .before .before .before .before .before .before .before .before .before .least .ensures), λ h. next-even (c .before .before .before .before .before .before .before .before .before .before .before .before .before .before .before .before .before .before .before .before .before .before .loop .v) _ _ (c .before .before .before .before .before .before .before .before .before .before .before .before .before .before .before .before .before .before .before .before .before .before .loop .inv .1 (c .before .before .before .before .before .before .before .before .before .before .before .before .before .before .before .before .before .before .before .before .if1 .taken)) (c .before .before .before .before .before .before .before .before .before .before .before .before .before .before .before .before .before .before .before .least .ensures) h, c .before .before .before .before .before .before .before .before .before .before .pass-block .kept .1 .1 .1 .1 .1 .0 ∙ c .before .before .before .before .before .before .before .before .before .before .before .before .before .before .before .before .before .before .before .before .before .before .loop .inv .2, c .before .before .before .before .before .before .before .before .before .before .pass-block .kept .1 .1 .1 .1 .1 .1 .0 ∙ c .before .before .before .before .before .before .before .before .before .before .before .before .before .before .before .before .before .before .before .before .before .before .loop .inv .3, length-set (c .before .before .before .before .before .before .before .before .before .before .before .before .before .before .before .before .before .before .before .before .before .before .loop .soon) _ _ ∙ c .before .before .before .before .before .before .before .before .before .before .before .before .before .before .before .before .before .before .before .before .before .before .loop .inv .4, c .before .before .before .before .before .before .before .before .before .before .pass-block .kept .1 .1 .1 .1 .1 .1 .1 .1 .0 ∙ c .before .before .before .before .before .before .before .before .before .before .before .before .before .before .before .before .before .before .before .before .before .before .loop .inv .5, c .before .before .before .before .before .before .before .before .before .before .pass-block .kept .1 .1 .1 .1 .1 .1 .1 .1 .1 .0 ∙ c .before .before .before .before .before .before .before .before .before .before .before .before .before .before .before .before .before .before .before .before .before .before .loop .inv .6, c .before .before .before .before .before .before .before .before .before .before .pass-block .kept .1 .1 .1 .1 .1 .1 .1 .1 .1 .1 .0 ∙ c .before .before .before .before .before .before .before .before .before .before .before .before .before .before .before .before .before .before .before .before .before .before .loop .inv .7, λ w s. lower-pass (c .before .before .before .before .before .before .before .before .before .before .before .before .before .before .before .before .before .before .before .before .before .before .loop .inv .8 w s) (c .before .before .before .before .before .before .before .before .before .before .before .before .before .before .before .before .before .before .before .before .if1 .taken) (c .before .before .before .before .before .before .before .before .before .before .before .before .before .before .before .before .before .before .before .before .before .before .loop .inv .1 (c .before .before .before .before .before .before .before .before .before .before .before .before .before .before .before .before .before .before .before .before .if1 .taken)) _ (c .before .before .before .before .before .before .before .before .before .before .before .before .before .before .before .before .before .before .before .least .ensures) _ (c .before .before .before .before .before .before .before .before .before .before .pass-block .ensures w (c .before .before .before .before .before .before .before .before .before .before .before .before .before .before .before .before .before .before .before .before .before .before .loop .inv .8 w s .stage)))
+loop-again c =
+    let after-pass-block = c .before .before .before .before .before .before .before .before .before .before in
+    let after-least = after-pass-block .before .before .before .before .before .before .before .before .before in
+    let then1 = after-least .before in
+    let at-loop = then1 .before .before in (
+      min-le _ _ _ (after-least .least .ensures),
+      λ h. next-even (at-loop .loop .v) _ _ (at-loop .loop .inv .1 (then1 .if1 .taken)) (after-least .least .ensures) h,
+      after-pass-block .pass-block .kept .1 .1 .1 .1 .1 .0 ∙ at-loop .loop .inv .2,
+      after-pass-block .pass-block .kept .1 .1 .1 .1 .1 .1 .0 ∙ at-loop .loop .inv .3,
+      length-set (at-loop .loop .soon) _ _ ∙ at-loop .loop .inv .4,
+      after-pass-block .pass-block .kept .1 .1 .1 .1 .1 .1 .1 .1 .0 ∙ at-loop .loop .inv .5,
+      after-pass-block .pass-block .kept .1 .1 .1 .1 .1 .1 .1 .1 .1 .0 ∙ at-loop .loop .inv .6,
+      after-pass-block .pass-block .kept .1 .1 .1 .1 .1 .1 .1 .1 .1 .1 .0 ∙ at-loop .loop .inv .7,
+      λ w s. lower-pass (at-loop .loop .inv .8 w s) (then1 .if1 .taken) (at-loop .loop .inv .1 (then1 .if1 .taken))
+          _ (after-least .least .ensures) _ (after-pass-block .pass-block .ensures w (at-loop .loop .inv .8 w s .stage)),
+    )
 
 loop-less-2 : tie.Need-loop-less-2 Inv-loop μ-loop
-loop-less-2 c = block-less _ _ _ (c .before .before .before .least .ensures) (c .before .before .before .before .if1 .taken)
+loop-less-2 c =
+    let after-least = c .before .before .before in
+    let then1 = after-least .before in
+    block-less _ _ _ (after-least .least .ensures) (then1 .if1 .taken)
 
 loop-again-2 : tie.Need-loop-again-2 Inv-loop μ-loop
-loop-again-2 c = (min-le _ _ _ (c .before .before .before .least .ensures), λ h. next-even (c .before .before .before .before .before .before .loop .v) _ _ (c .before .before .before .before .before .before .loop .inv .1 (c .before .before .before .before .if1 .taken)) (c .before .before .before .least .ensures) h, c .before .before .before .before .before .before .loop .inv .2, c .before .before .before .before .before .before .loop .inv .3, c .before .before .before .before .before .before .loop .inv .4, c .before .before .before .before .before .before .loop .inv .5, c .before .before .before .before .before .before .loop .inv .6, c .before .before .before .before .before .before .loop .inv .7, λ w s. lower-skip (c .before .before .before .before .before .before .loop .inv .8 w s) (c .before .before .before .before .if1 .taken) (c .before .before .before .before .before .before .loop .inv .1 (c .before .before .before .before .if1 .taken)) _ (c .before .before .before .least .ensures) (c .if2 .left))
+loop-again-2 c =
+    let after-least = c .before .before .before in
+    let then1 = after-least .before in
+    let at-loop = then1 .before .before in (
+      min-le _ _ _ (after-least .least .ensures),
+      λ h. next-even (at-loop .loop .v) _ _ (at-loop .loop .inv .1 (then1 .if1 .taken)) (after-least .least .ensures) h,
+      at-loop .loop .inv .2,
+      at-loop .loop .inv .3,
+      at-loop .loop .inv .4,
+      at-loop .loop .inv .5,
+      at-loop .loop .inv .6,
+      at-loop .loop .inv .7,
+      λ w s. lower-skip (at-loop .loop .inv .8 w s) (then1 .if1 .taken) (at-loop .loop .inv .1 (then1 .if1 .taken))
+          _ (after-least .least .ensures) (c .if2 .left),
+    )
 
 same-length : tie.Need-same-length Inv-loop μ-loop
-same-length c = c .before .before .loop .inv .2
+same-length c =
+    let at-loop = c .before .before in
+    at-loop .loop .inv .2
 
 same-length-2 : tie.Need-same-length-2 Inv-loop μ-loop
-same-length-2 c = c .before .before .loop .inv .3
+same-length-2 c =
+    let at-loop = c .before .before in
+    at-loop .loop .inv .3
 
 same-length-3 : tie.Need-same-length-3 Inv-loop μ-loop
-same-length-3 c = c .before .before .loop .inv .4
+same-length-3 c =
+    let at-loop = c .before .before in
+    at-loop .loop .inv .4
 
 same-length-4 : tie.Need-same-length-4 Inv-loop μ-loop
-same-length-4 c = c .before .before .loop .inv .5
+same-length-4 c =
+    let at-loop = c .before .before in
+    at-loop .loop .inv .5
 
 same-length-5 : tie.Need-same-length-5 Inv-loop μ-loop
-same-length-5 c = c .before .before .loop .inv .6
+same-length-5 c =
+    let at-loop = c .before .before in
+    at-loop .loop .inv .6
 
 same-length-6 : tie.Need-same-length-6 Inv-loop μ-loop
-same-length-6 c = c .before .before .loop .inv .7
+same-length-6 c =
+    let at-loop = c .before .before in
+    at-loop .loop .inv .7
 
 returns : tie.Need-returns Inv-loop μ-loop
-returns c = λ w s. lower-end (c .before .before .loop .inv .0) (c .if1 .left) (c .before .before .loop .inv .8 w s)
+returns c =
+    let at-loop = c .before .before in
+    λ w s. lower-end (at-loop .loop .inv .0) (c .if1 .left) (at-loop .loop .inv .8 w s)
 
 pub pass-lower-spec : {M : Type 1} → statement M
 pass-lower-spec =

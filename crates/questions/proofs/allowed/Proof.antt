@@ -6,13 +6,23 @@ use Rattle.questions.proofs.allowed.Statement.{statement}
 use Rattle.questions.proofs.allowed.Tie as tie
 
 returns : tie.Need-returns
-returns c = allowed-closed _ (c .before .before .args .t .0) (eqb-true _ _ (sym (c .before .is-closed .ensures) ∙ c .if1 .taken))
+returns c =
+    let start = c .before .before in
+    allowed-closed _ (start .args .t .0) (eqb-true _ _ (sym (c .before .is-closed .ensures) ∙ c .if1 .taken))
 
 returns-2 : tie.Need-returns-2
-returns-2 c = allowed-under _ (c .before .before .before .before .before .args .t .0) (eqb-false _ _ (sym (c .before .before .before .before .is-closed .ensures) ∙ c .before .before .before .if1 .left)) (c .if2 .taken)
+returns-2 c =
+    let else1 = c .before .before .before in
+    let after-is-closed = else1 .before in
+    let start = after-is-closed .before in
+    allowed-under _ (start .args .t .0) (eqb-false _ _ (sym (after-is-closed .is-closed .ensures) ∙ else1 .if1 .left)) (c .if2 .taken)
 
 returns-3 : tie.Need-returns-3
-returns-3 c = allowed-over _ (c .before .before .before .before .before .before .args .t .0) (eqb-false _ _ (sym (c .before .before .before .before .before .is-closed .ensures) ∙ c .before .before .before .before .if1 .left)) (c .before .if2 .left)
+returns-3 c =
+    let else1 = c .before .before .before .before in
+    let after-is-closed = else1 .before in
+    let start = after-is-closed .before in
+    allowed-over _ (start .args .t .0) (eqb-false _ _ (sym (after-is-closed .is-closed .ensures) ∙ else1 .if1 .left)) (c .before .if2 .left)
 
 pub allowed-spec : {M : Type 1} → statement M
 allowed-spec = tie.close (tie.spec (λ c κs. search needs) returns returns-2 returns-3)

@@ -5,7 +5,9 @@ use Rattle.questions.proofs.roads_of.Statement.{statement}
 use Rattle.questions.proofs.roads_of.Tie as tie
 
 returns : tie.Need-returns
-returns c = part-from (c .before .args .card .now) 28 (12 * c .before .args .m)
+returns c =
+    let start = c .before in
+    part-from (start .args .card .now) 28 (12 * start .args .m)
 
 pub roads-of-spec : {M : Type 1} → statement M
 roads-of-spec =

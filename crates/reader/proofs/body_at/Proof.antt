@@ -5,16 +5,30 @@ use Rattle.reader.proofs.body_at.Statement.{statement}
 use Rattle.reader.proofs.body_at.Tie as tie
 
 returns : tie.Need-returns
-returns c = no-entry (c .before .before .before .args .card .now) (c .before .before .before .args .at) (omega arith)
+returns c =
+    let start = c .before .before .before in
+    no-entry (start .args .card .now) (start .args .at) (omega arith)
 
 returns-2 : tie.Need-returns-2
-returns-2 c = no-entry (c .before .before .before .before .args .card .now) (c .before .before .before .before .args .at) (omega arith)
+returns-2 c =
+    let start = c .before .before .before .before in
+    no-entry (start .args .card .now) (start .args .at) (omega arith)
 
 returns-3 : tie.Need-returns-3
-returns-3 c = no-part (c .before .before .before .before .before .before .before .args .card .now) (c .before .before .before .before .before .before .before .args .at) (omega arith) _ _ (c .before .before .before .word-at .ensures) (c .before .before .word-at2 .ensures) (c .before .if3 .taken)
+returns-3 c =
+    let after-word-at2 = c .before .before in
+    let after-word-at = after-word-at2 .before in
+    let start = after-word-at .before .before .before .before in
+    no-part (start .args .card .now) (start .args .at) (omega arith) _ _ (after-word-at .word-at .ensures)
+    (after-word-at2 .word-at2 .ensures) (c .before .if3 .taken)
 
 returns-4 : tie.Need-returns-4
-returns-4 c = part (c .before .before .before .before .before .before .before .args .card .now) (c .before .before .before .before .before .before .before .args .at) (omega arith) _ _ (c .before .before .before .word-at .ensures) (c .before .before .word-at2 .ensures) (c .before .if3 .left)
+returns-4 c =
+    let after-word-at2 = c .before .before in
+    let after-word-at = after-word-at2 .before in
+    let start = after-word-at .before .before .before .before in
+    part (start .args .card .now) (start .args .at) (omega arith) _ _ (after-word-at .word-at .ensures) (after-word-at2 .word-at2 .ensures)
+    (c .before .if3 .left)
 
 pub body-at-spec : {M : Type 1} → statement M
 body-at-spec =

@@ -7,13 +7,15 @@ use Rattle.records.proofs.is_below.Tie as tie
 
 returns : tie.Need-returns
 returns c =
-    let l = c .before .before .before in
-    below-one (l .before .before .args .pairs .now) _ _ (omega (arith, l .low-of .ensures, c .if1 .taken))
+    let after-low-of = c .before .before .before in
+    let start = after-low-of .before .before in
+    below-one (start .args .pairs .now) _ _ (omega (arith, after-low-of .low-of .ensures, c .if1 .taken))
 
 returns-2 : tie.Need-returns-2
 returns-2 c =
-    let l = c .before .before .before in
-    below-zero (l .before .before .args .pairs .now) _ _ (omega (arith, l .low-of .ensures, c .if1 .left))
+    let after-low-of = c .before .before .before in
+    let start = after-low-of .before .before in
+    below-zero (start .args .pairs .now) _ _ (omega (arith, after-low-of .low-of .ensures, c .if1 .left))
 
 pub is-below-spec : {M : Type 1} → statement M
 is-below-spec = tie.close (tie.spec (λ c κs. search needs) returns returns-2)

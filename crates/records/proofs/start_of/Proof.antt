@@ -16,39 +16,63 @@ loop-holds : tie.Need-loop-holds Inv-loop μ-loop
 loop-holds c = left-all (c .before .args .pairs .now) _ _
 
 is-below-requires : tie.Need-is-below-requires Inv-loop μ-loop
-is-below-requires c κs = omega (arith, c .loop-test .taken, c .before .loop .inv .fits, c .before .before .before .pre .0)
+is-below-requires c κs =
+    let start = c .before .before .before in
+    omega (arith, c .loop-test .taken, c .before .loop .inv .fits, start .pre .0)
 
 is-below-requires-2 : tie.Need-is-below-requires-2 Inv-loop μ-loop
 is-below-requires-2 c κs =
-    let u = c .before in
-    omega (arith, u .loop-test .taken, u .before .loop .inv .fits, u .before .before .before .pre .0)
+    let at-loop = c .before .before in
+    let start = at-loop .before .before in
+    omega (arith, c .before .loop-test .taken, at-loop .loop .inv .fits, start .pre .0)
 
 is-below-requires-3 : tie.Need-is-below-requires-3 Inv-loop μ-loop
 is-below-requires-3 c κs =
-    let u = c .before .before in
-    omega (arith, u .loop-test .taken, u .before .loop .inv .fits, u .before .before .before .pre .0)
+    let in-loop = c .before .before in
+    let at-loop = in-loop .before in
+    let start = at-loop .before .before in
+    omega (arith, in-loop .loop-test .taken, at-loop .loop .inv .fits, start .pre .0)
 
 loop-again : tie.Need-loop-again Inv-loop μ-loop
 loop-again c =
-    let u = c .before .before .before in
-    left-turn (u .before .before .before .args .pairs .now) _ _ _ _ (u .before .loop .inv) (u .loop-test .taken) _ refl _ _ _ (c .before .before .is-below .ensures) (c .before .is-below2 .ensures) (c .is-below3 .ensures)
+    let after-is-below = c .before .before in
+    let in-loop = after-is-below .before in
+    let at-loop = in-loop .before in
+    let start = at-loop .before .before in
+    left-turn (start .args .pairs .now) _ _ _ _ (at-loop .loop .inv) (in-loop .loop-test .taken) _ refl
+    _ _ _ (after-is-below .is-below .ensures) (c .before .is-below2 .ensures) (c .is-below3 .ensures)
 
 -- what the turn adds stays within the records
 mul-base : tie.Need-mul-base Inv-loop μ-loop
-mul-base c = omega (arith, loop-again c .fits, c .before .before .before .before .before .before .pre .1)
+mul-base c =
+    let start = c .before .before .before .before .before .before in
+    omega (arith, loop-again c .fits, start .pre .1)
 
 add-base-3 : tie.Need-add-base-3 Inv-loop μ-loop
-add-base-3 c = omega (arith, loop-again c .fits, c .before .before .before .before .before .before .pre .1)
+add-base-3 c =
+    let start = c .before .before .before .before .before .before in
+    omega (arith, loop-again c .fits, start .pre .1)
 
 -- the sum of the three tests
 add-base : tie.Need-add-base Inv-loop μ-loop
-add-base c = omega (arith, below-most _ _ _ _ (c .before .before .is-below .ensures), below-most _ _ _ _ (c .before .is-below2 .ensures))
+add-base c =
+    let after-is-below = c .before .before in
+    omega (arith, below-most _ _ _ _ (after-is-below .is-below .ensures), below-most _ _ _ _ (c .before .is-below2 .ensures))
 
 add-base-2 : tie.Need-add-base-2 Inv-loop μ-loop
-add-base-2 c = omega (arith, below-most _ _ _ _ (c .before .before .is-below .ensures), below-most _ _ _ _ (c .before .is-below2 .ensures), below-most _ _ _ _ (c .is-below3 .ensures))
+add-base-2 c =
+    let after-is-below = c .before .before in
+    omega (
+      arith,
+      below-most _ _ _ _ (after-is-below .is-below .ensures),
+      below-most _ _ _ _ (c .before .is-below2 .ensures),
+      below-most _ _ _ _ (c .is-below3 .ensures),
+    )
 
 returns : tie.Need-returns Inv-loop μ-loop
-returns c = left-few (c .before .before .before .args .pairs .now) _ _ _ _ (c .before .loop .inv) (omega (arith, c .loop-test .left))
+returns c =
+    let start = c .before .before .before in
+    left-few (start .args .pairs .now) _ _ _ _ (c .before .loop .inv) (omega (arith, c .loop-test .left))
 
 pub start-of-spec : {M : Type 1} → statement M
 start-of-spec =

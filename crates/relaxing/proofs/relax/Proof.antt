@@ -8,51 +8,87 @@ use Rattle.relaxing.proofs.relax.Statement.{statement}
 use Rattle.relaxing.proofs.relax.Tie as tie
 
 abbrev Inv-loop : tie.InvT-loop
-Inv-loop n m count roads order ranks pairs live down estimates₀ elapsed₀ keys₀ vias₀ wins₀ firsts nexts a from i₀ estimates elapsed keys vias wins i = (length estimates ≡ length estimates₀) × (length elapsed ≡ length elapsed₀) × (length keys ≡ length keys₀) × (length vias ≡ length vias₀) × (length wins ≡ length wins₀) × Standing roads order ranks pairs live down n m count a (from .0) i estimates₀ elapsed₀ keys₀ vias₀ wins₀ estimates elapsed keys vias wins
+Inv-loop n m count roads order ranks pairs live down estimates₀ elapsed₀ keys₀ vias₀ wins₀ firsts nexts a from i₀ estimates elapsed keys
+    vias wins i = (length estimates ≡ length estimates₀) × (length elapsed ≡ length elapsed₀) × (length keys ≡ length keys₀)
+    × (length vias ≡ length vias₀) × (length wins ≡ length wins₀)
+    × Standing roads order ranks pairs live down n m count a (from .0) i estimates₀ elapsed₀ keys₀ vias₀ wins₀ estimates elapsed keys vias
+    wins
 
 abbrev μ-loop : tie.MeasureT-loop
-μ-loop n m count roads order ranks pairs live down estimates₀ elapsed₀ keys₀ vias₀ wins₀ firsts nexts a from i₀ estimates elapsed keys vias wins i = m - i
+μ-loop n m count roads order ranks pairs live down estimates₀ elapsed₀ keys₀ vias₀ wins₀ firsts nexts a from i₀ estimates elapsed keys vias
+    wins i = m - i
 
 loop-holds : tie.Need-loop-holds Inv-loop μ-loop
 loop-holds c =
-    let start = c .before .before .before .before .before .before .before .before .before .before .before .before .before .before .before .before .before in
+    let after-shared-slice-known5 = c .before .before .before .before .before .before .before .before .before .before .before .before in
+    let start = after-shared-slice-known5 .before .before .before .before .before in
     (refl, refl, refl, refl, refl, standing-start _ _ _ _ _ _ _ _ _ _ _ _ _ _ _ _ _ (start .pre .6 .first _ (start .pre .0)))
 
 cast-k : tie.Need-cast-k Inv-loop μ-loop
 cast-k c =
-    let at-loop-test = c .before .before .before .before .before .before .before .before .before .before .before .before .before .before .before .before in
-    let start = at-loop-test .before .before .before .before .before .before .before .before .before .before .before .before .before .before .before .before .before .before .before in
-    omega (arith, at-loop-test .loop-test .taken, start .pre .7 .m-high)
+    let after-relax-road = c .before .before .before .before .before .before .before .before .before .before in
+    let in-loop = after-relax-road .before .before .before .before .before .before in
+    let after-of-word = in-loop .before .before .before in
+    let after-shared-slice-known6 = after-of-word .before .before .before .before .before .before .before .before .before .before in
+    let start = after-shared-slice-known6 .before .before .before .before .before .before in
+    omega (arith, in-loop .loop-test .taken, start .pre .7 .m-high)
 
 mul-i-2 : tie.Need-mul-i-2 Inv-loop μ-loop
 mul-i-2 c =
-    let at-loop-test = c .before .before .before .before .before .before .before .before .before .before .before .before .before .before .before .before in
-    let start = at-loop-test .before .before .before .before .before .before .before .before .before .before .before .before .before .before .before .before .before .before .before in
-    omega (arith, at-loop-test .loop-test .taken, start .pre .7 .m-high)
+    let after-relax-road = c .before .before .before .before .before .before .before .before .before .before in
+    let in-loop = after-relax-road .before .before .before .before .before .before in
+    let after-of-word = in-loop .before .before .before in
+    let after-shared-slice-known6 = after-of-word .before .before .before .before .before .before .before .before .before .before in
+    let start = after-shared-slice-known6 .before .before .before .before .before .before in
+    omega (arith, in-loop .loop-test .taken, start .pre .7 .m-high)
 
 shared-slice-read-i-2 : tie.Need-shared-slice-read-i-2 Inv-loop μ-loop
 shared-slice-read-i-2 c =
-    let at-loop-test = c .before .before .before .before .before .before .before .before .before .before .before .before .before .before .before .before .before in
-    let start = at-loop-test .before .before .before .before .before .before .before .before .before .before .before .before .before .before .before .before .before .before .before in
-    omega (arith, at-loop-test .loop-test .taken, start .pre .5)
+    let after-relax-road = c .before .before .before .before .before .before .before .before .before .before .before in
+    let in-loop = after-relax-road .before .before .before .before .before .before in
+    let after-of-word = in-loop .before .before .before in
+    let after-shared-slice-known6 = after-of-word .before .before .before .before .before .before .before .before .before .before in
+    let start = after-shared-slice-known6 .before .before .before .before .before .before in
+    omega (arith, in-loop .loop-test .taken, start .pre .5)
 
 loop-less : tie.Need-loop-less Inv-loop μ-loop
 loop-less c =
-    let at-loop-test = c .before .before .before .before .before .before .before .before .before .before .before .before .before .before .before .before .before in
-    let at-loop = at-loop-test .before in
-    let start = at-loop .before .before .before .before .before .before .before .before .before .before .before .before .before .before .before .before .before .before in
-    omega (arith, at-loop-test .loop-test .taken, next-from _ _ _ _ _ _ _ _ _ _ _ _ _ _ _ _ _ _ _ _ _ _ _ _ (at-loop-test .loop-test .taken) (start .pre .0) (at-loop .loop .inv .5) (start .pre .6) .low)
+    let after-relax-road = c .before .before .before .before .before .before .before .before .before .before .before in
+    let in-loop = after-relax-road .before .before .before .before .before .before in
+    let at-loop = in-loop .before in
+    let after-of-word = at-loop .before .before in
+    let after-shared-slice-known6 = after-of-word .before .before .before .before .before .before .before .before .before .before in
+    let start = after-shared-slice-known6 .before .before .before .before .before .before in
+    omega (
+      arith,
+      in-loop .loop-test .taken,
+      next-from _ _ _ _ _ _ _ _ _ _ _ _ _ _ _ _ _ _ _ _ _ _ _ _ (in-loop .loop-test .taken) (start .pre .0) (at-loop .loop .inv .5)
+          (start .pre .6) .low,
+    )
 
 loop-again : tie.Need-loop-again Inv-loop μ-loop
 loop-again c =
-    let at-relax-road = c .before .before .before .before .before .before .before .before .before .before .before in
-    let at-loop-test = at-relax-road .before .before .before .before .before .before in
-    let at-loop = at-loop-test .before in
-    let start = at-loop .before .before .before .before .before .before .before .before .before .before .before .before .before .before .before .before .before .before in
-    (omega (arith, at-relax-road .relax-road .kept .1 .1 .1 .1 .1 .1 .1 .1 .1 .0, at-loop .loop .inv .0), omega (arith, at-relax-road .relax-road .kept .1 .1 .1 .1 .1 .1 .1 .1 .1 .1 .0, at-loop .loop .inv .1), omega (arith, at-relax-road .relax-road .kept .1 .1 .1 .1 .1 .1 .1 .1 .1 .1 .1 .0, at-loop .loop .inv .2), omega (arith, at-relax-road .relax-road .kept .1 .1 .1 .1 .1 .1 .1 .1 .1 .1 .1 .1 .0, at-loop .loop .inv .3), omega (arith, at-relax-road .relax-road .kept .1 .1 .1 .1 .1 .1 .1 .1 .1 .1 .1 .1 .1 .0, at-loop .loop .inv .4), standing-turn _ _ _ _ _ _ _ _ _ _ _ _ _ _ _ _ _ _ _ _ _ _ _ _ _ _ _ _ (at-loop-test .loop-test .taken) (at-loop .loop .inv .5) (at-relax-road .relax-road .ensures) (next-from _ _ _ _ _ _ _ _ _ _ _ _ _ _ _ _ _ _ _ _ _ _ _ _ (at-loop-test .loop-test .taken) (start .pre .0) (at-loop .loop .inv .5) (start .pre .6)))
+    let after-relax-road = c .before .before .before .before .before .before .before .before .before .before .before in
+    let in-loop = after-relax-road .before .before .before .before .before .before in
+    let at-loop = in-loop .before in
+    let after-of-word = at-loop .before .before in
+    let after-shared-slice-known6 = after-of-word .before .before .before .before .before .before .before .before .before .before in
+    let start = after-shared-slice-known6 .before .before .before .before .before .before in (
+      omega (arith, after-relax-road .relax-road .kept .1 .1 .1 .1 .1 .1 .1 .1 .1 .0, at-loop .loop .inv .0),
+      omega (arith, after-relax-road .relax-road .kept .1 .1 .1 .1 .1 .1 .1 .1 .1 .1 .0, at-loop .loop .inv .1),
+      omega (arith, after-relax-road .relax-road .kept .1 .1 .1 .1 .1 .1 .1 .1 .1 .1 .1 .0, at-loop .loop .inv .2),
+      omega (arith, after-relax-road .relax-road .kept .1 .1 .1 .1 .1 .1 .1 .1 .1 .1 .1 .1 .0, at-loop .loop .inv .3),
+      omega (arith, after-relax-road .relax-road .kept .1 .1 .1 .1 .1 .1 .1 .1 .1 .1 .1 .1 .1 .0, at-loop .loop .inv .4),
+      standing-turn _ _ _ _ _ _ _ _ _ _ _ _ _ _ _ _ _ _ _ _ _ _ _ _ _ _ _ _ (in-loop .loop-test .taken) (at-loop .loop .inv .5)
+          (after-relax-road .relax-road .ensures) (next-from _ _ _ _ _ _ _ _ _ _ _ _ _ _ _ _ _ _ _ _ _ _ _ _ (in-loop .loop-test .taken)
+          (start .pre .0) (at-loop .loop .inv .5) (start .pre .6)),
+    )
 
 returns : tie.Need-returns Inv-loop μ-loop
-returns c = standing-end _ _ _ _ _ _ _ _ _ _ _ _ _ _ _ _ _ _ _ _ _ _ _ (c .loop-test .left) (c .before .before .before .of-word .ensures) (c .before .loop .inv .5)
+returns c =
+    let after-of-word = c .before .before .before in
+    standing-end _ _ _ _ _ _ _ _ _ _ _ _ _ _ _ _ _ _ _ _ _ _ _ (c .loop-test .left) (after-of-word .of-word .ensures)
+    (c .before .loop .inv .5)
 
 pub relax-spec : {M : Type 1} → statement M
 relax-spec =

@@ -4,7 +4,9 @@ use Rattle.rows.proofs.is_kept.Statement.{statement}
 use Rattle.rows.proofs.is_kept.Tie as tie
 
 returns : tie.Need-returns
-returns c = kept-by-down _ _ _ _ (c .before .before .is-none .ensures) (c .before .if1 .taken) (c .is-none2 .ensures)
+returns c =
+    let after-is-none = c .before .before in
+    kept-by-down _ _ _ _ (after-is-none .is-none .ensures) (c .before .if1 .taken) (c .is-none2 .ensures)
 
 returns-2 : tie.Need-returns-2
 returns-2 c = kept-by-up _ _ _ (c .before .is-none .ensures) (c .if1 .left)

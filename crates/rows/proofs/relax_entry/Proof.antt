@@ -9,7 +9,12 @@ use Rattle.rows.proofs.relax_entry.Statement.{statement}
 use Rattle.rows.proofs.relax_entry.Tie as tie
 
 returns : tie.Need-returns
-returns c = ap (set (c .before .before .before .before .before .args .row .now) (c .before .before .before .before .before .args .h)) (c .word .ensures ∙ c .before .or-sum .ensures ∙ ap (λ (x : ℕ). min x (word (fit (ofWord (c .before .before .before .before .before .args .a .0) ⊕ ofWord (c .before .before .before .before .before .args .b .0))))) (c .before .before .of-word .ensures))
+returns c =
+    let after-of-word = c .before .before in
+    let start = after-of-word .before .before .before in
+    ap (set (start .args .row .now) (start .args .h))
+    (c .word .ensures ∙ c .before .or-sum .ensures ∙
+    ap (λ (x : ℕ). min x (word (fit (ofWord (start .args .a .0) ⊕ ofWord (start .args .b .0))))) (after-of-word .of-word .ensures))
 
 pub relax-entry-spec : {M : Type 1} → statement M
 relax-entry-spec =

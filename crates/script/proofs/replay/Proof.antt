@@ -6,7 +6,17 @@ use Rattle.script.proofs.replay.Statement.{statement}
 use Rattle.script.proofs.replay.Tie as tie
 
 returns : tie.Need-returns
-returns c = replay-made (areasOf (c .before .before .before .before .before .before .before .before .before .before .before .before .before .before .before .before .before .before .before .before .before .before .before .before .before .before .before .before .before .before .before .before .before .before .before .before .before .before .before .before .before .before .before .before .before .before .before .before .before .before .before .before .before .before .before .args .ranks .now) (c .before .before .before .before .before .before .before .before .before .before .before .before .before .before .before .before .before .before .before .before .before .before .before .before .before .before .before .before .before .before .before .before .before .before .before .before .before .before .before .before .before .before .before .before .before .before .before .before .before .before .before .before .before .before .before .args .pairs .now) (c .before .before .before .before .before .before .before .before .before .before .before .before .before .before .before .before .before .before .before .before .before .before .before .before .before .before .before .before .before .before .before .before .before .before .before .before .before .before .before .before .before .before .before .before .before .before .before .before .before .before .before .before .before .before .before .args .live .now) (c .before .before .before .before .before .before .before .before .before .before .before .before .before .before .before .before .before .before .before .before .before .before .before .before .before .before .before .before .before .before .before .before .before .before .before .before .before .before .before .before .before .before .before .before .before .before .before .before .before .before .before .before .before .before .before .args .down .now) (c .before .before .before .before .before .before .before .before .before .before .before .before .before .before .before .before .before .before .before .before .before .before .before .before .before .before .before .before .before .before .before .before .before .before .before .before .before .before .before .before .before .before .before .before .before .before .before .before .before .before .before .before .before .before .before .args .estimates .now) (c .before .before .before .before .before .before .before .before .before .before .before .before .before .before .before .before .before .before .before .before .before .before .before .before .before .before .before .before .before .before .before .before .before .before .before .before .before .before .before .before .before .before .before .before .before .before .before .before .before .before .before .before .before .before .before .args .elapsed .now)) (lentOf (c .before .before .before .before .before .before .before .before .before .before .before .before .before .before .before .before .before .before .before .before .before .before .before .before .before .before .before .before .before .before .before .before .before .before .before .before .before .before .before .before .before .before .before .before .before .before .before .before .before .before .before .before .before .before .before .args .route .now) (c .before .before .before .before .before .before .before .before .before .before .before .before .before .before .before .before .before .before .before .before .before .before .before .before .before .before .before .before .before .before .before .before .before .before .before .before .before .before .before .before .before .before .before .before .before .before .before .before .before .before .before .before .before .before .before .args .log .now)) _ (answeredIn (c .before .before .before .before .before .before .before .before .before .before .before .before .before .before .before .before .before .before .before .before .before .before .before .before .before .before .before .before .before .before .before .before .before .before .before .before .before .prepare .result)) _ _ _ (c .before .before .before .before .before .before .before .before .before .before .before .before .before .before .before .before .before .before .before .before .before .before .before .before .before .before .before .before .before .before .before .before .before .before .before .before .before .prepare .ensures) refl (c .before .before .before .before .before .before .before .before .before .before .before .before .before .before .make-calls .ensures)
+returns c =
+    let after-down2 = c .before .before .before .before .before .before .before .before .before .before .before in
+    let after-make-calls = after-down2 .before .before .before in
+    let after-header = after-make-calls .before .before .before .before .before .before .before .before .before .before in
+    let after-ranks = after-header .before .before .before .before .before .before .before .before .before .before .before .before in
+    let after-prepare = after-ranks .before in
+    let after-slice-known6 = after-prepare .before .before .before .before .before .before .before .before .before .before .before in
+    let start = after-slice-known6 .before .before .before .before .before .before .before in
+    replay-made (areasOf (start .args .ranks .now) (start .args .pairs .now) (start .args .live .now) (start .args .down .now)
+    (start .args .estimates .now) (start .args .elapsed .now)) (lentOf (start .args .route .now) (start .args .log .now))
+    _ (answeredIn (after-prepare .prepare .result)) _ _ _ (after-prepare .prepare .ensures) refl (after-make-calls .make-calls .ensures)
 
 pub replay-spec : {M : Type 1} → statement M
 replay-spec =
@@ -14,13 +24,58 @@ replay-spec =
     (tie.spec
     (λ c κs. tt)
     (λ c κs. tt)
-    (λ c. c .before .before .before .before .before .before .before .before .before .before .before .before .before .before .before .before .before .before .before .before .before .before .before .before .before .before .before .before .before .before .before .before .before .before .before .before .before .prepare .kept .1 .0)
-    (λ c. c .before .before .before .before .before .before .before .before .before .before .before .before .before .before .before .before .before .before .before .before .before .before .before .before .before .before .before .before .before .before .before .before .before .before .before .before .before .prepare .kept .1 .1 .0)
-    (λ c. c .before .before .before .before .before .before .before .before .before .before .before .before .before .before .make-calls .kept .1 .1 .1 .1 .0 ∙ c .before .before .before .before .before .before .before .before .before .before .before .before .before .before .before .before .before .before .before .before .before .before .before .before .before .before .before .before .before .before .before .before .before .before .before .before .before .prepare .kept .1 .1 .1 .0)
-    (λ c. c .before .before .before .before .before .before .before .before .before .before .before .before .before .before .make-calls .kept .1 .1 .1 .1 .1 .0 ∙ c .before .before .before .before .before .before .before .before .before .before .before .before .before .before .before .before .before .before .before .before .before .before .before .before .before .before .before .before .before .before .before .before .before .before .before .before .before .prepare .kept .1 .1 .1 .1 .0)
-    (λ c. c .before .before .before .before .before .before .before .before .before .before .before .before .before .before .make-calls .kept .1 .1 .1 .1 .1 .1 .0 ∙ c .before .before .before .before .before .before .before .before .before .before .before .before .before .before .before .before .before .before .before .before .before .before .before .before .before .before .before .before .before .before .before .before .before .before .before .before .before .prepare .kept .1 .1 .1 .1 .1 .0)
-    (λ c. c .before .before .before .before .before .before .before .before .before .before .before .before .before .before .make-calls .kept .1 .1 .1 .1 .1 .1 .1 .0 ∙ c .before .before .before .before .before .before .before .before .before .before .before .before .before .before .before .before .before .before .before .before .before .before .before .before .before .before .before .before .before .before .before .before .before .before .before .before .before .prepare .kept .1 .1 .1 .1 .1 .1 .0)
-    (λ c. c .before .before .before .before .before .before .before .before .before .before .before .before .before .before .make-calls .kept .1 .1 .1 .1 .1 .1 .1 .1 .0)
-    (λ c. c .before .before .before .before .before .before .before .before .before .before .before .before .before .before .make-calls .kept .1 .1 .1 .1 .1 .1 .1 .1 .1 .0)
-    (λ c. c .before .before .before .before .before .before .before .before .before .before .before .before .before .before .make-calls .kept .1 .1 .1 .1 .1 .1 .1 .1 .1 .1 .1 .0)
+    (λ c.
+    let after-down2 = c .before .before .before .before .before .before .before .before .before .before .before in
+    let after-make-calls = after-down2 .before .before .before in
+    let after-header = after-make-calls .before .before .before .before .before .before .before .before .before .before in
+    let after-ranks = after-header .before .before .before .before .before .before .before .before .before .before .before .before in
+    let after-prepare = after-ranks .before in
+    after-prepare .prepare .kept .1 .0)
+    (λ c.
+    let after-down2 = c .before .before .before .before .before .before .before .before .before .before .before in
+    let after-make-calls = after-down2 .before .before .before in
+    let after-header = after-make-calls .before .before .before .before .before .before .before .before .before .before in
+    let after-ranks = after-header .before .before .before .before .before .before .before .before .before .before .before .before in
+    let after-prepare = after-ranks .before in
+    after-prepare .prepare .kept .1 .1 .0)
+    (λ c.
+    let after-down2 = c .before .before .before .before .before .before .before .before .before .before .before in
+    let after-make-calls = after-down2 .before .before .before in
+    let after-header = after-make-calls .before .before .before .before .before .before .before .before .before .before in
+    let after-ranks = after-header .before .before .before .before .before .before .before .before .before .before .before .before in
+    let after-prepare = after-ranks .before in
+    after-make-calls .make-calls .kept .1 .1 .1 .1 .0 ∙ after-prepare .prepare .kept .1 .1 .1 .0)
+    (λ c.
+    let after-down2 = c .before .before .before .before .before .before .before .before .before .before .before in
+    let after-make-calls = after-down2 .before .before .before in
+    let after-header = after-make-calls .before .before .before .before .before .before .before .before .before .before in
+    let after-ranks = after-header .before .before .before .before .before .before .before .before .before .before .before .before in
+    let after-prepare = after-ranks .before in
+    after-make-calls .make-calls .kept .1 .1 .1 .1 .1 .0 ∙ after-prepare .prepare .kept .1 .1 .1 .1 .0)
+    (λ c.
+    let after-down2 = c .before .before .before .before .before .before .before .before .before .before .before in
+    let after-make-calls = after-down2 .before .before .before in
+    let after-header = after-make-calls .before .before .before .before .before .before .before .before .before .before in
+    let after-ranks = after-header .before .before .before .before .before .before .before .before .before .before .before .before in
+    let after-prepare = after-ranks .before in
+    after-make-calls .make-calls .kept .1 .1 .1 .1 .1 .1 .0 ∙ after-prepare .prepare .kept .1 .1 .1 .1 .1 .0)
+    (λ c.
+    let after-down2 = c .before .before .before .before .before .before .before .before .before .before .before in
+    let after-make-calls = after-down2 .before .before .before in
+    let after-header = after-make-calls .before .before .before .before .before .before .before .before .before .before in
+    let after-ranks = after-header .before .before .before .before .before .before .before .before .before .before .before .before in
+    let after-prepare = after-ranks .before in
+    after-make-calls .make-calls .kept .1 .1 .1 .1 .1 .1 .1 .0 ∙ after-prepare .prepare .kept .1 .1 .1 .1 .1 .1 .0)
+    (λ c.
+    let after-down2 = c .before .before .before .before .before .before .before .before .before .before .before in
+    let after-make-calls = after-down2 .before .before .before in
+    after-make-calls .make-calls .kept .1 .1 .1 .1 .1 .1 .1 .1 .0)
+    (λ c.
+    let after-down2 = c .before .before .before .before .before .before .before .before .before .before .before in
+    let after-make-calls = after-down2 .before .before .before in
+    after-make-calls .make-calls .kept .1 .1 .1 .1 .1 .1 .1 .1 .1 .0)
+    (λ c.
+    let after-down2 = c .before .before .before .before .before .before .before .before .before .before .before in
+    let after-make-calls = after-down2 .before .before .before in
+    after-make-calls .make-calls .kept .1 .1 .1 .1 .1 .1 .1 .1 .1 .1 .1 .0)
     returns)

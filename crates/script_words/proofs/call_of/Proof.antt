@@ -14,7 +14,9 @@ returns-3 : tie.Need-returns-3
 returns-3 c = λ l. spells-estimate _ _ _ _ _ (c .if3 .taken)
 
 returns-4 : tie.Need-returns-4
-returns-4 c = λ l. spells-go _ _ _ _ _ (c .before .before .if1 .left) (c .before .if2 .left) (c .if3 .left)
+returns-4 c =
+    let else1 = c .before .before in
+    λ l. spells-go _ _ _ _ _ (else1 .if1 .left) (c .before .if2 .left) (c .if3 .left)
 
 pub call-of-spec : {M : Type 1} → statement M
 call-of-spec = tie.close (tie.spec (λ c κs. search needs) returns returns-2 returns-3 returns-4)

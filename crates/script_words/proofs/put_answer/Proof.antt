@@ -8,16 +8,40 @@ use Rattle.script_words.proofs.put_answer.Statement.{statement}
 use Rattle.script_words.proofs.put_answer.Tie as tie
 
 returns : tie.Need-returns
-returns c = put-told (c .before .before .before .before .before .before .before .before .before .before .args .out .now) _ _ _ (c .before .before .before .before .before .before .before .before .before .before .args .k) (c .before .before .put-four .ensures) (refused-words _ _ _ (answerIn (c .before .before .before .before .before .before .before .before .before .before .args .x)) (c .before .before .before .before .question-of .ensures) (c .before .before .before .count-of .ensures) (ap answerIn (c .before .before .before .before .before .before .before .x .given .1)))
+returns c =
+    let after-put-four = c .before .before in
+    let after-count-of = after-put-four .before in
+    let after-question-of = after-count-of .before in
+    let after-x = after-question-of .before .before .before in
+    let start = after-x .before .before .before in
+    put-told (start .args .out .now) _ _ _ (start .args .k) (after-put-four .put-four .ensures)
+    (refused-words _ _ _ (answerIn (start .args .x)) (after-question-of .question-of .ensures) (after-count-of .count-of .ensures)
+    (ap answerIn (after-x .x .given .1)))
 
 returns-2 : tie.Need-returns-2
-returns-2 c = put-told (c .before .before .before .before .before .before .before .args .out .now) _ _ _ (c .before .before .before .before .before .before .before .args .k) (c .before .before .put-four2 .ensures) (ap answerWords (ap answerIn (sym (c .before .before .before .before .enum-told .given .1))))
+returns-2 c =
+    let after-put-four2 = c .before .before in
+    let after-enum-told = after-put-four2 .before .before in
+    let start = after-enum-told .before .before .before in
+    put-told (start .args .out .now) _ _ _ (start .args .k) (after-put-four2 .put-four2 .ensures)
+    (ap answerWords (ap answerIn (sym (after-enum-told .enum-told .given .1))))
 
 returns-3 : tie.Need-returns-3
-returns-3 c = put-told (c .before .before .before .before .before .before .before .before .before .args .out .now) _ _ _ (c .before .before .before .before .before .before .before .before .before .args .k) (c .before .before .put-four3 .ensures) (estimated-words _ _ (answerIn (c .before .before .before .before .before .before .before .before .before .args .x)) (c .before .before .before .word .ensures) (ap answerIn (c .before .before .before .before .before .before .x2 .given .1)))
+returns-3 c =
+    let after-put-four3 = c .before .before in
+    let after-word = after-put-four3 .before in
+    let after-x2 = after-word .before .before .before in
+    let start = after-x2 .before .before .before in
+    put-told (start .args .out .now) _ _ _ (start .args .k) (after-put-four3 .put-four3 .ensures)
+    (estimated-words _ _ (answerIn (start .args .x)) (after-word .word .ensures) (ap answerIn (after-x2 .x2 .given .1)))
 
 returns-4 : tie.Need-returns-4
-returns-4 c = put-told (c .before .before .before .before .before .before .before .before .args .out .now) _ _ _ (c .before .before .before .before .before .before .before .before .args .k) (c .before .before .put-four4 .ensures) (ap answerWords (ap answerIn (sym (c .before .before .before .before .before .x3 .given .1))))
+returns-4 c =
+    let after-put-four4 = c .before .before in
+    let after-x3 = after-put-four4 .before .before .before in
+    let start = after-x3 .before .before .before in
+    put-told (start .args .out .now) _ _ _ (start .args .k) (after-put-four4 .put-four4 .ensures)
+    (ap answerWords (ap answerIn (sym (after-x3 .x3 .given .1))))
 
 pub put-answer-spec : {M : Type 1} → statement M
 put-answer-spec =

@@ -8,30 +8,44 @@ use Rattle.search.proofs.begin.Tie as tie
 
 returns : tie.Need-returns
 returns c =
-    let at-estimate = c .before .before .before .before in
-    let at-reset = at-estimate .before .before .before .before in
-    let at-fill = at-reset .before .before .before .before in
-    let start = at-fill .before .before .before .before .before .before .before .before .before .before in
-    begun-none _ _ _ _ _ _ _ _ _ (start .args .elapsed .now) _ _ (start .pre .5) (start .pre .6) (at-fill .fill .ensures) (start .pre .12) (start .args .wins .now) _ (start .pre .8) (at-reset .reset .ensures) _ (at-estimate .estimate .ensures) (sym (c .before .is-none .ensures) ∙ c .if1 .taken)
+    let after-estimate = c .before .before .before .before in
+    let after-reset = after-estimate .before .before .before .before in
+    let after-fill = after-reset .before .before .before .before in
+    let start = after-fill .before .before .before .before .before .before .before .before .before .before in
+    begun-none _ _ _ _ _ _ _ _ _ (start .args .elapsed .now) _ _ (start .pre .5) (start .pre .6) (after-fill .fill .ensures)
+    (start .pre .12) (start .args .wins .now) _ (start .pre .8) (after-reset .reset .ensures) _ (after-estimate .estimate .ensures)
+    (sym (c .before .is-none .ensures) ∙ c .if1 .taken)
 
 enter-requires : tie.Need-enter-requires
 enter-requires c κs =
-    let at-reset = c .before .before .before .before .before .before .before .before .before .before .before .before .before .before in
-    let start = at-reset .before .before .before .before .before .before .before .before .before .before .before .before .before .before in
-    (simp length-set (omega (arith, start .pre .0, start .pre .7)), omega (arith, start .pre .0, start .pre .8, at-reset .reset .kept .0))
+    let after-estimate = c .before .before .before .before .before .before .before .before .before .before in
+    let after-reset = after-estimate .before .before .before .before in
+    let after-fill = after-reset .before .before .before .before in
+    let start = after-fill .before .before .before .before .before .before .before .before .before .before in (
+      simp length-set (omega (arith, start .pre .0, start .pre .7)),
+      omega (arith, start .pre .0, start .pre .8, after-reset .reset .kept .0),
+    )
 
 returns-2 : tie.Need-returns-2
 returns-2 c =
-    let at-key-of = c .before .before .before .before .before in
-    let at-word = at-key-of .before in
-    let at-of-word = at-word .before in
-    let at-if1 = at-of-word .before .before in
-    let at-is-none = at-if1 .before in
-    let at-estimate = at-is-none .before .before .before in
-    let at-reset = at-estimate .before .before .before .before in
-    let at-fill = at-reset .before .before .before .before in
-    let start = at-fill .before .before .before .before .before .before .before .before .before .before in
-    begun-first _ _ _ _ _ _ _ _ _ (start .args .elapsed .now) _ (start .args .keys .now) (start .pre .5) (start .pre .6) (at-fill .fill .ensures) (start .pre .12) (start .args .wins .now) _ (start .pre .8) (at-reset .reset .ensures) (at-estimate .estimate .result .0) (at-estimate .estimate .ensures) _ (at-key-of .key-of .result) _ (sym (at-is-none .is-none .ensures) ∙ at-if1 .if1 .left) (at-word .word .ensures ∙ at-of-word .of-word .ensures) (omega (arith, at-key-of .key-of .ensures, at-of-word .of-word .ensures)) (start .pre .0) (start .pre .7) (c .before .before .enter .ensures)
+    let after-enter = c .before .before in
+    let after-key-of = after-enter .before .before .before in
+    let after-word = after-key-of .before in
+    let after-of-word = after-word .before in
+    let else1 = after-of-word .before .before in
+    let after-is-none = else1 .before in
+    let after-estimate = after-is-none .before .before .before in
+    let after-reset = after-estimate .before .before .before .before in
+    let after-fill = after-reset .before .before .before .before in
+    let start = after-fill .before .before .before .before .before .before .before .before .before .before in
+    begun-first _ _ _ _ _ _ _ _ _ (start .args .elapsed .now) _ (start .args .keys .now) (start .pre .5) (start .pre .6)
+    (after-fill .fill .ensures) (start .pre .12) (start .args .wins .now) _ (start .pre .8) (after-reset .reset .ensures)
+    (after-estimate .estimate .result .0) (after-estimate .estimate .ensures) _ (after-key-of .key-of .result)
+    _ (sym (after-is-none .is-none .ensures) ∙ else1 .if1 .left) (after-word .word .ensures ∙ after-of-word .of-word .ensures) (omega (
+      arith,
+      after-key-of .key-of .ensures,
+      after-of-word .of-word .ensures,
+    )) (start .pre .0) (start .pre .7) (after-enter .enter .ensures)
 
 pub begin-spec : {M : Type 1} → statement M
 begin-spec =

@@ -7,23 +7,46 @@ use Rattle.search.proofs.search.Tie as tie
 
 returns : tie.Need-returns
 returns c =
-    let at-log = c .before .before .before .before .before .before .before .before .before .before .before .before in
-    let start = at-log .before .before .before .before .before .before .before .before .before .before .before .before .before .before .before in
+    let after-of-word = c .before .before in
+    let after-log-all = after-of-word .before .before .before .before .before .before .before .before .before .before in
+    let after-vias = after-log-all .before .before in
+    let after-shared-slice-known2 = after-vias .before .before .before .before .before .before .before .before .before .before .before in
+    let start = after-shared-slice-known2 .before .before in
     let a = start .args in
-    searches-lost (a .roads .now) (a .order .now) (a .ranks .now) (a .pairs .now) (a .live .now) (a .down .now) (a .n) (a .m) (a .count) (a .start .0) (a .target .0) (a .estimates .now) (a .route .now) (a .log .now) _ _ _ _ _ _ (start .pre .4 .roads-are) (start .pre .4 .order-is) (start .pre .0) (start .pre .1) (at-log .log-all .ensures) (c .before .before .of-word .ensures) (sym (c .before .is-none .ensures) ∙ c .if1 .taken)
+    searches-lost (a .roads .now) (a .order .now) (a .ranks .now) (a .pairs .now) (a .live .now) (a .down .now) (a .n) (a .m) (a .count)
+    (a .start .0) (a .target .0) (a .estimates .now) (a .route .now) (a .log .now) _ _ _ _ _ _ (start .pre .4 .roads-are)
+    (start .pre .4 .order-is) (start .pre .0) (start .pre .1) (after-log-all .log-all .ensures) (after-of-word .of-word .ensures)
+    (sym (c .before .is-none .ensures) ∙ c .if1 .taken)
 
 way-back-requires : tie.Need-way-back-requires
 way-back-requires c κs =
-    let at-log = c .before .before .before .before .before .before .before .before .before .before .before .before .before .before in
-    let start = at-log .before .before .before .before .before .before .before .before .before .before .before .before .before .before .before in
-    (start .pre .1, omega (arith, at-log .log-all .kept .1 .1 .1 .1 .1 .1 .1 .1 .1 .1 .1 .0, start .pre .4 .n-high), omega (arith, start .pre .4 .roads-are), start .pre .2)
+    let after-elapsed = c .before .before .before .before .before .before .before .before .before .before .before in
+    let after-log-all = after-elapsed .before .before .before in
+    let after-vias = after-log-all .before .before in
+    let after-shared-slice-known2 = after-vias .before .before .before .before .before .before .before .before .before .before .before in
+    let start = after-shared-slice-known2 .before .before in (
+      start .pre .1,
+      omega (arith, after-log-all .log-all .kept .1 .1 .1 .1 .1 .1 .1 .1 .1 .1 .1 .0, start .pre .4 .n-high),
+      omega (arith, start .pre .4 .roads-are),
+      start .pre .2,
+    )
 
 returns-2 : tie.Need-returns-2
 returns-2 c =
-    let at-log = c .before .before .before .before .before .before .before .before .before .before .before .before .before .before .before .before .before in
-    let start = at-log .before .before .before .before .before .before .before .before .before .before .before .before .before .before .before in
+    let after-way-back = c .before .before in
+    let else1 = after-way-back .before .before .before in
+    let after-is-none = else1 .before in
+    let after-of-word = after-is-none .before in
+    let after-log-all = after-of-word .before .before .before .before .before .before .before .before .before .before in
+    let after-vias = after-log-all .before .before in
+    let after-shared-slice-known2 = after-vias .before .before .before .before .before .before .before .before .before .before .before in
+    let start = after-shared-slice-known2 .before .before in
     let a = start .args in
-    searches-found (a .roads .now) (a .order .now) (a .ranks .now) (a .pairs .now) (a .live .now) (a .down .now) (a .n) (a .m) (a .count) (a .start .0) (a .target .0) (a .estimates .now) (a .route .now) (a .log .now) _ _ _ _ _ _ (start .pre .4 .roads-are) (start .pre .4 .order-is) (start .pre .0) (start .pre .1) (at-log .log-all .ensures) (c .before .before .before .before .before .before .before .of-word .ensures) _ _ (sym (c .before .before .before .before .before .before .is-none .ensures) ∙ c .before .before .before .before .before .if1 .left) (c .before .before .way-back .ensures .0) (c .before .before .way-back .ensures .1)
+    searches-found (a .roads .now) (a .order .now) (a .ranks .now) (a .pairs .now) (a .live .now) (a .down .now) (a .n) (a .m) (a .count)
+    (a .start .0) (a .target .0) (a .estimates .now) (a .route .now) (a .log .now) _ _ _ _ _ _ (start .pre .4 .roads-are)
+    (start .pre .4 .order-is) (start .pre .0) (start .pre .1) (after-log-all .log-all .ensures) (after-of-word .of-word .ensures)
+    _ _ (sym (after-is-none .is-none .ensures) ∙ else1 .if1 .left) (after-way-back .way-back .ensures .0)
+    (after-way-back .way-back .ensures .1)
 
 pub search-spec : {M : Type 1} → statement M
 search-spec =
@@ -33,17 +56,42 @@ search-spec =
     (λ c κs. search needs)
     (λ c. search needs)
     (λ c. search needs)
-    (λ c. below-kept (c .before .before .before .before .before .before .before .before .before .before .before .before .before .before .before .before .before .before .before .before .before .before .before .before .pre .1) (c .before .before .before .before .before .before .before .before .before .before .before .before .before .before .before .before .before .before .before .before .before .before .before .before .pre .4 .elapsed-is) (c .before .before .before .before .before .before .before .before .before .log-all .kept .1 .1 .1 .1 .1 .1 .1 .1 .1 .1 .0))
+    (λ c.
+    let after-log-all = c .before .before .before .before .before .before .before .before .before in
+    let after-vias = after-log-all .before .before in
+    let after-shared-slice-known2 = after-vias .before .before .before .before .before .before .before .before .before .before .before in
+    let start = after-shared-slice-known2 .before .before in
+    below-kept (start .pre .1) (start .pre .4 .elapsed-is) (after-log-all .log-all .kept .1 .1 .1 .1 .1 .1 .1 .1 .1 .1 .0))
     (λ c κs. search needs)
     (λ c κs. search needs)
-    (λ c. c .before .before .before .before .before .before .before .before .before .before .before .before .log-all .kept .1 .1 .1 .1 .1 .1 .1 .1 .1 .0)
-    (λ c. c .before .before .before .before .before .before .before .before .before .before .before .before .log-all .kept .1 .1 .1 .1 .1 .1 .1 .1 .1 .1 .0)
-    (λ c. c .before .before .before .before .before .before .before .before .before .before .before .before .log-all .kept .1 .1 .1 .1 .1 .1 .1 .1 .1 .1 .1 .1 .0)
+    (λ c.
+    let after-log-all = c .before .before .before .before .before .before .before .before .before .before .before .before in
+    after-log-all .log-all .kept .1 .1 .1 .1 .1 .1 .1 .1 .1 .0)
+    (λ c.
+    let after-log-all = c .before .before .before .before .before .before .before .before .before .before .before .before in
+    after-log-all .log-all .kept .1 .1 .1 .1 .1 .1 .1 .1 .1 .1 .0)
+    (λ c.
+    let after-log-all = c .before .before .before .before .before .before .before .before .before .before .before .before in
+    after-log-all .log-all .kept .1 .1 .1 .1 .1 .1 .1 .1 .1 .1 .1 .1 .0)
     returns
-    (λ c. counted 4096 0 (c .before .before .before .before .before .before .before .before .before .before .before .before .before .log-all .kept .1 .1 .1 .1 .1 .1 .1 .1 .1 .1 .1 .0))
+    (λ c.
+    let after-estimates = c .before .before .before .before .before .before .before .before .before .before .before .before in
+    let after-log-all = after-estimates .before in
+    counted 4096 0 (after-log-all .log-all .kept .1 .1 .1 .1 .1 .1 .1 .1 .1 .1 .1 .0))
     way-back-requires
-    (λ c. c .before .before .before .before .before .before .before .before .before .before .before .before .before .before .before .before .before .log-all .kept .1 .1 .1 .1 .1 .1 .1 .1 .1 .0)
-    (λ c. c .before .before .before .before .before .before .before .before .before .before .before .before .before .before .before .before .before .log-all .kept .1 .1 .1 .1 .1 .1 .1 .1 .1 .1 .0)
-    (λ c. c .before .before .way-back .kept .1 .1 .1 .1 .1 .1 .0)
-    (λ c. c .before .before .before .before .before .before .before .before .before .before .before .before .before .before .before .before .before .log-all .kept .1 .1 .1 .1 .1 .1 .1 .1 .1 .1 .1 .1 .0)
+    (λ c.
+    let after-vias2 = c .before .before .before .before .before .before .before .before .before .before .before .before in
+    let after-log-all = after-vias2 .before .before .before .before .before in
+    after-log-all .log-all .kept .1 .1 .1 .1 .1 .1 .1 .1 .1 .0)
+    (λ c.
+    let after-vias2 = c .before .before .before .before .before .before .before .before .before .before .before .before in
+    let after-log-all = after-vias2 .before .before .before .before .before in
+    after-log-all .log-all .kept .1 .1 .1 .1 .1 .1 .1 .1 .1 .1 .0)
+    (λ c.
+    let after-way-back = c .before .before in
+    after-way-back .way-back .kept .1 .1 .1 .1 .1 .1 .0)
+    (λ c.
+    let after-vias2 = c .before .before .before .before .before .before .before .before .before .before .before .before in
+    let after-log-all = after-vias2 .before .before .before .before .before in
+    after-log-all .log-all .kept .1 .1 .1 .1 .1 .1 .1 .1 .1 .1 .1 .1 .0)
     returns-2)

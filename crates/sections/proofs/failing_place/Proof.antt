@@ -18,16 +18,45 @@ abbrev μ-loop : tie.MeasureT-loop
 μ-loop order seen₀ n k₀ seen k = n - k
 
 loop-holds : tie.Need-loop-holds Inv-loop μ-loop
-loop-holds c = (search needs, search needs, places-start (rowsIn [] (c .before .args .order .now)) _ (sym (junctions [] (c .before .args .order .now))))
+loop-holds c =
+    let start = c .before in
+    (search needs, search needs, places-start (rowsIn [] (start .args .order .now)) _ (sym (junctions [] (start .args .order .now))))
 
 returns : tie.Need-returns Inv-loop μ-loop
-returns c = places-fail (rowsIn [] (c .before .before .before .before .before .before .before .before .args .order .now)) _ _ _ (c .before .before .before .before .before .before .loop .inv .2) (search needs) (c .before .before .before .before .before .before .loop .inv .1) _ _ (c .before .before .before .before .word-at .ensures ∙ sym (word-in (c .before .before .before .before .before .before .before .before .args .order .now) (c .before .before .before .before .before .before .loop .k) (omega (arith, c .before .before .before .before .before .loop-test .taken)))) (c .before .before .place-ok .ensures .0) (c .before .before .before .before .before .loop-test .taken) (not-true _ (c .if1 .taken))
+returns c =
+    let after-place-ok = c .before .before in
+    let after-word-at = after-place-ok .before .before in
+    let in-loop = after-word-at .before in
+    let at-loop = in-loop .before in
+    let start = at-loop .before .before in
+    places-fail (rowsIn [] (start .args .order .now)) _ _ _ (at-loop .loop .inv .2) (search needs) (at-loop .loop .inv .1)
+    _ _ (after-word-at .word-at .ensures ∙ sym (word-in (start .args .order .now) (at-loop .loop .k) (omega (
+      arith,
+      in-loop .loop-test .taken,
+    )))) (after-place-ok .place-ok .ensures .0) (in-loop .loop-test .taken) (not-true _ (c .if1 .taken))
 
 loop-again : tie.Need-loop-again Inv-loop μ-loop
-loop-again c = (search needs, search needs, places-turn (rowsIn [] (c .before .before .before .before .before .before .before .before .args .order .now)) _ _ _ (c .before .before .before .before .before .before .loop .inv .2) (search needs) (c .before .before .before .before .before .before .loop .inv .1) _ _ (c .before .before .before .before .word-at .ensures ∙ sym (word-in (c .before .before .before .before .before .before .before .before .args .order .now) (c .before .before .before .before .before .before .loop .k) (omega (arith, c .before .before .before .before .before .loop-test .taken)))) (c .before .before .place-ok .ensures .0) _ (c .before .before .place-ok .ensures .1) (not-false _ (c .if1 .left)))
+loop-again c =
+    let after-place-ok = c .before .before in
+    let after-word-at = after-place-ok .before .before in
+    let in-loop = after-word-at .before in
+    let at-loop = in-loop .before in
+    let start = at-loop .before .before in (
+      search needs,
+      search needs,
+      places-turn (rowsIn [] (start .args .order .now)) _ _ _ (at-loop .loop .inv .2) (search needs) (at-loop .loop .inv .1)
+          _ _ (after-word-at .word-at .ensures ∙ sym (word-in (start .args .order .now) (at-loop .loop .k) (omega (
+            arith,
+            in-loop .loop-test .taken,
+          )))) (after-place-ok .place-ok .ensures .0) _ (after-place-ok .place-ok .ensures .1) (not-false _ (c .if1 .left)),
+    )
 
 returns-2 : tie.Need-returns-2 Inv-loop μ-loop
-returns-2 c = places-end (rowsIn [] (c .before .before .before .args .order .now)) _ _ _ (c .before .loop .inv .2) (search needs) (c .before .loop .inv .1) (c .before .loop .inv .0) (c .loop-test .left)
+returns-2 c =
+    let at-loop = c .before in
+    let start = at-loop .before .before in
+    places-end (rowsIn [] (start .args .order .now)) _ _ _ (at-loop .loop .inv .2) (search needs) (at-loop .loop .inv .1)
+    (at-loop .loop .inv .0) (c .loop-test .left)
 
 pub failing-place-spec : {M : Type 1} → statement M
 failing-place-spec =

@@ -15,16 +15,51 @@ abbrev μ-loop : tie.MeasureT-loop
 μ-loop roads order n m i₀ i = m - i
 
 loop-holds : tie.Need-loop-holds Inv-loop μ-loop
-loop-holds c = (search needs, roads-start (rowsIn (c .before .before .args .roads .now) (c .before .before .args .order .now)) _ _ (sym (junctions (c .before .before .args .roads .now) (c .before .before .args .order .now))) (sym (arcs (c .before .before .args .roads .now) (c .before .before .args .order .now))))
+loop-holds c =
+    let start = c .before .before in (
+      search needs,
+      roads-start (rowsIn (start .args .roads .now) (start .args .order .now))
+          _ _ (sym (junctions (start .args .roads .now) (start .args .order .now)))
+          (sym (arcs (start .args .roads .now) (start .args .order .now))),
+    )
 
 returns : tie.Need-returns Inv-loop μ-loop
-returns c = roads-fail (rowsIn (c .before .before .before .before .before .before .before .before .before .args .roads .now) (c .before .before .before .before .before .before .before .before .before .args .order .now)) _ _ _ (c .before .before .before .before .before .before .loop .inv .1) (c .before .before .before .before .before .loop-test .taken) (body-known (c .before .before .before .before .before .before .before .before .before .args .roads .now) (c .before .before .before .before .before .before .before .before .before .args .order .now) (c .before .before .before .before .before .before .loop .i) _ _ _ _ _ (omega (arith, arcs (c .before .before .before .before .before .before .before .before .before .args .roads .now) (c .before .before .before .before .before .before .before .before .before .args .order .now))) (c .before .before .before .before .before .before .loop .inv .1 .0) (c .before .before .before .before .word-at .ensures) (c .before .before .before .word-at2 .ensures) (c .before .before .word-at3 .ensures) (c .before .road-ok .ensures) ∙ not-true _ (c .if1 .taken))
+returns c =
+    let after-word-at3 = c .before .before in
+    let after-word-at2 = after-word-at3 .before in
+    let after-word-at = after-word-at2 .before in
+    let in-loop = after-word-at .before in
+    let at-loop = in-loop .before in
+    let start = at-loop .before .before .before in
+    roads-fail (rowsIn (start .args .roads .now) (start .args .order .now)) _ _ _ (at-loop .loop .inv .1) (in-loop .loop-test .taken)
+    (body-known (start .args .roads .now) (start .args .order .now) (at-loop .loop .i) _ _ _ _ _ (omega (
+      arith,
+      arcs (start .args .roads .now) (start .args .order .now),
+    )) (at-loop .loop .inv .1 .0) (after-word-at .word-at .ensures) (after-word-at2 .word-at2 .ensures) (after-word-at3 .word-at3 .ensures)
+    (c .before .road-ok .ensures) ∙ not-true _ (c .if1 .taken))
 
 loop-again : tie.Need-loop-again Inv-loop μ-loop
-loop-again c = (search needs, roads-turn (rowsIn (c .before .before .before .before .before .before .before .before .before .args .roads .now) (c .before .before .before .before .before .before .before .before .before .args .order .now)) _ _ _ (c .before .before .before .before .before .before .loop .inv .1) (body-known (c .before .before .before .before .before .before .before .before .before .args .roads .now) (c .before .before .before .before .before .before .before .before .before .args .order .now) (c .before .before .before .before .before .before .loop .i) _ _ _ _ _ (omega (arith, arcs (c .before .before .before .before .before .before .before .before .before .args .roads .now) (c .before .before .before .before .before .before .before .before .before .args .order .now))) (c .before .before .before .before .before .before .loop .inv .1 .0) (c .before .before .before .before .word-at .ensures) (c .before .before .before .word-at2 .ensures) (c .before .before .word-at3 .ensures) (c .before .road-ok .ensures) ∙ not-false _ (c .if1 .left)))
+loop-again c =
+    let after-word-at3 = c .before .before in
+    let after-word-at2 = after-word-at3 .before in
+    let after-word-at = after-word-at2 .before in
+    let at-loop = after-word-at .before .before in
+    let start = at-loop .before .before .before in (
+      search needs,
+      roads-turn (rowsIn (start .args .roads .now) (start .args .order .now)) _ _ _ (at-loop .loop .inv .1)
+          (body-known (start .args .roads .now) (start .args .order .now) (at-loop .loop .i) _ _ _ _ _ (omega (
+            arith,
+            arcs (start .args .roads .now) (start .args .order .now),
+          )) (at-loop .loop .inv .1 .0) (after-word-at .word-at .ensures) (after-word-at2 .word-at2 .ensures)
+          (after-word-at3 .word-at3 .ensures) (c .before .road-ok .ensures) ∙ not-false _ (c .if1 .left)),
+    )
 
 returns-2 : tie.Need-returns-2 Inv-loop μ-loop
-returns-2 c = roads-end (rowsIn (c .before .before .before .before .args .roads .now) (c .before .before .before .before .args .order .now)) _ _ _ (c .before .loop .inv .1) (c .before .loop .inv .0) (c .loop-test .left)
+returns-2 c =
+    let at-loop = c .before in
+    let start = at-loop .before .before .before in
+    roads-end (rowsIn (start .args .roads .now) (start .args .order .now)) _ _ _ (at-loop .loop .inv .1) (at-loop .loop .inv .0)
+    (c .loop-test .left)
 
 pub failing-road-spec : {M : Type 1} → statement M
 failing-road-spec =

@@ -9,24 +9,40 @@ use Rattle.shell.proofs.answer_line.Tie as tie
 
 returns : tie.Need-returns
 returns c =
-    let s = c .before .before .before .before .before .before .before .before .before .before .before .before in
+    let after-enum-told = c .before .before in
+    let after-read-line = after-enum-told .before .before in
+    let start = after-read-line .before .before .before .before .before .before .before .before in
     let w = c .write-unreadable in (
-      unreadable-way (s .args .card .now) (s .args .line .now) (lentOf (s .args .route .now) (s .args .log .now)) (c .before .before .before .before .read-line .result) (c .before .before .before .before .read-line .ensures) (s .args .out .now) (w .last .0) (w .result) (room 8192 (s .args .out .now) (c .before .write-unreadable-arg .given .0 .1))
-          (headerIn (s .args .header)) (areasOf (s .args .ranks .now) (s .args .pairs .now) (s .args .live .now) (s .args .down .now) (s .args .estimates .now) (s .args .elapsed .now)) (c .before .before .enum-told .given .1) (w .ensures),
-      counted _ (w .result) (s .args .out .now) (w .last .0) (w .ensures) (w .kept .0),
+      unreadable-way (start .args .card .now) (start .args .line .now) (lentOf (start .args .route .now) (start .args .log .now))
+          (after-read-line .read-line .result) (after-read-line .read-line .ensures) (start .args .out .now) (w .last .0) (w .result)
+          (room 8192 (start .args .out .now) (c .before .write-unreadable-arg .given .0 .1))
+          (headerIn (start .args .header)) (areasOf (start .args .ranks .now) (start .args .pairs .now) (start .args .live .now)
+          (start .args .down .now) (start .args .estimates .now) (start .args .elapsed .now)) (after-enum-told .enum-told .given .1)
+          (w .ensures),
+      counted _ (w .result) (start .args .out .now) (w .last .0) (w .ensures) (w .kept .0),
     )
 
 returns-2 : tie.Need-returns-2
 returns-2 c =
-    let s = c .before .before .before .before .before .before .before .before .before .before .before .before .before .before .before .before .before .before .before .before .before .before .before .before .before .before .before .before .before .before .before .before in
-    let g = c .before .before .before .before .before .before .before .before .before .before .before .before .before .call in
+    let after-live = c .before .before .before .before .before .before .before .before .before .before .before .before in
+    let after-call = after-live .before in
+    let after-call-arg6 = after-call .before .before in
+    let after-c = after-call-arg6 .before .before .before .before .before .before .before in
+    let after-read-line = after-c .before .before in
+    let start = after-read-line .before .before .before .before .before .before .before .before in
+    let g = after-call .call in
     let w = c .write-answer in (
-      call-way (s .args .card .now) (s .args .line .now) (lentOf (s .args .route .now) (s .args .log .now)) (c .before .before .before .before .before .before .before .before .before .before .before .before .before .before .before .before .before .before .before .before .before .before .before .before .read-line .result) (c .before .before .before .before .before .before .before .before .before .before .before .before .before .before .before .before .before .before .before .before .before .before .before .before .read-line .ensures) (s .args .out .now) (w .last .1 .1 .0) (w .result) (room 8192 (s .args .out .now) (c .before .write-answer-arg3 .given .0 .1))
-          (before (headerIn (s .args .header)) (areasOf (s .args .ranks .now) (s .args .pairs .now) (s .args .live .now) (s .args .down .now) (s .args .estimates .now) (s .args .elapsed .now))) _ (answeredIn (g .result))
-          (areasOf (s .args .ranks .now) (s .args .pairs .now) (g .last .1 .1 .1 .1 .0) (g .last .1 .1 .1 .1 .1 .0) (g .last .1 .1 .1 .1 .1 .1 .0) (g .last .1 .1 .1 .1 .1 .1 .1 .0))
+      call-way (start .args .card .now) (start .args .line .now) (lentOf (start .args .route .now) (start .args .log .now))
+          (after-read-line .read-line .result) (after-read-line .read-line .ensures) (start .args .out .now) (w .last .1 .1 .0) (w .result)
+          (room 8192 (start .args .out .now) (c .before .write-answer-arg3 .given .0 .1))
+          (before (headerIn (start .args .header)) (areasOf (start .args .ranks .now) (start .args .pairs .now) (start .args .live .now)
+          (start .args .down .now) (start .args .estimates .now) (start .args .elapsed .now))) _ (answeredIn (g .result))
+          (areasOf (start .args .ranks .now) (start .args .pairs .now) (g .last .1 .1 .1 .1 .0) (g .last .1 .1 .1 .1 .1 .0)
+          (g .last .1 .1 .1 .1 .1 .1 .0) (g .last .1 .1 .1 .1 .1 .1 .1 .0))
           (lentOf (g .last .1 .1 .1 .1 .1 .1 .1 .1 .0) (g .last .1 .1 .1 .1 .1 .1 .1 .1 .1 .0))
-          (at-most 200 (g .last .1 .1 .1 .1 .1 .1 .1 .1 .0) (g .kept .1 .1 .1 .1 .1 .1 .1 .1 .0 ∙ c .before .before .before .before .before .before .before .before .before .before .before .before .before .before .before .call-arg6 .given .0 .1)) (c .before .before .before .before .before .before .before .before .before .before .before .before .before .before .before .before .before .before .before .before .before .before .c .given .1) (g .ensures) (w .ensures),
-      counted _ (w .result) (s .args .out .now) (w .last .1 .1 .0) (w .ensures) (w .kept .1 .1 .0),
+          (at-most 200 (g .last .1 .1 .1 .1 .1 .1 .1 .1 .0) (g .kept .1 .1 .1 .1 .1 .1 .1 .1 .0 ∙ after-call-arg6 .call-arg6 .given .0 .1))
+          (after-c .c .given .1) (g .ensures) (w .ensures),
+      counted _ (w .result) (start .args .out .now) (w .last .1 .1 .0) (w .ensures) (w .kept .1 .1 .0),
     )
 
 pub answer-line-spec : {M : Type 1} → statement M
@@ -40,8 +56,20 @@ answer-line-spec =
     (λ c κs. tt)
     (λ c κs. tt)
     returns
-    (λ c. c .before .before .before .before .before .before .before .before .before .before .before .before .before .call .kept .1 .1 .1 .1 .0)
-    (λ c. c .before .before .before .before .before .before .before .before .before .before .before .before .before .call .kept .1 .1 .1 .1 .1 .0)
-    (λ c. c .before .before .before .before .before .before .before .before .before .before .before .before .before .call .kept .1 .1 .1 .1 .1 .1 .0)
-    (λ c. c .before .before .before .before .before .before .before .before .before .before .before .before .before .call .kept .1 .1 .1 .1 .1 .1 .1 .0)
+    (λ c.
+    let after-live = c .before .before .before .before .before .before .before .before .before .before .before .before in
+    let after-call = after-live .before in
+    after-call .call .kept .1 .1 .1 .1 .0)
+    (λ c.
+    let after-live = c .before .before .before .before .before .before .before .before .before .before .before .before in
+    let after-call = after-live .before in
+    after-call .call .kept .1 .1 .1 .1 .1 .0)
+    (λ c.
+    let after-live = c .before .before .before .before .before .before .before .before .before .before .before .before in
+    let after-call = after-live .before in
+    after-call .call .kept .1 .1 .1 .1 .1 .1 .0)
+    (λ c.
+    let after-live = c .before .before .before .before .before .before .before .before .before .before .before .before in
+    let after-call = after-live .before in
+    after-call .call .kept .1 .1 .1 .1 .1 .1 .1 .0)
     returns-2)

@@ -11,7 +11,9 @@ returns-2 : tie.Need-returns-2
 returns-2 c = λ xs h w. let z : ⊥ = omega (arith, c .if2 .taken, w .fits) in absurd z
 
 returns-3 : tie.Need-returns-3
-returns-3 c = λ xs h w. whole-line _ _ xs h w (c .before .before .if1 .left)
+returns-3 c =
+    let else1 = c .before .before in
+    λ xs h w. whole-line _ _ xs h w (else1 .if1 .left)
 
 pub kept-line-spec : {M : Type 1} → statement M
 kept-line-spec =

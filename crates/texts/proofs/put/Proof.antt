@@ -18,10 +18,15 @@ loop-holds : tie.Need-loop-holds Inv-loop μ-loop
 loop-holds c = (search needs, search needs, puts-none _ _)
 
 loop-again : tie.Need-loop-again Inv-loop μ-loop
-loop-again c = (search needs, search needs, put-turn _ (c .before .before .before .before .before .before .loop .i) (search needs) (c .before .before .before .before .before .before .loop .inv .2) (c .before .before .put-byte .ensures))
+loop-again c =
+    let after-put-byte = c .before .before in
+    let at-loop = after-put-byte .before .before .before .before in
+    (search needs, search needs, put-turn _ (at-loop .loop .i) (search needs) (at-loop .loop .inv .2) (after-put-byte .put-byte .ensures))
 
 returns : tie.Need-returns Inv-loop μ-loop
-returns c = put-end _ (c .before .loop .i) (search needs) (c .before .loop .inv .2)
+returns c =
+    let at-loop = c .before in
+    put-end _ (at-loop .loop .i) (search needs) (at-loop .loop .inv .2)
 
 pub put-spec : {M : Type 1} → statement M
 put-spec =

@@ -19,10 +19,15 @@ unfolding spaced
 loop-holds c = (search needs, search needs, puts-none _ _)
 
 loop-again : tie.Need-loop-again Inv-loop μ-loop
-loop-again c = (search needs, search needs, words-turn _ (c .before .before .before .before .before .before .loop .i) (search needs) (c .before .before .before .before .before .before .loop .inv .2) (c .before .before .put-word .ensures))
+loop-again c =
+    let after-put-word = c .before .before in
+    let at-loop = after-put-word .before .before .before .before in
+    (search needs, search needs, words-turn _ (at-loop .loop .i) (search needs) (at-loop .loop .inv .2) (after-put-word .put-word .ensures))
 
 returns : tie.Need-returns Inv-loop μ-loop
-returns c = words-end _ (c .before .loop .i) (search needs) (c .before .loop .inv .2)
+returns c =
+    let at-loop = c .before in
+    words-end _ (at-loop .loop .i) (search needs) (at-loop .loop .inv .2)
 
 pub put-words-spec : {M : Type 1} → statement M
 put-words-spec =

@@ -7,16 +7,31 @@ use Rattle.types_c.proofs.answer_of.Statement.{statement}
 use Rattle.types_c.proofs.answer_of.Tie as tie
 
 returns : tie.Need-returns
-returns c = refusal-told _ _ _ _ _ _ _ (c .before .before .before .before .before .before .words-of .ensures) (c .before .before .question-of .ensures) (c .before .place-of .ensures) (c .count-of .ensures) (ap answerIn (c .before .before .before .before .answer .given .1))
+returns c =
+    let after-question-of = c .before .before in
+    let after-answer = after-question-of .before .before in
+    let after-words-of = after-answer .before .before in
+    refusal-told _ _ _ _ _ _ _ (after-words-of .words-of .ensures) (after-question-of .question-of .ensures) (c .before .place-of .ensures)
+    (c .count-of .ensures) (ap answerIn (after-answer .answer .given .1))
 
 returns-2 : tie.Need-returns-2
-returns-2 c = answer-told _ _ model.Accepted _ (c .before .before .words-of .ensures) (ap answerIn (c .enum-told .given .1))
+returns-2 c =
+    let after-words-of = c .before .before in
+    answer-told _ _ model.Accepted _ (after-words-of .words-of .ensures) (ap answerIn (c .enum-told .given .1))
 
 returns-3 : tie.Need-returns-3
-returns-3 c = answer-told _ _ (model.Estimated (c .before .before .answer2 .given .0 .0 .0)) _ (c .before .before .before .before .words-of .ensures) (ap answerIn (c .before .before .answer2 .given .1))
+returns-3 c =
+    let after-answer2 = c .before .before in
+    let after-words-of = after-answer2 .before .before in
+    answer-told _ _ (model.Estimated (after-answer2 .answer2 .given .0 .0 .0)) _ (after-words-of .words-of .ensures)
+    (ap answerIn (after-answer2 .answer2 .given .1))
 
 returns-4 : tie.Need-returns-4
-returns-4 c = answer-told _ _ (model.Gone (c .before .answer3 .given .0 .0) (c .before .answer3 .given .0 .1 .0) (c .before .answer3 .given .0 .1 .1 .0)) _ (c .before .before .before .words-of .ensures) (ap answerIn (c .before .answer3 .given .1))
+returns-4 c =
+    let after-answer3 = c .before in
+    let after-words-of = after-answer3 .before .before in
+    answer-told _ _ (model.Gone (after-answer3 .answer3 .given .0 .0) (after-answer3 .answer3 .given .0 .1 .0)
+    (after-answer3 .answer3 .given .0 .1 .1 .0)) _ (after-words-of .words-of .ensures) (ap answerIn (after-answer3 .answer3 .given .1))
 
 pub answer-of-spec : {M : Type 1} → statement M
 answer-of-spec =

@@ -6,10 +6,15 @@ use Rattle.unit.proofs.gone.Statement.{statement}
 use Rattle.unit.proofs.gone.Tie as tie
 
 returns : tie.Need-returns
-returns c = (refl, gone-none (c .before .before .args .total .0) _ _ (eqb-true _ _ (sym (c .before .is-none .ensures) ∙ c .if1 .taken)))
+returns c =
+    let start = c .before .before in
+    (refl, gone-none (start .args .total .0) _ _ (eqb-true _ _ (sym (c .before .is-none .ensures) ∙ c .if1 .taken)))
 
 returns-2 : tie.Need-returns-2
-returns-2 c = (refl, gone-some (c .before .before .before .args .total .0) _ _ (eqb-false _ _ (sym (c .before .before .is-none .ensures) ∙ c .before .if1 .left)))
+returns-2 c =
+    let after-is-none = c .before .before in
+    let start = after-is-none .before in
+    (refl, gone-some (start .args .total .0) _ _ (eqb-false _ _ (sym (after-is-none .is-none .ensures) ∙ c .before .if1 .left)))
 
 pub gone-spec : {M : Type 1} → statement M
 gone-spec = tie.close (tie.spec (λ c κs. search needs) returns (λ c. search needs) returns-2)

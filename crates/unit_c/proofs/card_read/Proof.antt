@@ -6,10 +6,16 @@ use Rattle.unit_c.proofs.card_read.Statement.{statement}
 use Rattle.unit_c.proofs.card_read.Tie as tie
 
 returns : tie.Need-returns
-returns c = read-told _ _ _ (ap readingIn (sym (c .before .n .given .1)) ∙ c .before .before .before .read .ensures)
+returns c =
+    let after-read = c .before .before .before in
+    read-told _ _ _ (ap readingIn (sym (c .before .n .given .1)) ∙ after-read .read .ensures)
 
 returns-2 : tie.Need-returns-2
-returns-2 c = unread-told _ _ _ _ (ap readingIn (sym (c .before .before .before .q .given .1)) ∙ c .before .before .before .before .before .read .ensures) (c .question-of .ensures) (c .before .place-of .ensures)
+returns-2 c =
+    let after-q = c .before .before .before in
+    let after-read = after-q .before .before in
+    unread-told _ _ _ _ (ap readingIn (sym (after-q .q .given .1)) ∙ after-read .read .ensures) (c .question-of .ensures)
+    (c .before .place-of .ensures)
 
 pub card-read-spec : {M : Type 1} → statement M
 card-read-spec =

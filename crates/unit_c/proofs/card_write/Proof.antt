@@ -10,10 +10,23 @@ use Rattle.unit_c.proofs.card_write.Statement.{statement}
 use Rattle.unit_c.proofs.card_write.Tie as tie
 
 returns : tie.Need-returns
-returns c = accepted-told (writeCard (rowsOf (c .before .before .before .before .before .before .before .before .before .args .roads .now) (c .before .before .before .before .before .before .before .before .before .args .order .now)) (c .before .before .before .before .before .before .before .before .before .args .area .now)) (c .before .before .before .before .write .last .1 .1 .0) (ap (λ (x : Writing). record { answer = writingIn x; area = c .before .before .before .before .write .last .1 .1 .0 }) (sym (c .enum-told .given .1)) ∙ c .before .before .before .before .write .ensures)
+returns c =
+    let after-write = c .before .before .before .before in
+    let start = after-write .before .before .before .before .before in
+    accepted-told (writeCard (rowsOf (start .args .roads .now) (start .args .order .now)) (start .args .area .now))
+    (after-write .write .last .1 .1 .0) (ap (λ (x : Writing). record { answer = writingIn x; area = after-write .write .last .1 .1 .0 })
+    (sym (c .enum-told .given .1)) ∙ after-write .write .ensures)
 
 returns-2 : tie.Need-returns-2
-returns-2 c = refused-told (writeCard (rowsOf (c .before .before .before .before .before .before .before .before .before .before .before .before .args .roads .now) (c .before .before .before .before .before .before .before .before .before .before .before .before .args .order .now)) (c .before .before .before .before .before .before .before .before .before .before .before .before .args .area .now)) (c .before .before .before .before .before .before .before .write .last .1 .1 .0) _ _ _ (ap (λ (x : Writing). record { answer = writingIn x; area = c .before .before .before .before .before .before .before .write .last .1 .1 .0 }) (sym (c .before .before .before .q .given .1)) ∙ c .before .before .before .before .before .before .before .write .ensures) (c .question-of .ensures) (c .before .place-of .ensures)
+returns-2 c =
+    let after-q = c .before .before .before in
+    let after-write = after-q .before .before .before .before in
+    let start = after-write .before .before .before .before .before in
+    refused-told (writeCard (rowsOf (start .args .roads .now) (start .args .order .now)) (start .args .area .now))
+    (after-write .write .last .1 .1 .0) _ _ _ (ap (λ (x : Writing). record {
+      answer = writingIn x;
+      area = after-write .write .last .1 .1 .0;
+    }) (sym (after-q .q .given .1)) ∙ after-write .write .ensures) (c .question-of .ensures) (c .before .place-of .ensures)
 
 pub card-write-spec : {M : Type 1} → statement M
 card-write-spec =

@@ -4,7 +4,13 @@ use Rattle.unit_c.proofs.unit_estimate.Statement.{statement}
 use Rattle.unit_c.proofs.unit_estimate.Tie as tie
 
 returns : tie.Need-returns
-returns c = (answeredIn (c .before .before .before .estimate .result), c .answer-of .ensures, estimate-at _ _ _ (c .before .before .before .before .before .header-of .ensures) _ _ (c .before .before .before .estimate .ensures))
+returns c =
+    let after-estimate = c .before .before .before in
+    let after-header-of = after-estimate .before .before in (
+      answeredIn (after-estimate .estimate .result),
+      c .answer-of .ensures,
+      estimate-at _ _ _ (after-header-of .header-of .ensures) _ _ (after-estimate .estimate .ensures),
+    )
 
 pub unit-estimate-spec : {M : Type 1} → statement M
 unit-estimate-spec =
@@ -13,5 +19,7 @@ unit-estimate-spec =
     (λ c κs. tt)
     (λ c κs. tt)
     (λ c κs. tt)
-    (λ c. c .before .before .before .estimate .kept .1 .1 .1 .1 .1 .1 .0)
+    (λ c.
+    let after-estimate = c .before .before .before in
+    after-estimate .estimate .kept .1 .1 .1 .1 .1 .1 .0)
     returns)

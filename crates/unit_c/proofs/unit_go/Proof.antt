@@ -4,7 +4,13 @@ use Rattle.unit_c.proofs.unit_go.Statement.{statement}
 use Rattle.unit_c.proofs.unit_go.Tie as tie
 
 returns : tie.Need-returns
-returns c = (answeredIn (c .before .before .before .before .before .before .before .before .before .go .result), c .answer-of .ensures, go-at _ _ _ (c .before .before .before .before .before .before .before .before .before .before .before .before .before .before .header-of .ensures) _ _ (c .before .before .before .before .before .before .before .before .before .go .ensures))
+returns c =
+    let after-go = c .before .before .before .before .before .before .before .before .before in
+    let after-header-of = after-go .before .before .before .before .before in (
+      answeredIn (after-go .go .result),
+      c .answer-of .ensures,
+      go-at _ _ _ (after-header-of .header-of .ensures) _ _ (after-go .go .ensures),
+    )
 
 pub unit-go-spec : {M : Type 1} → statement M
 unit-go-spec =
@@ -13,8 +19,16 @@ unit-go-spec =
     (λ c κs. tt)
     (λ c κs. tt)
     (λ c κs. tt)
-    (λ c. c .before .before .before .before .before .before .before .before .before .go .kept .1 .1 .1 .1 .1 .1 .0)
-    (λ c. c .before .before .before .before .before .before .before .before .before .go .kept .1 .1 .1 .1 .1 .1 .1 .0)
-    (λ c. c .before .before .before .before .before .before .before .before .before .go .kept .1 .1 .1 .1 .1 .1 .1 .1 .0)
-    (λ c. c .before .before .before .before .before .before .before .before .before .go .kept .1 .1 .1 .1 .1 .1 .1 .1 .1 .0)
+    (λ c.
+    let after-go = c .before .before .before .before .before .before .before .before .before in
+    after-go .go .kept .1 .1 .1 .1 .1 .1 .0)
+    (λ c.
+    let after-go = c .before .before .before .before .before .before .before .before .before in
+    after-go .go .kept .1 .1 .1 .1 .1 .1 .1 .0)
+    (λ c.
+    let after-go = c .before .before .before .before .before .before .before .before .before in
+    after-go .go .kept .1 .1 .1 .1 .1 .1 .1 .1 .0)
+    (λ c.
+    let after-go = c .before .before .before .before .before .before .before .before .before in
+    after-go .go .kept .1 .1 .1 .1 .1 .1 .1 .1 .1 .0)
     returns)

@@ -3,7 +3,10 @@ use Rattle.unit_c.proofs.unit_replay.Statement.{statement}
 use Rattle.unit_c.proofs.unit_replay.Tie as tie
 
 returns : tie.Need-returns
-returns c = (answeredIn (c .before .before .before .before .before .before .before .before .before .before .before .before .before .before .before .before .before .before .before .replay .result), c .answer-of .ensures, c .before .before .before .before .before .before .before .before .before .before .before .before .before .before .before .before .before .before .before .replay .ensures)
+returns c =
+    let after-down = c .before .before .before .before .before .before .before .before .before .before .before .before in
+    let after-replay = after-down .before .before .before .before .before .before .before in
+    (answeredIn (after-replay .replay .result), c .answer-of .ensures, after-replay .replay .ensures)
 
 pub unit-replay-spec : {M : Type 1} → statement M
 unit-replay-spec =
@@ -11,13 +14,40 @@ unit-replay-spec =
     (tie.spec
     (λ c κs. tt)
     (λ c κs. tt)
-    (λ c. c .before .before .before .before .before .before .before .before .before .before .before .before .before .before .before .before .before .before .before .replay .kept .1 .0)
-    (λ c. c .before .before .before .before .before .before .before .before .before .before .before .before .before .before .before .before .before .before .before .replay .kept .1 .1 .0)
-    (λ c. c .before .before .before .before .before .before .before .before .before .before .before .before .before .before .before .before .before .before .before .replay .kept .1 .1 .1 .0)
-    (λ c. c .before .before .before .before .before .before .before .before .before .before .before .before .before .before .before .before .before .before .before .replay .kept .1 .1 .1 .1 .0)
-    (λ c. c .before .before .before .before .before .before .before .before .before .before .before .before .before .before .before .before .before .before .before .replay .kept .1 .1 .1 .1 .1 .0)
-    (λ c. c .before .before .before .before .before .before .before .before .before .before .before .before .before .before .before .before .before .before .before .replay .kept .1 .1 .1 .1 .1 .1 .0)
-    (λ c. c .before .before .before .before .before .before .before .before .before .before .before .before .before .before .before .before .before .before .before .replay .kept .1 .1 .1 .1 .1 .1 .1 .0)
-    (λ c. c .before .before .before .before .before .before .before .before .before .before .before .before .before .before .before .before .before .before .before .replay .kept .1 .1 .1 .1 .1 .1 .1 .1 .0)
-    (λ c. c .before .before .before .before .before .before .before .before .before .before .before .before .before .before .before .before .before .before .before .replay .kept .1 .1 .1 .1 .1 .1 .1 .1 .1 .1 .0)
+    (λ c.
+    let after-down = c .before .before .before .before .before .before .before .before .before .before .before .before in
+    let after-replay = after-down .before .before .before .before .before .before .before in
+    after-replay .replay .kept .1 .0)
+    (λ c.
+    let after-down = c .before .before .before .before .before .before .before .before .before .before .before .before in
+    let after-replay = after-down .before .before .before .before .before .before .before in
+    after-replay .replay .kept .1 .1 .0)
+    (λ c.
+    let after-down = c .before .before .before .before .before .before .before .before .before .before .before .before in
+    let after-replay = after-down .before .before .before .before .before .before .before in
+    after-replay .replay .kept .1 .1 .1 .0)
+    (λ c.
+    let after-down = c .before .before .before .before .before .before .before .before .before .before .before .before in
+    let after-replay = after-down .before .before .before .before .before .before .before in
+    after-replay .replay .kept .1 .1 .1 .1 .0)
+    (λ c.
+    let after-down = c .before .before .before .before .before .before .before .before .before .before .before .before in
+    let after-replay = after-down .before .before .before .before .before .before .before in
+    after-replay .replay .kept .1 .1 .1 .1 .1 .0)
+    (λ c.
+    let after-down = c .before .before .before .before .before .before .before .before .before .before .before .before in
+    let after-replay = after-down .before .before .before .before .before .before .before in
+    after-replay .replay .kept .1 .1 .1 .1 .1 .1 .0)
+    (λ c.
+    let after-down = c .before .before .before .before .before .before .before .before .before .before .before .before in
+    let after-replay = after-down .before .before .before .before .before .before .before in
+    after-replay .replay .kept .1 .1 .1 .1 .1 .1 .1 .0)
+    (λ c.
+    let after-down = c .before .before .before .before .before .before .before .before .before .before .before .before in
+    let after-replay = after-down .before .before .before .before .before .before .before in
+    after-replay .replay .kept .1 .1 .1 .1 .1 .1 .1 .1 .0)
+    (λ c.
+    let after-down = c .before .before .before .before .before .before .before .before .before .before .before .before in
+    let after-replay = after-down .before .before .before .before .before .before .before in
+    after-replay .replay .kept .1 .1 .1 .1 .1 .1 .1 .1 .1 .1 .0)
     returns)

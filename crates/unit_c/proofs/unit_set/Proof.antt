@@ -4,7 +4,14 @@ use Rattle.unit_c.proofs.unit_set.Statement.{statement}
 use Rattle.unit_c.proofs.unit_set.Tie as tie
 
 returns : tie.Need-returns
-returns c = (answeredIn (c .before .before .before .set .result), c .answer-of .ensures, set-at _ _ _ (c .before .before .before .before .before .before .header-of .ensures) _ _ (c .before .before .before .before .of-word .ensures) (c .before .before .before .set .ensures))
+returns c =
+    let after-set = c .before .before .before in
+    let after-of-word = after-set .before in
+    let after-header-of = after-of-word .before .before in (
+      answeredIn (after-set .set .result),
+      c .answer-of .ensures,
+      set-at _ _ _ (after-header-of .header-of .ensures) _ _ (after-of-word .of-word .ensures) (after-set .set .ensures),
+    )
 
 pub unit-set-spec : {M : Type 1} → statement M
 unit-set-spec =
@@ -14,5 +21,7 @@ unit-set-spec =
     (λ c κs. tt)
     (λ c κs. tt)
     (λ c κs. tt)
-    (λ c. c .before .before .before .set .kept .1 .1 .1 .1 .0)
+    (λ c.
+    let after-set = c .before .before .before in
+    after-set .set .kept .1 .1 .1 .1 .0)
     returns)

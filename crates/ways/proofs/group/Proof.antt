@@ -8,21 +8,37 @@ use Rattle.ways.proofs.group.Statement.{statement}
 use Rattle.ways.proofs.group.Tie as tie
 
 abbrev Inv-loop : tie.InvT-loop
-Inv-loop roads n m firsts₀ nexts₀ i₀ firsts nexts i = (i ≤ m) × (length firsts ≡ length firsts₀) × (length nexts ≡ length nexts₀) × Linked roads n m i firsts nexts
+Inv-loop roads n m firsts₀ nexts₀ i₀ firsts nexts i =
+    (i ≤ m) × (length firsts ≡ length firsts₀) × (length nexts ≡ length nexts₀) × Linked roads n m i firsts nexts
 
 abbrev μ-loop : tie.MeasureT-loop
 μ-loop roads n m firsts₀ nexts₀ i₀ firsts nexts i = i
 
 loop-holds : tie.Need-loop-holds Inv-loop μ-loop
-loop-holds c = (search needs, search needs, search needs, linked-start _ _ _ _ _ (c .before .before .before .pre .3))
+loop-holds c =
+    let start = c .before .before .before in
+    (search needs, search needs, search needs, linked-start _ _ _ _ _ (start .pre .3))
 
 loop-again : tie.Need-loop-again Inv-loop μ-loop
 loop-again c =
-    let at-loop = c .before .before .before .before in
-    (search needs, simp length-set (search needs), simp length-set (search needs), linked-turn _ _ _ (at-loop .loop .i) _ _ _ _ (omega arith) (omega arith) (c .before .before .tail-of .ensures) (at-loop .loop .inv .3) (c .before .if1 .taken) (omega arith) (omega arith))
+    let after-tail-of = c .before .before in
+    let at-loop = after-tail-of .before .before in (
+      search needs,
+      simp length-set (search needs),
+      simp length-set (search needs),
+      linked-turn _ _ _ (at-loop .loop .i) _ _ _ _ (omega arith) (omega arith) (after-tail-of .tail-of .ensures) (at-loop .loop .inv .3)
+          (c .before .if1 .taken) (omega arith) (omega arith),
+    )
 
 loop-again-2 : tie.Need-loop-again-2 Inv-loop μ-loop
-loop-again-2 c = (search needs, search needs, search needs, linked-skip _ _ _ (c .before .before .before .loop .i) _ _ _ _ (omega arith) (omega arith) (c .before .tail-of .ensures) (c .before .before .before .loop .inv .3) (c .if1 .left))
+loop-again-2 c =
+    let at-loop = c .before .before .before in (
+      search needs,
+      search needs,
+      search needs,
+      linked-skip _ _ _ (at-loop .loop .i) _ _ _ _ (omega arith) (omega arith) (c .before .tail-of .ensures) (at-loop .loop .inv .3)
+          (c .if1 .left),
+    )
 
 returns : tie.Need-returns Inv-loop μ-loop
 returns c = linked-end _ _ _ _ _ _ (c .loop-test .left) (c .before .loop .inv .3)

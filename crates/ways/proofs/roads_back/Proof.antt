@@ -14,10 +14,18 @@ loop-holds : tie.Need-loop-holds Inv-loop μ-loop
 loop-holds c = (search needs, search needs, count-start _ _ _ _ _ _)
 
 returns : tie.Need-returns Inv-loop μ-loop
-returns c = (count-there _ _ _ _ _ _ _ _ (c .before .loop-test .taken) (c .if1 .taken) (c .before .before .loop .inv .2), search needs)
+returns c =
+    let at-loop = c .before .before in
+    (count-there _ _ _ _ _ _ _ _ (c .before .loop-test .taken) (c .if1 .taken) (at-loop .loop .inv .2), search needs)
 
 loop-again : tie.Need-loop-again Inv-loop μ-loop
-loop-again c = (search needs, search needs, count-turn _ _ _ _ _ _ _ _ _ (c .before .before .loop-test .taken) (c .before .if1 .left) (c .step-back .ensures .0) (c .before .before .before .loop .inv .2))
+loop-again c =
+    let in-loop = c .before .before in
+    let at-loop = in-loop .before in (
+      search needs,
+      search needs,
+      count-turn _ _ _ _ _ _ _ _ _ (in-loop .loop-test .taken) (c .before .if1 .left) (c .step-back .ensures .0) (at-loop .loop .inv .2),
+    )
 
 returns-2 : tie.Need-returns-2 Inv-loop μ-loop
 returns-2 c = (count-end _ _ _ _ _ _ _ _ (c .loop-test .left) (c .before .loop .inv .2), search needs)

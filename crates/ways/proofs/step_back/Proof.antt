@@ -11,13 +11,17 @@ returns c =
 
 returns-2 : tie.Need-returns-2
 returns-2 c =
-    let start = c .before .before .before .before .before .before in
-    (step-far (start .args .roads .now) (start .args .vias .now) _ _ _ _ (omega arith) (c .before .tail-of .ensures) (c .if2 .taken), search needs)
+    let start = c .before .before .before .before .before .before in (
+      step-far (start .args .roads .now) (start .args .vias .now) _ _ _ _ (omega arith) (c .before .tail-of .ensures) (c .if2 .taken),
+      search needs,
+    )
 
 returns-3 : tie.Need-returns-3
 returns-3 c =
-    let start = c .before .before .before .before .before .before in
-    (step-to (start .args .roads .now) (start .args .vias .now) _ _ _ _ (omega arith) (c .before .tail-of .ensures) (omega arith), search needs)
+    let start = c .before .before .before .before .before .before in (
+      step-to (start .args .roads .now) (start .args .vias .now) _ _ _ _ (omega arith) (c .before .tail-of .ensures) (omega arith),
+      search needs,
+    )
 
 pub step-back-spec : {M : Type 1} → statement M
 step-back-spec =

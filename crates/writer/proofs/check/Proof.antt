@@ -10,22 +10,55 @@ use Rattle.writer.proofs.check.Statement.{statement}
 use Rattle.writer.proofs.check.Tie as tie
 
 returns : tie.Need-returns
-returns c = by-4 _ _ (rowsOf (c .before .before .before .before .args .roads .now) (c .before .before .before .before .args .order .now)) (sym (c .before .sizes-ok .ensures) ∙ not-true _ (c .if1 .taken))
+returns c =
+    let start = c .before .before .before .before in
+    by-4 _ _ (rowsOf (start .args .roads .now) (start .args .order .now)) (sym (c .before .sizes-ok .ensures) ∙ not-true _ (c .if1 .taken))
 
 failing-road-requires : tie.Need-failing-road-requires
-failing-road-requires c κs = (let z = sizes-facts _ _ (sym (c .before .sizes-ok .ensures) ∙ not-false _ (c .if1 .left)) in (omega (arith, z .1), omega (arith, z .4)))
+failing-road-requires c κs = (let z = sizes-facts _ _ (sym (c .before .sizes-ok .ensures) ∙ not-false _ (c .if1 .left)) in
+    (omega (arith, z .1), omega (arith, z .4)))
 
 returns-2 : tie.Need-returns-2
-returns-2 c = by-5 _ _ (rowsOf (c .before .before .before .before .before .before .before .before .args .roads .now) (c .before .before .before .before .before .before .before .before .args .order .now)) (sym (c .before .before .before .before .before .sizes-ok .ensures) ∙ not-false _ (c .before .before .before .before .if1 .left)) _ (sym (c .before .before .before .failing-road .ensures) ∙ ap failingIn (c .before .i .given .1))
+returns-2 c =
+    let after-failing-road = c .before .before .before in
+    let else1 = after-failing-road .before in
+    let after-sizes-ok = else1 .before in
+    let start = after-sizes-ok .before .before .before in
+    by-5 _ _ (rowsOf (start .args .roads .now) (start .args .order .now))
+    (sym (after-sizes-ok .sizes-ok .ensures) ∙ not-false _ (else1 .if1 .left))
+    _ (sym (after-failing-road .failing-road .ensures) ∙ ap failingIn (c .before .i .given .1))
 
 failing-place-requires : tie.Need-failing-place-requires
-failing-place-requires c κs = (let z = sizes-facts _ _ (sym (c .before .before .before .before .sizes-ok .ensures) ∙ not-false _ (c .before .before .before .if1 .left)) in omega (arith, z .4))
+failing-place-requires c κs =
+    let else1 = c .before .before .before in
+    let after-sizes-ok = else1 .before in
+    (let z = sizes-facts _ _ (sym (after-sizes-ok .sizes-ok .ensures) ∙ not-false _ (else1 .if1 .left)) in omega (arith, z .4))
 
 returns-3 : tie.Need-returns-3
-returns-3 c = by-6 _ _ (rowsOf (c .before .before .before .before .before .before .before .before .before .before .before .args .roads .now) (c .before .before .before .before .before .before .before .before .before .before .before .args .order .now)) (sym (c .before .before .before .before .before .before .before .before .sizes-ok .ensures) ∙ not-false _ (c .before .before .before .before .before .before .before .if1 .left)) (sym (c .before .before .before .before .before .before .failing-road .ensures) ∙ ap failingIn (c .before .before .before .before .enum-told .given .1)) _ (any-roads _ _ _ _ ∙ sym (c .before .before .before .failing-place .ensures) ∙ ap failingIn (c .before .k .given .1))
+returns-3 c =
+    let after-failing-place = c .before .before .before in
+    let after-enum-told = after-failing-place .before in
+    let after-failing-road = after-enum-told .before .before in
+    let else1 = after-failing-road .before in
+    let after-sizes-ok = else1 .before in
+    let start = after-sizes-ok .before .before .before in
+    by-6 _ _ (rowsOf (start .args .roads .now) (start .args .order .now))
+    (sym (after-sizes-ok .sizes-ok .ensures) ∙ not-false _ (else1 .if1 .left))
+    (sym (after-failing-road .failing-road .ensures) ∙ ap failingIn (after-enum-told .enum-told .given .1))
+    _ (any-roads _ _ _ _ ∙ sym (after-failing-place .failing-place .ensures) ∙ ap failingIn (c .before .k .given .1))
 
 returns-4 : tie.Need-returns-4
-returns-4 c = by-none _ _ (rowsOf (c .before .before .before .before .before .before .before .before .before .before .args .roads .now) (c .before .before .before .before .before .before .before .before .before .before .args .order .now)) (sym (c .before .before .before .before .before .before .before .sizes-ok .ensures) ∙ not-false _ (c .before .before .before .before .before .before .if1 .left)) (sym (c .before .before .before .before .before .failing-road .ensures) ∙ ap failingIn (c .before .before .before .enum-told .given .1)) (any-roads _ _ _ _ ∙ sym (c .before .before .failing-place .ensures) ∙ ap failingIn (c .enum-told2 .given .1))
+returns-4 c =
+    let after-failing-place = c .before .before in
+    let after-enum-told = after-failing-place .before in
+    let after-failing-road = after-enum-told .before .before in
+    let else1 = after-failing-road .before in
+    let after-sizes-ok = else1 .before in
+    let start = after-sizes-ok .before .before .before in
+    by-none _ _ (rowsOf (start .args .roads .now) (start .args .order .now))
+    (sym (after-sizes-ok .sizes-ok .ensures) ∙ not-false _ (else1 .if1 .left))
+    (sym (after-failing-road .failing-road .ensures) ∙ ap failingIn (after-enum-told .enum-told .given .1))
+    (any-roads _ _ _ _ ∙ sym (after-failing-place .failing-place .ensures) ∙ ap failingIn (c .enum-told2 .given .1))
 
 pub check-spec : {M : Type 1} → statement M
 check-spec =

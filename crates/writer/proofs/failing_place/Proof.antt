@@ -20,13 +20,31 @@ loop-holds : tie.Need-loop-holds Inv-loop μ-loop
 loop-holds c = (search needs, search needs, places-start (rowsOf [] (c .before .args .order .now)) _ refl)
 
 returns : tie.Need-returns Inv-loop μ-loop
-returns c = places-fail (rowsOf [] (c .before .before .before .before .before .before .before .before .args .order .now)) _ _ _ (c .before .before .before .before .before .before .loop .inv .2) (search needs) (c .before .before .before .before .before .before .loop .inv .1) _ _ refl (c .before .before .place-ok .ensures .0) (c .before .before .before .before .before .loop-test .taken) (not-true _ (c .if1 .taken))
+returns c =
+    let after-place-ok = c .before .before in
+    let in-loop = after-place-ok .before .before .before in
+    let at-loop = in-loop .before in
+    let start = at-loop .before .before in
+    places-fail (rowsOf [] (start .args .order .now)) _ _ _ (at-loop .loop .inv .2) (search needs) (at-loop .loop .inv .1) _ _ refl
+    (after-place-ok .place-ok .ensures .0) (in-loop .loop-test .taken) (not-true _ (c .if1 .taken))
 
 loop-again : tie.Need-loop-again Inv-loop μ-loop
-loop-again c = (search needs, search needs, places-turn (rowsOf [] (c .before .before .before .before .before .before .before .before .args .order .now)) _ _ _ (c .before .before .before .before .before .before .loop .inv .2) (search needs) (c .before .before .before .before .before .before .loop .inv .1) _ _ refl (c .before .before .place-ok .ensures .0) _ (c .before .before .place-ok .ensures .1) (not-false _ (c .if1 .left)))
+loop-again c =
+    let after-place-ok = c .before .before in
+    let at-loop = after-place-ok .before .before .before .before in
+    let start = at-loop .before .before in (
+      search needs,
+      search needs,
+      places-turn (rowsOf [] (start .args .order .now)) _ _ _ (at-loop .loop .inv .2) (search needs) (at-loop .loop .inv .1) _ _ refl
+          (after-place-ok .place-ok .ensures .0) _ (after-place-ok .place-ok .ensures .1) (not-false _ (c .if1 .left)),
+    )
 
 returns-2 : tie.Need-returns-2 Inv-loop μ-loop
-returns-2 c = places-end (rowsOf [] (c .before .before .before .args .order .now)) _ _ _ (c .before .loop .inv .2) (search needs) (c .before .loop .inv .1) (c .before .loop .inv .0) (c .loop-test .left)
+returns-2 c =
+    let at-loop = c .before in
+    let start = at-loop .before .before in
+    places-end (rowsOf [] (start .args .order .now)) _ _ _ (at-loop .loop .inv .2) (search needs) (at-loop .loop .inv .1)
+    (at-loop .loop .inv .0) (c .loop-test .left)
 
 pub failing-place-spec : {M : Type 1} → statement M
 failing-place-spec =

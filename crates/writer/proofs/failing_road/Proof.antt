@@ -15,16 +15,35 @@ abbrev μ-loop : tie.MeasureT-loop
 μ-loop roads order n m i₀ i = m - i
 
 loop-holds : tie.Need-loop-holds Inv-loop μ-loop
-loop-holds c = (search needs, roads-start (rowsOf (c .before .before .args .roads .now) (c .before .before .args .order .now)) _ _ refl refl)
+loop-holds c =
+    let start = c .before .before in
+    (search needs, roads-start (rowsOf (start .args .roads .now) (start .args .order .now)) _ _ refl refl)
 
 returns : tie.Need-returns Inv-loop μ-loop
-returns c = roads-fail (rowsOf (c .before .before .before .before .before .before .before .before .before .args .roads .now) (c .before .before .before .before .before .before .before .before .before .args .order .now)) _ _ _ (c .before .before .before .before .before .before .loop .inv .1) (c .before .before .before .before .before .loop-test .taken) (road-known (rowsOf (c .before .before .before .before .before .before .before .before .before .args .roads .now) (c .before .before .before .before .before .before .before .before .before .args .order .now)) (c .before .before .before .before .before .before .loop .i) _ _ _ _ _ (c .before .before .before .before .before .before .loop .inv .1 .0) refl refl refl (c .before .road-ok .ensures) ∙ not-true _ (c .if1 .taken))
+returns c =
+    let in-loop = c .before .before .before .before .before in
+    let at-loop = in-loop .before in
+    let start = at-loop .before .before .before in
+    roads-fail (rowsOf (start .args .roads .now) (start .args .order .now)) _ _ _ (at-loop .loop .inv .1) (in-loop .loop-test .taken)
+    (road-known (rowsOf (start .args .roads .now) (start .args .order .now)) (at-loop .loop .i) _ _ _ _ _ (at-loop .loop .inv .1 .0) refl
+    refl refl (c .before .road-ok .ensures) ∙ not-true _ (c .if1 .taken))
 
 loop-again : tie.Need-loop-again Inv-loop μ-loop
-loop-again c = (search needs, roads-turn (rowsOf (c .before .before .before .before .before .before .before .before .before .args .roads .now) (c .before .before .before .before .before .before .before .before .before .args .order .now)) _ _ _ (c .before .before .before .before .before .before .loop .inv .1) (road-known (rowsOf (c .before .before .before .before .before .before .before .before .before .args .roads .now) (c .before .before .before .before .before .before .before .before .before .args .order .now)) (c .before .before .before .before .before .before .loop .i) _ _ _ _ _ (c .before .before .before .before .before .before .loop .inv .1 .0) refl refl refl (c .before .road-ok .ensures) ∙ not-false _ (c .if1 .left)))
+loop-again c =
+    let at-loop = c .before .before .before .before .before .before in
+    let start = at-loop .before .before .before in (
+      search needs,
+      roads-turn (rowsOf (start .args .roads .now) (start .args .order .now)) _ _ _ (at-loop .loop .inv .1)
+          (road-known (rowsOf (start .args .roads .now) (start .args .order .now)) (at-loop .loop .i) _ _ _ _ _ (at-loop .loop .inv .1 .0)
+          refl refl refl (c .before .road-ok .ensures) ∙ not-false _ (c .if1 .left)),
+    )
 
 returns-2 : tie.Need-returns-2 Inv-loop μ-loop
-returns-2 c = roads-end (rowsOf (c .before .before .before .before .args .roads .now) (c .before .before .before .before .args .order .now)) _ _ _ (c .before .loop .inv .1) (c .before .loop .inv .0) (c .loop-test .left)
+returns-2 c =
+    let at-loop = c .before in
+    let start = at-loop .before .before .before in
+    roads-end (rowsOf (start .args .roads .now) (start .args .order .now)) _ _ _ (at-loop .loop .inv .1) (at-loop .loop .inv .0)
+    (c .loop-test .left)
 
 pub failing-road-spec : {M : Type 1} → statement M
 failing-road-spec =

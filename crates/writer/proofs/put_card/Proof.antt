@@ -5,7 +5,13 @@ use Rattle.writer.proofs.put_card.Statement.{statement}
 use Rattle.writer.proofs.put_card.Tie as tie
 
 returns : tie.Need-returns
-returns c = card-put (c .before .before .before .before .before .before .before .before .before .before .before .before .before .before .before .before .args .roads .now) (c .before .before .before .before .before .before .before .before .before .before .before .before .before .before .before .before .args .order .now) (c .before .before .before .before .before .before .before .before .before .before .before .before .before .before .before .before .args .area .now) _ _ _ (c .before .before .before .before .before .before .before .before .before .before .before .before .before .before .before .before .pre .2) (c .before .before .before .before .before .before .before .before .before .before .put-words .ensures) (c .before .before .before .before .before .before .put-words2 .ensures) (c .before .before .put-words3 .ensures)
+returns c =
+    let after-put-words3 = c .before .before in
+    let after-put-words2 = after-put-words3 .before .before .before .before in
+    let after-put-words = after-put-words2 .before .before .before .before in
+    let start = after-put-words .before .before .before .before .before .before in
+    card-put (start .args .roads .now) (start .args .order .now) (start .args .area .now) _ _ _ (start .pre .2)
+    (after-put-words .put-words .ensures) (after-put-words2 .put-words2 .ensures) (after-put-words3 .put-words3 .ensures)
 
 pub put-card-spec : {M : Type 1} → statement M
 put-card-spec =

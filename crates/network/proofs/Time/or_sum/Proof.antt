@@ -5,10 +5,14 @@ use Rattle.network.proofs.Time.or_sum.Statement.{statement}
 use Rattle.network.proofs.Time.or_sum.Tie as tie
 
 returns : tie.Need-returns
-returns c = or-less _ (c .before .before .before .before .args .a .0) (c .before .before .before .before .args .b .0) _ (omega arith) (omega arith) (c .before .of-total .ensures) (c .if1 .taken)
+returns c =
+    let start = c .before .before .before .before in
+    or-less _ (start .args .a .0) (start .args .b .0) _ (omega arith) (omega arith) (c .before .of-total .ensures) (c .if1 .taken)
 
 returns-2 : tie.Need-returns-2
-returns-2 c = or-more _ (c .before .before .before .before .args .a .0) (c .before .before .before .before .args .b .0) _ (omega arith) (omega arith) (c .before .of-total .ensures) (c .if1 .left)
+returns-2 c =
+    let start = c .before .before .before .before in
+    or-more _ (start .args .a .0) (start .args .b .0) _ (omega arith) (omega arith) (c .before .of-total .ensures) (c .if1 .left)
 
 pub or-sum-spec : {M : Type 1} → statement M
 or-sum-spec =

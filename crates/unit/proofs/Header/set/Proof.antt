@@ -9,29 +9,62 @@ use borrow.Author.Needs.{needs}
 use Rattle.unit.proofs.Header.set.Statement.{statement}
 use Rattle.unit.proofs.Header.set.Tie as tie
 
-known : (c : tie.Else1) → Fits (c .before .before .before .before .before .before .before .before .before .before .args .card .now) (headerIn (c .before .before .before .before .before .before .before .before .before .before .args .self)) (areasOf (c .before .before .before .before .before .before .before .before .before .before .args .ranks .now) (c .before .before .before .before .before .before .before .before .before .before .args .pairs .now) (c .before .before .before .before .before .before .before .before .before .before .args .live .now) (c .before .before .before .before .before .before .before .before .before .before .args .down .now) (c .before .before .before .before .before .before .before .before .before .before .args .estimates .now) (c .before .before .before .before .before .before .before .before .before .before .args .elapsed .now))
+known : (c : tie.Else1) →
+    let start = c .before .before .before .before .before .before .before .before .before .before in
+    Fits (start .args .card .now) (headerIn (start .args .self))
+    (areasOf (start .args .ranks .now) (start .args .pairs .now) (start .args .live .now) (start .args .down .now)
+    (start .args .estimates .now) (start .args .elapsed .now))
 known c = fits-facts _ _ _ (sym (c .before .fits2 .ensures) ∙ not-false _ (c .if1 .left))
 
 returns : tie.Need-returns
-returns c = refused-9 _ (before (headerIn (c .before .before .before .before .before .before .before .before .before .before .args .self)) (areasOf (c .before .before .before .before .before .before .before .before .before .before .args .ranks .now) (c .before .before .before .before .before .before .before .before .before .before .args .pairs .now) (c .before .before .before .before .before .before .before .before .before .before .args .live .now) (c .before .before .before .before .before .before .before .before .before .before .args .down .now) (c .before .before .before .before .before .before .before .before .before .before .args .estimates .now) (c .before .before .before .before .before .before .before .before .before .before .args .elapsed .now))) (setCall (c .before .before .before .before .before .before .before .before .before .before .args .road) (c .before .before .before .before .before .before .before .before .before .before .args .time .0)) (sym (c .before .fits2 .ensures) ∙ not-true _ (c .if1 .taken))
+returns c =
+    let start = c .before .before .before .before .before .before .before .before .before .before in
+    refused-9 _ (before (headerIn (start .args .self))
+    (areasOf (start .args .ranks .now) (start .args .pairs .now) (start .args .live .now) (start .args .down .now)
+    (start .args .estimates .now) (start .args .elapsed .now))) (setCall (start .args .road) (start .args .time .0))
+    (sym (c .before .fits2 .ensures) ∙ not-true _ (c .if1 .taken))
 
 returns-2 : tie.Need-returns-2
-returns-2 c = set-10 _ _ _ (known (c .before) .fits) _ _ (c .if2 .taken)
+returns-2 c =
+    let else1 = c .before in
+    set-10 _ _ _ (known (else1) .fits) _ _ (c .if2 .taken)
 
 roads-of-requires : tie.Need-roads-of-requires
-roads-of-requires c κs = roads-there (known (c .before))
+roads-of-requires c κs =
+    let else1 = c .before in
+    roads-there (known (else1))
 
 base-of-requires : tie.Need-base-of-requires
-base-of-requires c κs = road-there (known (c .before .before)) _ _ (c .roads-of .ensures) (c .before .if2 .left)
+base-of-requires c κs =
+    let else1 = c .before .before in
+    road-there (known (else1)) _ _ (c .roads-of .ensures) (c .before .if2 .left)
 
 returns-3 : tie.Need-returns-3
-returns-3 c = set-11 _ _ _ (known (c .before .before .before .before .before) .fits) _ _ (c .before .before .before .before .if2 .left) (word-allowed _ _ _ _ (base-known _ _ _ _ (c .before .before .before .roads-of .ensures) (c .before .before .base-of .ensures)) (c .before .allowed .ensures) ∙ not-true _ (c .if3 .taken))
+returns-3 c =
+    let after-base-of = c .before .before in
+    let after-roads-of = after-base-of .before in
+    let else2 = after-roads-of .before in
+    let else1 = else2 .before in
+    set-11 _ _ _ (known (else1) .fits) _ _ (else2 .if2 .left)
+    (word-allowed _ _ _ _ (base-known _ _ _ _ (after-roads-of .roads-of .ensures) (after-base-of .base-of .ensures))
+    (c .before .allowed .ensures) ∙ not-true _ (c .if3 .taken))
 
 slice-write-live : tie.Need-slice-write-live
-slice-write-live c = live-there (known (c .before .before .before .before .before .before)) _ (c .before .before .before .before .before .if2 .left)
+slice-write-live c =
+    let else2 = c .before .before .before .before .before in
+    let else1 = else2 .before in
+    live-there (known (else1)) _ (else2 .if2 .left)
 
 returns-4 : tie.Need-returns-4
-returns-4 c = set-made _ _ _ (known (c .before .before .before .before .before .before) .fits) _ _ (c .before .before .before .before .before .if2 .left) (word-allowed _ _ _ _ (base-known _ _ _ _ (c .before .before .before .before .roads-of .ensures) (c .before .before .before .base-of .ensures)) (c .before .before .allowed .ensures) ∙ not-false _ (c .before .if3 .left)) _ (c .word .ensures)
+returns-4 c =
+    let after-allowed = c .before .before in
+    let after-base-of = after-allowed .before in
+    let after-roads-of = after-base-of .before in
+    let else2 = after-roads-of .before in
+    let else1 = else2 .before in
+    set-made _ _ _ (known (else1) .fits) _ _ (else2 .if2 .left)
+    (word-allowed _ _ _ _ (base-known _ _ _ _ (after-roads-of .roads-of .ensures) (after-base-of .base-of .ensures))
+    (after-allowed .allowed .ensures) ∙ not-false _ (c .before .if3 .left)) _ (c .word .ensures)
 
 pub set-spec : {M : Type 1} → statement M
 set-spec =
