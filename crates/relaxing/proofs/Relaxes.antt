@@ -71,5 +71,7 @@ module _ (roads order ranks pairs live down : List ℕ) (n m count u t : ℕ) wh
       → Relaxed roads order ranks pairs live down n m count u x 0 m e times keys vias wins e′ times′ keys′ vias′ wins′
   standing-end i x e times keys vias wins e′ times′ keys′ vias′ wins′ le p w =
       let q : i ≡ m = omega (arith, w .high) in
-      subst₂ (λ (y : ℕ) (l : ℕ). Relaxed roads order ranks pairs live down n m count u y 0 l e times keys vias wins e′ times′ keys′ vias′ wins′)
-      p q (w .relaxed)
+      subst₂ done p q (w .relaxed)
+    where
+      done : ℕ → ℕ → Type 0
+      done y k = Relaxed roads order ranks pairs live down n m count u y 0 k e times keys vias wins e′ times′ keys′ vias′ wins′

@@ -69,18 +69,22 @@ pub record Logged (G : Problem) (H : List Entry) (z u t : ℕ) : Type 0 where
   pub time-is : timeIn H u ≡ some t
   pub not-target : u ≡ z → ⊥
 
--- Relaxing the roads of u, whose time is t, from number k up to l. On any contents, what is filled stays. From a state that is ready, it
--- takes the areas from what they hold before these roads to what they hold after them.
+-- The roads of u, whose time is t, are relaxed from number k up to l.
 pub record Relaxed
     (roads order ranks pairs live down : List ℕ) (n m count u t k l : ℕ)
     (e times keys vias wins e′ times′ keys′ vias′ wins′ : List ℕ) : Type 0 where
+  -- on any contents: what is filled stays
   pub kept : Kept e e′
+  -- in a state that is ready: from what the areas hold before these roads to what they hold after them
   pub exact : (s z : ℕ) (H : List Entry) (e₀ : List ℕ) → Ready roads order ranks pairs live n m count s z
-      → Logged (goIn roads order live s z) H z u t → Held roads order live s z H u k down e₀ e times keys vias wins → Held roads order live s z H u l down e₀ e′ times′ keys′ vias′ wins′
+      → Logged (goIn roads order live s z) H z u t → Held roads order live s z H u k down e₀ e times keys vias wins
+      → Held roads order live s z H u l down e₀ e′ times′ keys′ vias′ wins′
 
 -- The areas before anything is logged: the start's estimate is asked, and it is the first candidate if it has one. e are the estimates before, e′ those after.
 pub record Begun (n count : ℕ) (order ranks pairs down : List ℕ) (s : ℕ) (e e′ times keys wins : List ℕ) : Type 0 where
+  -- on any contents: what is filled stays
   pub kept : Kept e e′
+  -- in a state that is ready
   pub exact : (roads live vias : List ℕ) (m z : ℕ) → Ready roads order ranks pairs live n m count s z
       → AimFacts (mapIn roads order) z down e → Held roads order live s z [] z m down e e′ times keys vias wins
 
@@ -95,6 +99,9 @@ pub record Explored (roads order live : List ℕ) (s z : ℕ) (down e₀ log₀ 
 pub record Explores
     (roads order ranks pairs live down : List ℕ) (n m count z : ℕ)
     (e times keys vias wins log e′ times′ keys′ vias′ wins′ log′ : List ℕ) (c : ℕ) : Type 0 where
+  -- on any contents: what is filled stays
   pub kept : Kept e e′
+  -- in a state that is ready
   pub exact : (s : ℕ) (e₀ : List ℕ) → Ready roads order ranks pairs live n m count s z
-      → Held roads order live s z [] z m down e₀ e times keys vias wins → Explored roads order live s z down e₀ log e′ times′ keys′ vias′ wins′ log′ c
+      → Held roads order live s z [] z m down e₀ e times keys vias wins
+      → Explored roads order live s z down e₀ log e′ times′ keys′ vias′ wins′ log′ c

@@ -19,9 +19,11 @@ pub record Over (roads order live : List ℕ) (n s z : ℕ) (down e₀ log₀ e 
   pub elapsed-is : elapsed ≡ listed (length times) (kept keys times)
   pub timed : length times ≡ n
 
--- on any contents, what is filled stays; from a state that is ready, the search goes to its end
+-- from the start to the end
 pub record Logs
     (roads order ranks pairs live down : List ℕ) (n m count s z : ℕ) (e₀ log₀ e elapsed vias log : List ℕ) (c : ℕ) : Type 0 where
+  -- on any contents: what is filled stays
   pub kept : Kept e₀ e
+  -- in a state that is ready
   pub exact : Ready roads order ranks pairs live n m count s z → AimFacts (mapIn roads order) z down e₀
       → Over roads order live n s z down e₀ log₀ e elapsed vias log c
