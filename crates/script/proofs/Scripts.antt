@@ -124,7 +124,7 @@ made-more {card} {l} {out₀} {out} {h₀} {h} w k n p u out′ f m e =
 abbrev pub part : (i j : ℕ) → Lent → Lent
 part i j l = record { route = take i (l .route); log = take j (l .log) }
 
--- the areas, where those entries are m now
+-- the areas, with m in the place of those entries
 abbrev pub back : (i j : ℕ) → Lent → Lent → Lent
 back i j l m = record { route = m .route ++ drop i (l .route); log = m .log ++ drop j (l .log) }
 
@@ -170,7 +170,7 @@ pub made-start : {card out₀ : List ℕ} {h₀ : Held} → Made card [] out₀ 
 made-start = record { calls = []; results = []; lends = refl; fed = refl; meets = tt; leaves = refl; written = refl }
 
 module _ {card : List ℕ} (script : List ℕ) (k : ℕ) {out₀ out : List ℕ} {h₀ h : Held} where
-  -- a call made, the next of the script: c, lent the first i and j entries, which were m then
+  -- the next call of the script, c, was lent the first i and j entries, and left m in them
   pub made-turn : Made card (scripted script (h₀ .lent) k) out₀ out h₀ h
       → (c : code.Call) (i j : ℕ) (x : Answered) (b : Areas) (m : Lent) (out′ : List ℕ)
       → length (h .lent .route) ≡ length (h₀ .lent .route) → length (h .lent .log) ≡ length (h₀ .lent .log)
