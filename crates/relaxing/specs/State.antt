@@ -70,8 +70,7 @@ pub record Logged (G : Problem) (H : List Entry) (z u t : ℕ) : Type 0 where
   pub not-target : u ≡ z → ⊥
 
 -- The roads of u, whose time is t, are relaxed from number k up to l.
-pub record Relaxed
-    (roads order ranks pairs live down : List ℕ) (n m count u t k l : ℕ)
+pub record Relaxed (roads order ranks pairs live down : List ℕ) (n m count u t k l : ℕ)
     (e times keys vias wins e′ times′ keys′ vias′ wins′ : List ℕ) : Type 0 where
   -- on any contents: what is filled stays
   pub kept : Kept e e′
@@ -96,8 +95,7 @@ pub record Explored (roads order live : List ℕ) (s z : ℕ) (down e₀ log₀ 
   pub held : Held roads order live s z (history (goIn roads order live s z)) z upto down e₀ e times keys vias wins
 
 -- from the first candidate to the end
-pub record Explores
-    (roads order ranks pairs live down : List ℕ) (n m count z : ℕ)
+pub record Explores (roads order ranks pairs live down : List ℕ) (n m count z : ℕ)
     (e times keys vias wins log e′ times′ keys′ vias′ wins′ log′ : List ℕ) (c : ℕ) : Type 0 where
   -- on any contents: what is filled stays
   pub kept : Kept e e′

@@ -20,8 +20,8 @@ pub record Over (roads order live : List ℕ) (n s z : ℕ) (down e₀ log₀ e 
   pub timed : length times ≡ n
 
 -- from the start to the end
-pub record Logs
-    (roads order ranks pairs live down : List ℕ) (n m count s z : ℕ) (e₀ log₀ e elapsed vias log : List ℕ) (c : ℕ) : Type 0 where
+pub record Logs (roads order ranks pairs live down : List ℕ) (n m count s z : ℕ)
+    (e₀ log₀ e elapsed vias log : List ℕ) (c : ℕ) : Type 0 where
   -- on any contents: what is filled stays
   pub kept : Kept e₀ e
   -- in a state that is ready

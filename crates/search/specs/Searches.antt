@@ -28,8 +28,7 @@ pub record Found (roads order live : List ℕ) (s z : ℕ) (e₀ route₀ log₀
   pub route-is : route ≡ goRoute (totalOf (goIn roads order live s z)) (routeOf (goIn roads order live s z)) route₀
   pub log-is : log ≡ first (vertices (logOf (goIn roads order live s z))) log₀
 
-pub record Searches
-    (roads order ranks pairs live down : List ℕ) (count s z : ℕ)
+pub record Searches (roads order ranks pairs live down : List ℕ) (count s z : ℕ)
     (e₀ route₀ log₀ e elapsed route log : List ℕ) (total logged number : ℕ) : Type 0 where
   -- on any contents: what is filled stays
   pub kept : Kept e₀ e
