@@ -1,7 +1,7 @@
 // What C and Rust call: the public functions over plain words and slices. A refusal is its number, and 0 is an acceptance.
 ghost use mathlib.Core.Path.{_≡_};
 ghost use mathlib.Core.List.{[], _∷_};
-ghost use Rattle.model.specs.Card.{readCard, writeCard};
+ghost use Rattle.model.specs.Card.{readCard};
 ghost use Rattle.card.specs.Answers.{rowsOf};
 ghost use Rattle.model.specs.Types as model;
 ghost use Rattle.model.specs.Contracts.{AimContract, EstimateContract, GoContract, PrepareContract, SetContract, areasOf};
@@ -39,7 +39,8 @@ pub extern "C" fn card_read(card: &[u8], first: &mut u32, second: &mut u32) -> u
 // Writes the card of a map into `area`. `place` gets the place that questions 5 and 6 name, or 0.
 #[no_mangle]
 pub extern "C" fn card_write(roads: &[u32], order: &[u32], area: &mut [u8], place: &mut u32) -> u32
-    ensures { λ r. ⌜ Wrote (writeCard (rowsOf (now (roads .entry)) (now (order .entry))) (now (area .entry))) r (now (place .exit)) (now (area .exit)) ⌝ }
+    ensures { λ r. ⌜ Wrote (rowsOf (now (roads .entry)) (now (order .entry)))
+        (now (area .entry)) (now (area .exit)) r (now (place .exit)) ⌝ }
 {
     match card::write(roads, order, area) {
         Writing::Accepted => {
