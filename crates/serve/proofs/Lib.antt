@@ -1,1 +1,2 @@
 mod Areas
+mod Talks

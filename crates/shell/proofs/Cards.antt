@@ -20,7 +20,7 @@ use Rattle.model.specs.Contracts.{after}
 use Rattle.model.specs.Good.{facts-lengths, lengths-facts}
 use Rattle.texts.specs.Areas.{Written}
 use Rattle.console.specs.Texts.{unreadableText}
-use Rattle.shell.specs.Opening.{Ends, Lends, Opening, Opens, judged, junctionRoom, larger, noLine, onCard, onRoom, opening, refusalLine, roadRoom, unlessOver}
+use Rattle.shell.specs.Opening.{Ends, Lends, Opening, Opens, judged, junctionRoom, larger, noLine, onCard, onRoom, opening, prepared, refusalLine, roadRoom, unlessOver}
 use Rattle.shell.proofs.Bounds.{answer-length, shown-text, unreadable-length}
 
 -- ---- which questions refuse
@@ -104,6 +104,11 @@ accepted none none b c s t e = (refl, opens-opens refl e)
 accepted none (some q) b c s t e = absurd (ends-opens refl e)
 accepted (some q) y b c s t e = absurd (ends-opens refl e)
 
+pub prepared-way : (file : List ℕ) (a : Areas) (r : Answered) (b : Areas) (o : Areas → Opening) → after r b noneLent ≡ prepare file a
+    → ((k : Areas) → o k ≡ unlessOver (length file) (judged (r .header) (r .answer) k)) → o b ≡ prepared file a
+unfolding prepared
+prepared-way file a r b o e f = f b ∙ ap (λ (u : Step). unlessOver (length file) (judgedStep u)) e
+
 module _ (file : List ℕ) (a : Areas) (lends : Lends file a) where
   abbrev M : Map
   M = mapOn file
@@ -162,9 +167,10 @@ module _ (file : List ℕ) (a : Areas) (lends : Lends file a) where
   after-questions none e = after-card e (decide (ltb 200 (M .vertices))) (decide (ltb 800 (M .base .arcs)))
   after-questions (some q) e = ap Ends (line-plain q (λ h. omega (arith, card-low file q e, h)))
 
-  pub open-way : (r : Answered) (b : Areas) (o : Areas → Opening) → after r b noneLent ≡ prepare file a → ((k : Areas) → o k ≡ unlessOver (length file) (judged (r .header) (r .answer) k)) → o b ≡ opening file a
-  unfolding opening prepare areasRefusal
-  open-way r b o e f = f b ∙ ap (unlessOver (length file)) (ap judgedStep e ∙ after-questions (cardRefusal file) refl)
+  -- with these areas a preparing comes to what document 01 says
+  pub prepared-opens : prepared file a ≡ opening file a
+  unfolding opening prepare prepared areasRefusal
+  prepared-opens = ap (unlessOver (length file)) (after-questions (cardRefusal file) refl)
 
   -- ---- a card that opens was prepared
 

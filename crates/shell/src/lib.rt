@@ -14,7 +14,7 @@ ghost use Rattle.unit.specs.Shape.{headerIn, lentOf};
 ghost use Rattle.console.specs.Lines.{lineOf};
 ghost use Rattle.texts.specs.Areas.{Written};
 ghost use Rattle.lines.specs.Holds.{Holds};
-ghost use Rattle.shell.specs.Opening.{Lends, judged, junctionRoom, openedIn, opening, refusalLine, roadRoom, unlessOver};
+ghost use Rattle.shell.specs.Opening.{Lends, judged, junctionRoom, openedIn, opening, prepared, refusalLine, roadRoom, unlessOver};
 ghost use Rattle.shell.specs.Answering.{Answers};
 use answers::Answer;
 use card::Reading;
@@ -116,7 +116,7 @@ fn judge(bytes: usize, answered: Answered, out: &mut [u8]) -> Opened
     }
 }
 
-// Opens a card: its line stands first in `out`, or the areas are prepared and nothing is printed.
+// Opens a card: its line stands first in `out`, or the areas are prepared and nothing is printed. Lent areas of other lengths than `room_for` computes are judged as preparing judges them.
 pub fn open_card(
     file: &[u8],
     ranks: &mut [u32],
@@ -127,9 +127,11 @@ pub fn open_card(
     elapsed: &mut [u32],
     out: &mut [u8; OUT_ROOM],
 ) -> Opened
-    requires { ⌜ Lends (now file) (areasOf (now ranks) (now pairs) (now live) (now down) (now estimates) (now elapsed)) ⌝ }
     ensures { λ r. ⌜ openedIn r (now (out .exit)) (areasOf (now (ranks .exit)) (now (pairs .exit)) (now (live .exit)) (now (down .exit)) (now (estimates .exit)) (now (elapsed .exit)))
-        ≡ opening (now (file .entry)) (areasOf (now (ranks .entry)) (now (pairs .entry)) (now (live .entry)) (now (down .entry)) (now (estimates .entry)) (now (elapsed .entry))) ⌝ }
+        ≡ prepared (now (file .entry)) (areasOf (now (ranks .entry)) (now (pairs .entry)) (now (live .entry)) (now (down .entry)) (now (estimates .entry)) (now (elapsed .entry))) ⌝ }
+    ensures { λ r. ⌜ (Lends (now (file .entry)) (areasOf (now (ranks .entry)) (now (pairs .entry)) (now (live .entry)) (now (down .entry)) (now (estimates .entry)) (now (elapsed .entry)))
+        → openedIn r (now (out .exit)) (areasOf (now (ranks .exit)) (now (pairs .exit)) (now (live .exit)) (now (down .exit)) (now (estimates .exit)) (now (elapsed .exit)))
+        ≡ opening (now (file .entry)) (areasOf (now (ranks .entry)) (now (pairs .entry)) (now (live .entry)) (now (down .entry)) (now (estimates .entry)) (now (elapsed .entry)))) ⌝ }
     ensures { λ r. ⌜ (r .prepared ≡ true → r .length ≡ 0) ⌝ }
 {
     let prepared = switch_on::prepare(file, ranks, pairs, live, down, estimates, elapsed);

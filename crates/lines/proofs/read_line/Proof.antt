@@ -1,8 +1,9 @@
 -- `lines::read_line`: each step goes on with the line or ends it, and leaves fewer. Assumes nothing.
-use Rattle.lines.proofs.Turns.{Turned, fewer, turned, turned-end, turned-start}
-use mathlib.Core.Path.{_≡_, refl}
+use mathlib.Core.Path.{_∙_, _≡_, refl, sym}
 use lib.ListN.{length}
 use native.Mathlib.Omega.{arith}
+use Rattle.lines.proofs.Steps.{some-turns}
+use Rattle.lines.proofs.Turns.{Turned, anew, fewer, turned, turned-end, turned-start}
 use borrow.Author.Needs.{needs}
 use Rattle.lines.proofs.read_line.Statement.{statement}
 use Rattle.lines.proofs.read_line.Tie as tie
@@ -14,30 +15,20 @@ abbrev μ-loop : tie.MeasureT-loop
 μ-loop input chunk₀ line₀ r₀ chunk line r = r .turns
 
 loop-holds : tie.Need-loop-holds Inv-loop μ-loop
-loop-holds c = (refl, refl, turned-start _ _ _ _ refl refl refl refl)
+loop-holds c = (refl, refl, turned-start _ _ _ _ _ _)
+
+step-requires : tie.Need-step-requires Inv-loop μ-loop
+step-requires c κs = some-turns (c .before .before .before .before .loop .r) (sym (c .before .before .before .waits .ensures) ∙ c .before .before .if1 .taken)
 
 loop-less : tie.Need-loop-less Inv-loop μ-loop
-loop-less c =
-    let after-step = c .before .before .before .before in
-    let then1 = after-step .before .before .before in
-    fewer _ _ _ _ _ _ (then1 .if1 .taken) (after-step .step .ensures)
+loop-less c = fewer _ _ _ _ _ _ (some-turns (c .before .before .before .before .before .before .before .before .before .loop .r) (sym (c .before .before .before .before .before .before .before .before .waits .ensures) ∙ c .before .before .before .before .before .before .before .if1 .taken)) (c .before .before .before .before .step .ensures)
 
 loop-again : tie.Need-loop-again Inv-loop μ-loop
-loop-again c =
-    let after-step = c .before .before .before .before in
-    let then1 = after-step .before .before .before in
-    let at-loop = then1 .before .before in
-    let start = at-loop .before .before .before in
-    let held = at-loop .loop .inv in (
-      search needs,
-      search needs,
-      turned _ _ _ _ _ _ _ _ (then1 .if1 .taken) (omega (arith, start .pre, held .1)) (held .2) (after-step .step .ensures),
-    )
+loop-again c = let held = c .before .before .before .before .before .before .before .before .before .loop .inv in
+    (search needs, search needs, turned _ _ _ _ _ _ _ _ (sym (c .before .before .before .before .before .before .before .before .waits .ensures) ∙ c .before .before .before .before .before .before .before .if1 .taken) (omega (arith, c .before .before .before .before .before .before .before .before .before .before .before .before .pre, held .1)) (held .2) (c .before .before .before .before .step .ensures))
 
 returns : tie.Need-returns Inv-loop μ-loop
-returns c =
-    let at-loop = c .before .before in
-    turned-end _ _ _ _ _ _ refl (c .if1 .left) (at-loop .loop .inv .2)
+returns c = anew _ _ _ _ _ _ _ (turned-end _ _ _ _ _ (sym (c .before .waits .ensures) ∙ c .if1 .left) (c .before .before .loop .inv .2))
 
 pub read-line-spec : {M : Type 1} → statement M
 read-line-spec =
@@ -47,6 +38,7 @@ read-line-spec =
     μ-loop
     loop-holds
     (λ c κs. search needs)
+    step-requires
     loop-less
     loop-again
     (λ c. search needs)
