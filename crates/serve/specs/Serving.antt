@@ -2,10 +2,12 @@
 use mathlib.Core.Path.{_≡_, subst, sym}
 use mathlib.Core.Logic.{_⊎_}
 use mathlib.Core.Bool.{false, true}
-use mathlib.Core.List.{List, [], _++_, _∷_, map}
+use mathlib.Core.List.{List, [], _++_, _∷_}
 use Prim.Native.Nat.{ℕ}
 use lib.ListN.{length, take}
+use Rattle.model.specs.Card.{mapOn}
 use Rattle.model.specs.State.{Areas, Lent, State}
+use Rattle.model.specs.Machine.{started}
 use Rattle.model.specs.Contracts.{before}
 use Rattle.unit.specs.Shape.{headerIn, lentOf}
 use Rattle.unit.specs.declared.Header.{Header}
@@ -15,7 +17,7 @@ use Rattle.lines.specs.declared.Reader.{Reader}
 use Rattle.console.specs.Lines.{lineOf}
 use Rattle.shell.specs.Opening.{Ends, Lends, Opening, Opens, opening}
 use Rattle.shell.specs.Answering.{Answers}
-use Rattle.shell.specs.Session.{Conversed, Session, Turn}
+use Rattle.shell.specs.Session.{Conversed, Session, Turn, linesIn, machineTexts, textsIn}
 use Rattle.shell.specs.declared.Opened.{Opened}
 use Rattle.serve.specs.declared.Talk.{Talk}
 
@@ -76,14 +78,15 @@ pub record Refuses (line : List ℕ) (z : Held) (l : Talk) : Type 0 where
   pub printed : z .text ≡ line
   pub unread : l .reader .turns ≡ 18446744073709551615
 
--- a card that opens: the lines are answered from the prepared state; they are those of the input to its end, and the texts are the plain machine's answers to them.
--- A reader that has not met the input's end has used up its 2 ^ 64 - 1 steps, bytes and reads.
+-- a card that opens: lines are answered from the prepared state (`turns`), until the input has ended or the reader's 2 ^ 64 - 1 steps, bytes and reads, are used up (`stops`). At the input's end
+-- the lines are those of all that was read, and the texts that were printed are the plain machine's answers to them
 pub record Attends (file : List ℕ) (s : State) (lent : Lent) (z : Held) (l : Talk) : Type 0 where
   pub start : Reader
   pub at-start : AtStart true start
   pub served : Served file (record { state = s; lent = lent; text = [] }) start z (l .reader)
   pub stops : (l .reader .ended ≡ true) ⊎ (l .reader .turns ≡ 0)
-  pub lines : l .reader .ended ≡ true → linesOf (served .input) ≡ map (λ (t : Turn). t .line) (served .turns)
+  pub lines : l .reader .ended ≡ true → linesOf (served .input) ≡ linesIn (served .turns)
+  pub texts : l .reader .ended ≡ true → textsIn (served .turns) ≡ machineTexts (linesOf (served .input)) (mapOn file) (started (mapOn file))
   pub printed : Conversed file (served .turns)
 
 abbrev pub Runs : (file : List ℕ) → Opening → (lent : Lent) → Held → Talk → Type 0
@@ -106,7 +109,7 @@ serving-session (answered n e a w) = (a .answers, serving-session w)
 serving-session (over n e) = tt
 
 pub serving-lines : {card chunk input : List ℕ} {h z : Held} {from end : Reader} {turns : List Turn} → Serving card h from chunk input turns z end
-    → Lines from chunk input (map (λ (t : Turn). t .line) turns) end
+    → Lines from chunk input (linesIn turns) end
 serving-lines {from = from} {end = end} (answered {chunk = chunk} {input = input} {turns = turns} n e a w) =
-    subst (λ (x : List ℕ). Lines from chunk (inOrder (n .reads) ++ input) (x ∷ map (λ (t : Turn). t .line) turns) end) (sym (a .line)) (line-more n e (serving-lines w))
+    subst (λ (x : List ℕ). Lines from chunk (inOrder (n .reads) ++ input) (x ∷ linesIn turns) end) (sym (a .line)) (line-more n e (serving-lines w))
 serving-lines (over n e) = no-more n e

@@ -103,13 +103,7 @@ fn answer_lines(
     let mut line = [0u8; lines::LINE_ROOM];
     let first = from.header;
     let said = from.said;
-    let mut l = turn(
-        from,
-        first,
-        text_of(out, said),
-        &mut chunk,
-        &mut line,
-    );
+    let mut l = turn(from, first, text_of(out, said), &mut chunk, &mut line);
     while l.reader.ready {
         let reply = shell::answer_line(
             heard(l, &line),

@@ -40,6 +40,7 @@ returns-2 c =
           (areasOf (start .args .ranks .now) (start .args .pairs .now) (g .last .1 .1 .1 .1 .0) (g .last .1 .1 .1 .1 .1 .0)
           (g .last .1 .1 .1 .1 .1 .1 .0) (g .last .1 .1 .1 .1 .1 .1 .1 .0))
           (lentOf (g .last .1 .1 .1 .1 .1 .1 .1 .1 .0) (g .last .1 .1 .1 .1 .1 .1 .1 .1 .1 .0))
+          (after-call-arg6 .call-arg6 .given .0 .1, after-call .before .call-arg7 .given .0 .1)
           (at-most 200 (g .last .1 .1 .1 .1 .1 .1 .1 .1 .0) (g .kept .1 .1 .1 .1 .1 .1 .1 .1 .0 ∙ after-call-arg6 .call-arg6 .given .0 .1))
           (after-c .c .given .1) (g .ensures) (w .ensures),
       counted _ (w .result) (start .args .out .now) (w .last .1 .1 .0) (w .ensures) (w .kept .1 .1 .0),
