@@ -49,7 +49,8 @@ fn run(name: &str, card: &[u8], input: &[&[u8]]) -> (String, Vec<Vec<u8>>) {
 #[test]
 fn first_end_without_a_newline() {
     let card = maps::map_p().card().unwrap();
-    let (printed, unread) = run("first-end", &card, &[b"aim", b" 3\nest", b" 0", b"", b"\ngo 0\n", b""]);
+    let (printed, unread) =
+        run("first-end", &card, &[b"aim", b" 3\nest", b" 0", b"", b"\ngo 0\n", b""]);
     assert_eq!(printed, "ok\nest 20\n");
     assert_eq!(unread, [&b"\ngo 0\n"[..], b""]);
 }
