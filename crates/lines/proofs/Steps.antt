@@ -17,7 +17,8 @@ use Rattle.lines.specs.declared.Reader.{Reader}
 
 -- ---- the start
 
-pub started : (opens : Bool) → AtStart opens (record { at = 0; end = 0; part = record { kept = 0; long = false }; ready = false; ended = not opens; turns = 18446744073709551615 })
+pub started : (opens : Bool)
+    → AtStart opens (record { at = 0; end = 0; part = record { kept = 0; long = false }; ready = false; ended = not opens; turns = 18446744073709551615 })
 started opens = record {
   nothing = λ chunk. refl;
   no-line = λ area. record { fits = omega arith; whole = λ l. refl; more = λ l. absurd (false≢true l) };
@@ -29,7 +30,8 @@ started opens = record {
 -- ---- a byte
 
 module _ (r : Reader) (b left : ℕ) (area : List ℕ) where
-  pub took-newline : b ≡ newline → Took b left r area (record { at = r .at + 1; end = r .end; part = r .part; ready = true; ended = r .ended; turns = left }) area
+  pub took-newline : b ≡ newline
+      → Took b left r area (record { at = r .at + 1; end = r .end; part = r .part; ready = true; ended = r .ended; turns = left }) area
   took-newline e = record { next = (refl, refl, refl, refl); ends = λ h. (refl, refl, refl); goes-on = λ h. absurd (h e) }
 
   pub took-byte : (part : Part) (area′ : List ℕ) → b ≢ newline → ((xs : List ℕ) → Holds (r .part) area xs → Holds part area′ (xs ++ (b ∷ [])))
@@ -40,7 +42,13 @@ module _ (r : Reader) (b left : ℕ) (area : List ℕ) where
 
 module _ (r : Reader) (left n k : ℕ) (counted : k ≡ n) where
   pub read-none : k ≡ 0 → Refilled n left r (record { at = 0; end = 0; part = r .part; ready = ltb 0 (r .part .kept); ended = true; turns = left })
-  read-none e = record { bytes = (refl, sym e ∙ counted); line = refl; turns = refl; ends = λ h. (refl, refl); goes-on = λ h. let z : ⊥ = omega arith in absurd z }
+  read-none e = record {
+    bytes = (refl, sym e ∙ counted);
+    line = refl;
+    turns = refl;
+    ends = λ h. (refl, refl);
+    goes-on = λ h. let z : ⊥ = omega arith in absurd z;
+  }
 
   pub read-some : k ≢ 0 → Refilled n left r (record { at = 0; end = k; part = r .part; ready = false; ended = false; turns = left })
   read-some e = record { bytes = (refl, counted); line = refl; turns = refl; ends = λ h. absurd (e (counted ∙ h)); goes-on = λ h. (refl, refl) }
@@ -55,16 +63,20 @@ read-in n left r s w =
 next-is : (at end : ℕ) (chunk : List ℕ) → at < end → at < length chunk → drop at (take end chunk) ≡ getD chunk at 0 ∷ drop (at + 1) (take end chunk)
 next-is at end chunk h k =
     let z : at < length (take end chunk) = omega (arith, h, k, length-take end chunk) in
-    drop-cons (take end chunk) at 0 z ∙ ap (λ (b : ℕ). b ∷ drop (suc at) (take end chunk)) (getD-take end chunk at 0 h) ∙ ap (λ (i : ℕ). getD chunk at 0 ∷ drop i (take end chunk)) (sym (add-one at))
+    drop-cons (take end chunk) at 0 z ∙ ap (λ (b : ℕ). b ∷ drop (suc at) (take end chunk)) (getD-take end chunk at 0 h)
+    ∙ ap (λ (i : ℕ). getD chunk at 0 ∷ drop i (take end chunk)) (sym (add-one at))
 
 module _ (r : Reader) (chunk area : List ℕ) (s : Reader) where
-  pub step-takes : (area′ : List ℕ) → r .at < r .end → r .at < length chunk → Took (getD chunk (r .at) 0) (r .turns - 1) r area s area′ → Stepped r chunk area s chunk area′
+  pub step-takes : (area′ : List ℕ) → r .at < r .end → r .at < length chunk → Took (getD chunk (r .at) 0) (r .turns - 1) r area s area′
+      → Stepped r chunk area s chunk area′
   step-takes area′ h k w =
       took (getD chunk (r .at) 0)
-      (next-is (r .at) (r .end) chunk h k ∙ ap (λ (i : ℕ). getD chunk (r .at) 0 ∷ drop i (take (r .end) chunk)) (sym (w .next .0)) ∙ ap (λ (e : ℕ). getD chunk (r .at) 0 ∷ drop (s .at) (take e chunk)) (sym (w .next .1)))
+      (next-is (r .at) (r .end) chunk h k ∙ ap (λ (i : ℕ). getD chunk (r .at) 0 ∷ drop i (take (r .end) chunk)) (sym (w .next .0))
+      ∙ ap (λ (e : ℕ). getD chunk (r .at) 0 ∷ drop (s .at) (take e chunk)) (sym (w .next .1)))
       refl w
 
-  pub step-reads : (chunk′ : List ℕ) → (r .end ≤ r .at) ⊎ (length chunk ≤ r .at) → (s .end ≤ length chunk′) × Refilled (s .end) (r .turns - 1) r s → Stepped r chunk area s chunk′ area
+  pub step-reads : (chunk′ : List ℕ) → (r .end ≤ r .at) ⊎ (length chunk ≤ r .at) → (s .end ≤ length chunk′) × Refilled (s .end) (r .turns - 1) r s
+      → Stepped r chunk area s chunk′ area
   step-reads chunk′ h w = refilled (s .end) (drop-of-length-le (take (r .end) chunk) (none-left h)) (w .0) (w .1) refl
     where
       none-left : (r .end ≤ r .at) ⊎ (length chunk ≤ r .at) → length (take (r .end) chunk) ≤ r .at

@@ -11,7 +11,8 @@ use borrow.Author.Tests.{lt-ltb, ltb-false}
 use native.Mathlib.Decide.{ℕ-discrete}
 use native.Mathlib.Omega.{arith}
 use Rattle.lines.specs.Holds.{Holds}
-use Rattle.lines.specs.Input.{Ends, Gave, Last, NextLine, Plain, Refilled, Stepped, Took, after-end, at-end, at-newline, inOrder, newline, out-of-turns, refilled, took, unread, waiting}
+use Rattle.lines.specs.Input.{Ends, Gave, Last, NextLine, Plain, Refilled, Stepped, Took, after-end}
+use Rattle.lines.specs.Input.{at-end, at-newline, inOrder, newline, out-of-turns, refilled, took, unread, waiting}
 use Rattle.lines.proofs.Steps.{at-ended, at-ready, by-turns, some-turns}
 use Rattle.lines.specs.declared.Part.{Part}
 use Rattle.lines.specs.declared.Reader.{Reader}
@@ -38,13 +39,16 @@ plain-more : (xs : List ℕ) (b : ℕ) → Plain xs → b ≢ newline → Plain 
 plain-more [] b p n = (n, tt)
 plain-more (x ∷ xs) b p n = (p .0, plain-more xs b (p .1) n)
 
-last-stays : (reads : List (List ℕ)) (before : List ℕ) (r s : Reader) (chunk chunk′ : List ℕ) → chunk′ ≡ chunk → s .end ≡ r .end → Last reads before r chunk → Last reads before s chunk′
+last-stays : (reads : List (List ℕ)) (before : List ℕ) (r s : Reader) (chunk chunk′ : List ℕ) → chunk′ ≡ chunk → s .end ≡ r .end
+    → Last reads before r chunk → Last reads before s chunk′
 last-stays [] before r s chunk chunk′ e f w = e ∙ w
 last-stays (c ∷ earlier) before r s chunk chunk′ e f w = w ∙ sym (ap₂ take f e)
 
-to-ends : {input line rest : List ℕ} {left : ℕ} {b b′ t t′ e e′ : Bool} {reads : List (List ℕ)} → b ≡ b′ → t ≡ t′ → e ≡ e′ → Ends input line rest left b reads t e → Ends input line rest left b′ reads t′ e′
+to-ends : {input line rest : List ℕ} {left : ℕ} {b b′ t t′ e e′ : Bool} {reads : List (List ℕ)} → b ≡ b′ → t ≡ t′ → e ≡ e′
+    → Ends input line rest left b reads t e → Ends input line rest left b′ reads t′ e′
 to-ends {input} {line} {rest} {left} {b} {b′} {t} {t′} {e} {e′} {reads} p q r w =
-    subst (λ (x : Bool). Ends input line rest left x reads t′ e′) p (subst (λ (x : Bool). Ends input line rest left b reads x e′) q (subst (λ (x : Bool). Ends input line rest left b reads t x) r w))
+    subst (λ (x : Bool). Ends input line rest left x reads t′ e′) p
+    (subst (λ (x : Bool). Ends input line rest left b reads x e′) q (subst (λ (x : Bool). Ends input line rest left b reads t x) r w))
 
 -- a line has bytes where some are kept
 kept-some : (p : Part) (area line : List ℕ) → Holds p area line → 0 < length area → ltb 0 (p .kept) ≡ ltb 0 (length line)
@@ -63,7 +67,8 @@ empty-line : (area : List ℕ) → Holds (record { kept = 0; long = false }) are
 empty-line area = record { fits = omega arith; whole = λ l. refl; more = λ l. absurd (false≢true l) }
 
 -- an input that has ended is at rest
-pub turned-start : (at end : ℕ) (ended : Bool) (turns : ℕ) (chunk area : List ℕ) → let r : Reader = record { at = at; end = end; part = record { kept = 0; long = false }; ready = false; ended = ended; turns = turns } in
+pub turned-start : (at end : ℕ) (ended : Bool) (turns : ℕ) (chunk area : List ℕ) → let r : Reader =
+    record { at = at; end = end; part = record { kept = 0; long = false }; ready = false; ended = ended; turns = turns } in
     Turned r chunk r chunk area
 turned-start at end false turns chunk area =
     let left = drop at (take end chunk) in
@@ -96,11 +101,13 @@ turned-start at end true turns chunk area =
 
 -- ---- a turn
 
-module _ (from : Reader) (before : List ℕ) (r : Reader) (chunk area : List ℕ) (s : Reader) (chunk′ area′ : List ℕ) (g : Going from before r chunk area) (some : 0 < r .turns) where
+module _ (from : Reader) (before : List ℕ) (r : Reader) (chunk area : List ℕ) (s : Reader) (chunk′ area′ : List ℕ)
+    (g : Going from before r chunk area) (some : 0 < r .turns) where
   abbrev input : List ℕ
   input = unread from before ++ inOrder (g .reads)
 
-  turn-took : (b : ℕ) → unread r chunk ≡ b ∷ unread s chunk′ → chunk′ ≡ chunk → Took b (r .turns - 1) r area s area′ → Dec (b ≡ newline) → Turned from before s chunk′ area′
+  turn-took : (b : ℕ) → unread r chunk ≡ b ∷ unread s chunk′ → chunk′ ≡ chunk → Took b (r .turns - 1) r area s area′ → Dec (b ≡ newline)
+      → Turned from before s chunk′ area′
   turn-took b e q w (yes n) =
       let z = w .ends n in
       let more = ap length e in
@@ -133,7 +140,8 @@ module _ (from : Reader) (before : List ℕ) (r : Reader) (chunk area : List ℕ
         turns = omega (arith, some, more, w .next .3, g .turns);
       })
 
-  turn-read : 0 < length area → (n : ℕ) → unread r chunk ≡ [] → n ≤ length chunk′ → Refilled n (r .turns - 1) r s → area′ ≡ area → Turned from before s chunk′ area′
+  turn-read : 0 < length area → (n : ℕ) → unread r chunk ≡ [] → n ≤ length chunk′ → Refilled n (r .turns - 1) r s → area′ ≡ area
+      → Turned from before s chunk′ area′
   turn-read room zero e h w q =
       let z = w .ends refl in
       let none : unread s chunk′ ≡ [] = ap₂ (λ (i k : ℕ). drop i (take k chunk′)) (w .bytes .0) (w .bytes .1) in
@@ -157,7 +165,8 @@ module _ (from : Reader) (before : List ℕ) (r : Reader) (chunk area : List ℕ
   turn-read room (suc k) e h w q =
       let z = w .goes-on (omega arith) in
       let here : unread s chunk′ ≡ take (suc k) chunk′ = ap₂ (λ (i m : ℕ). drop i (take m chunk′)) (w .bytes .0) (w .bytes .1) in
-      let bytes : unread from before ++ (inOrder (g .reads) ++ take (suc k) chunk′) ≡ input ++ take (suc k) chunk′ = sym (append-assoc (unread from before) (inOrder (g .reads)) (take (suc k) chunk′)) in
+      let bytes : unread from before ++ (inOrder (g .reads) ++ take (suc k) chunk′) ≡ input ++ take (suc k) chunk′ =
+      sym (append-assoc (unread from before) (inOrder (g .reads)) (take (suc k) chunk′)) in
       let same = ap length bytes in
       let left = ap length e in
       let after = ap length here in
@@ -180,7 +189,8 @@ module _ (from : Reader) (before : List ℕ) (r : Reader) (chunk area : List ℕ
   turn-going room (took b e q w) = turn-took b e q w (ℕ-discrete b newline)
   turn-going room (refilled n e h w q) = turn-read room n e h w q
 
-pub turned : (from : Reader) (before : List ℕ) (r : Reader) (chunk area : List ℕ) (s : Reader) (chunk′ area′ : List ℕ) → waiting r ≡ true → 0 < length area → Turned from before r chunk area
+pub turned : (from : Reader) (before : List ℕ) (r : Reader) (chunk area : List ℕ) (s : Reader) (chunk′ area′ : List ℕ) → waiting r ≡ true
+    → 0 < length area → Turned from before r chunk area
     → Stepped r chunk area s chunk′ area′ → Turned from before s chunk′ area′
 turned from before r chunk area s chunk′ area′ some room (inl g) w = turn-going from before r chunk area s chunk′ area′ g (some-turns r some) room w
 turned from before r chunk area s chunk′ area′ some room (inr g) w = absurd (false≢true (sym (g .0) ∙ some))
@@ -192,7 +202,8 @@ fewer r chunk area s chunk′ area′ some (refilled n e h w q) = omega (arith, 
 
 -- ---- the end
 
-pub turned-end : (from : Reader) (before : List ℕ) (r : Reader) (chunk area : List ℕ) → waiting r ≡ false → Turned from before r chunk area → NextLine from before r chunk area
+pub turned-end : (from : Reader) (before : List ℕ) (r : Reader) (chunk area : List ℕ) → waiting r ≡ false → Turned from before r chunk area
+    → NextLine from before r chunk area
 turned-end from before r chunk area done (inr g) = g .1
 turned-end from before r chunk area done (inl g) = record {
   line = g .line;
@@ -200,7 +211,8 @@ turned-end from before r chunk area done (inl g) = record {
   last = g .last;
   plain = g .plain;
   holds = g .holds;
-  ends = to-ends (sym (g .goes .0)) (sym (g .waits)) (sym (g .goes .1)) (out-of-turns (g .gave) (g .bytes) (none (ltb-false 0 (r .turns) (sym (by-turns r (g .waits) (g .goes .1)) ∙ done))));
+  ends = to-ends (sym (g .goes .0)) (sym (g .waits)) (sym (g .goes .1))
+      (out-of-turns (g .gave) (g .bytes) (none (ltb-false 0 (r .turns) (sym (by-turns r (g .waits) (g .goes .1)) ∙ done))));
   turns = g .turns;
 }
   where
@@ -209,5 +221,7 @@ turned-end from before r chunk area done (inl g) = record {
 
 -- the loop begins a line anew
 pub anew : (from : Reader) (part : Part) (ready : Bool) (before : List ℕ) (r : Reader) (chunk area : List ℕ)
-    → NextLine (record { at = from .at; end = from .end; part = part; ready = ready; ended = from .ended; turns = from .turns }) before r chunk area → NextLine from before r chunk area
-anew from part ready before r chunk area n = record { line = n .line; reads = n .reads; last = n .last; plain = n .plain; holds = n .holds; ends = n .ends; turns = n .turns }
+    → NextLine (record { at = from .at; end = from .end; part = part; ready = ready; ended = from .ended; turns = from .turns }) before r chunk area
+    → NextLine from before r chunk area
+anew from part ready before r chunk area n =
+    record { line = n .line; reads = n .reads; last = n .last; plain = n .plain; holds = n .holds; ends = n .ends; turns = n .turns }

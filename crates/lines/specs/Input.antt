@@ -71,8 +71,10 @@ abbrev pub Plain : List ℕ → Type 0
 Plain [] = Unit {0}
 Plain (b ∷ s) = (b ≢ newline) × Plain s
 
--- "A line ends at a newline or at the end of the input; after a last newline no further line follows": the bytes `input` are a line, and what is left; `ready` says whether there is a line.
--- The input ends where a read gives nothing, and `ended` says so from then on: nothing more is read. The last case is a reader whose steps are used up: `left`, none of 2 ^ 64 - 1, is what it has.
+-- "A line ends at a newline or at the end of the input; after a last newline no further line follows": the bytes `input` are a line, and
+-- what is left; `ready` says whether there is a line.
+-- The input ends where a read gives nothing, and `ended` says so from then on: nothing more is read. The last case is a reader that has
+-- used up its steps, 2 ^ 64 - 1 bytes and reads in all: it has none left.
 pub data Ends (input line rest : List ℕ) (left : ℕ) : (before : Bool) → (reads : List (List ℕ)) → (ready ended : Bool) → Type 0 where
   at-newline : {reads : List (List ℕ)} → Gave reads → input ≡ line ++ (newline ∷ rest) → Ends input line rest left false reads true false
   at-end : {earlier : List (List ℕ)} → Gave earlier → input ≡ line → rest ≡ [] → Ends input line rest left false ([] ∷ earlier) (ltb 0 (length line)) true

@@ -39,7 +39,8 @@ pub fn take_byte(p: Part, b: u8, area: &mut [u8]) -> Part
 
 // ---- the reader
 
-// The input: the bytes of a chunk from `at` to `end` are not taken yet. `ready` says that the line's end has come, `ended` that a read gave nothing. `turns` is how many more steps may be made: bytes taken, and reads.
+// The input: the bytes of a chunk from `at` to `end` are not taken yet. `ready` says that the line's end has come, `ended` that a read gave
+// nothing. `turns` is how many more steps may be made: bytes taken, and reads.
 pub struct Reader {
     pub at: usize,
     pub end: usize,
@@ -49,7 +50,8 @@ pub struct Reader {
     pub turns: u64,
 }
 
-// Before the first line; an input that is not open counts as ended. A proved loop has to end, and nothing says that an input does: so steps are counted down, from a number that no run uses up.
+// Before the first line; an input that is not open counts as ended. A proved loop has to end, and nothing says that an input does: so steps
+// are counted down, from a number that no run uses up.
 pub fn at_start(opens: bool) -> Reader
     ensures { λ r. ⌜ AtStart opens r ⌝ }
 {
@@ -96,7 +98,8 @@ fn take_one(r: Reader, b: u8, left: u64, line: &mut [u8]) -> Reader
     }
 }
 
-// What a read answered. "A line ends at a newline or at the end of the input; after a last newline no further line follows": where the input ends, a line that has bytes is ready.
+// What a read answered. "A line ends at a newline or at the end of the input; after a last newline no further line follows": where the
+// input ends, a line that has bytes is ready.
 fn take_read(r: Reader, got: isize, left: u64, chunk: &[u8]) -> Reader
     ensures { λ s. ⌜ s .end ≤ length (now (chunk .entry)) ⌝ }
     ensures { λ s. ⌜ Refilled (clamped got (length (now (chunk .entry)))) left r s ⌝ }

@@ -30,29 +30,34 @@ still from (at-end g e f) q h = absurd (false≢true q)
 still from (after-end f g) q h = let z = ap length g in (refl, omega (arith, h, z))
 still from (out-of-turns g e f) q h = absurd (false≢true q)
 
-ended-still : {card chunk input : List ℕ} {turns : List Turn} {h z : Held} {from end : Reader} → Serving card h from chunk input turns z end → from .ended ≡ true → (z ≡ h) × (end .turns ≡ from .turns)
+ended-still : {card chunk input : List ℕ} {turns : List Turn} {h z : Held} {from end : Reader} → Serving card h from chunk input turns z end
+    → from .ended ≡ true → (z ≡ h) × (end .turns ≡ from .turns)
 ended-still {from = from} (answered n r a w) q = absurd (false≢true (sym (still (from .turns) (n .ends) q (n .turns) .0) ∙ r))
 ended-still {from = from} (over n r) q = (refl, still (from .turns) (n .ends) q (n .turns) .1)
 
 -- ---- the card
 
-module _ (file : List ℕ) (lent a : Areas) (lends : shell.Lends file lent) (o : Opened) (out route log : List ℕ) (from : Talk) (begun : Begun o from) (z : Held) (l : Talk)
-    (served : Served file (heldIn from a route log out) (from .reader) z (l .reader)) where
+module _ (file : List ℕ) (lent a : Areas) (lends : shell.Lends file lent) (o : Opened) (out route log : List ℕ) (from : Talk) (begun : Begun o from)
+    (z : Held) (l : Talk)
+    (served : Served file (heldIn from a route log out) (from .reader) z l) where
   refuses : o .prepared ≡ false → Refuses (take (o .length) out) z l
   refuses p =
       let s = begun .reader in
       let e = ended-still (served .serving) (s .ended ∙ ap not p) in
-      record { printed = ap (λ (h : Held). h .text) (e .0) ∙ ap (λ (k : ℕ). take k out) (begun .said); unread = e .1 ∙ s .turns }
+      let printed = ap (λ (h : Held). h .text) (e .0) ∙ ap (λ (k : ℕ). take k out) (begun .said) in
+      record { printed = printed; said = served .said ∙ ap length printed; unread = e .1 ∙ s .turns }
 
   abbrev opened : State
   opened = before (headerIn (o .header)) a
 
   attends : o .prepared ≡ true → o .length ≡ 0 → shell.opening file lent ≡ shell.Opens opened → Attends file opened (lentOf route log) z l
   attends p none opens =
-      let begins : heldIn from a route log out ≡ heldOf (o .header) a route log [] = ap₂ (λ (h : Header) (k : ℕ). heldOf h a route log (take k out)) (begun .header) (begun .said ∙ none) in
+      let begins : heldIn from a route log out ≡ heldOf (o .header) a route log [] =
+      ap₂ (λ (h : Header) (k : ℕ). heldOf h a route log (take k out)) (begun .header) (begun .said ∙ none) in
       let at-start = subst (λ (b : Bool). AtStart b (from .reader)) p (begun .reader) in
       let lines = serving-lines (served .serving) in
-      let printed = program-right file lent lends opened opens (served .turns) (subst (λ (h : Held). Session file (h .state) (served .turns)) begins (serving-session (served .serving))) in
+      let printed = program-right file lent lends opened opens (served .turns)
+      (subst (λ (h : Held). Session file (h .state) (served .turns)) begins (serving-session (served .serving))) in
       record {
         start = from .reader;
         at-start = at-start;
@@ -61,6 +66,7 @@ module _ (file : List ℕ) (lent a : Areas) (lends : shell.Lends file lent) (o :
           input = served .input;
           turns = served .turns;
           serving = subst (λ (h : Held). Serving file h (from .reader) (served .chunk) (served .input) (served .turns) z (l .reader)) begins (served .serving);
+          said = served .said;
         };
         stops = lines-stop lines;
         lines = λ e. lines-right at-start lines e;
@@ -68,7 +74,8 @@ module _ (file : List ℕ) (lent a : Areas) (lends : shell.Lends file lent) (o :
         printed = printed;
       }
 
-  pub card-runs : (o .prepared ≡ true → o .length ≡ 0) → shell.openedIn o out a ≡ shell.opening file lent → Runs file (shell.opening file lent) (lentOf route log) z l
+  pub card-runs : (o .prepared ≡ true → o .length ≡ 0) → shell.openedIn o out a ≡ shell.opening file lent
+      → Runs file (shell.opening file lent) (lentOf route log) z l
   card-runs none e = subst (λ (x : shell.Opening). Runs file x (lentOf route log) z l) e (go (o .prepared) refl)
     where
       go : (p : Bool) → o .prepared ≡ p → Runs file (cond p (shell.Opens opened) (shell.Ends (take (o .length) out))) (lentOf route log) z l

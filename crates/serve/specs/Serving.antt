@@ -55,15 +55,20 @@ pub record Turns (from : Talk) (handed : Header) (text chunk : List ℕ) (to : T
 
 -- lines are read and answered one after the other, each from what the one before left, until none is ready: the bytes that were read, and the turns
 pub data Serving (card : List ℕ) : Held → Reader → (chunk input : List ℕ) → List Turn → Held → Reader → Type 0 where
-  answered : {h z : Held} {from to end : Reader} {chunk chunk′ area input : List ℕ} {t : Turn} {turns : List Turn} → (n : NextLine from chunk to chunk′ area) → to .ready ≡ true
-      → AnsweredTo card h (n .line) t → Serving card (leaves t) to chunk′ input turns z end → Serving card h from chunk (inOrder (n .reads) ++ input) (t ∷ turns) z end
-  over : {h : Held} {from to : Reader} {chunk chunk′ area : List ℕ} → (n : NextLine from chunk to chunk′ area) → to .ready ≡ false → Serving card h from chunk (inOrder (n .reads)) [] h to
+  answered : {h z : Held} {from to end : Reader} {chunk chunk′ area input : List ℕ} {t : Turn} {turns : List Turn}
+      → (n : NextLine from chunk to chunk′ area) → to .ready ≡ true
+      → AnsweredTo card h (n .line) t → Serving card (leaves t) to chunk′ input turns z end
+      → Serving card h from chunk (inOrder (n .reads) ++ input) (t ∷ turns) z end
+  over : {h : Held} {from to : Reader} {chunk chunk′ area : List ℕ} → (n : NextLine from chunk to chunk′ area) → to .ready ≡ false
+      → Serving card h from chunk (inOrder (n .reads)) [] h to
 
-pub record Served (card : List ℕ) (h : Held) (from : Reader) (z : Held) (end : Reader) : Type 0 where
+-- as much was printed last as that text has
+pub record Served (card : List ℕ) (h : Held) (from : Reader) (z : Held) (l : Talk) : Type 0 where
   pub chunk : List ℕ
   pub input : List ℕ
   pub turns : List Turn
-  pub serving : Serving card h from chunk input turns z end
+  pub serving : Serving card h from chunk input turns z (l .reader)
+  pub said : l .said ≡ length (z .text)
 
 -- ---- the program
 
@@ -76,14 +81,16 @@ pub record Begun (o : Opened) (l : Talk) : Type 0 where
 -- a card that does not open: its line is printed, "Each of these ends the program", and no step is made to read a line
 pub record Refuses (line : List ℕ) (z : Held) (l : Talk) : Type 0 where
   pub printed : z .text ≡ line
+  pub said : l .said ≡ length line
   pub unread : l .reader .turns ≡ 18446744073709551615
 
--- a card that opens: lines are answered from the prepared state (`turns`), until the input has ended or the reader's 2 ^ 64 - 1 steps, bytes and reads, are used up (`stops`). At the input's end
--- the lines are those of all that was read, and the texts that were printed are the plain machine's answers to them
+-- a card that opens: lines are answered from the prepared state, until the input has ended or the reader's 2 ^ 64 - 1 steps, bytes and
+-- reads, are used up (`stops`). At the input's end the lines are those of all that was read, and the texts that were printed are the plain
+-- machine's answers to them
 pub record Attends (file : List ℕ) (s : State) (lent : Lent) (z : Held) (l : Talk) : Type 0 where
   pub start : Reader
   pub at-start : AtStart true start
-  pub served : Served file (record { state = s; lent = lent; text = [] }) start z (l .reader)
+  pub served : Served file (record { state = s; lent = lent; text = [] }) start z l
   pub stops : (l .reader .ended ≡ true) ⊎ (l .reader .turns ≡ 0)
   pub lines : l .reader .ended ≡ true → linesOf (served .input) ≡ linesIn (served .turns)
   pub texts : l .reader .ended ≡ true → textsIn (served .turns) ≡ machineTexts (linesOf (served .input)) (mapOn file) (started (mapOn file))
@@ -104,7 +111,8 @@ pub record Starts (file : List ℕ) (l : Talk) : Type 0 where
 
 -- ---- laws
 
-pub serving-session : {card chunk input : List ℕ} {h z : Held} {from end : Reader} {turns : List Turn} → Serving card h from chunk input turns z end → Session card (h .state) turns
+pub serving-session : {card chunk input : List ℕ} {h z : Held} {from end : Reader} {turns : List Turn} → Serving card h from chunk input turns z end
+    → Session card (h .state) turns
 serving-session (answered n e a w) = (a .answers, serving-session w)
 serving-session (over n e) = tt
 

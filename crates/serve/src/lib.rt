@@ -97,7 +97,7 @@ fn answer_lines(
         (heldIn from (areasOf (now (ranks .entry)) (now (pairs .entry)) (now (live .entry)) (now (down .entry)) (now (estimates .entry)) (now (elapsed .entry)))
         (now (route .entry)) (now (log .entry)) (now (out .entry))) (from .reader)
         (heldIn r (areasOf (now (ranks .entry)) (now (pairs .entry)) (now (live .exit)) (now (down .exit)) (now (estimates .exit)) (now (elapsed .exit)))
-        (now (route .exit)) (now (log .exit)) (now (out .exit))) (r .reader) ⌝ }
+        (now (route .exit)) (now (log .exit)) (now (out .exit))) r ⌝ }
 {
     let mut chunk = [0u8; lines::CHUNK_ROOM];
     let mut line = [0u8; lines::LINE_ROOM];
@@ -157,9 +157,11 @@ fn serve(
     input: i32,
     output: i32,
 ) -> Talk
-    ensures { λ r. ⌜ (Lends (now (file .entry)) (areasOf (now (ranks .entry)) (now (pairs .entry)) (now (live .entry)) (now (down .entry)) (now (estimates .entry)) (now (elapsed .entry)))
+    ensures { λ r. ⌜ (Lends (now (file .entry))
+        (areasOf (now (ranks .entry)) (now (pairs .entry)) (now (live .entry)) (now (down .entry)) (now (estimates .entry)) (now (elapsed .entry)))
         → Runs (now (file .entry))
-        (opening (now (file .entry)) (areasOf (now (ranks .entry)) (now (pairs .entry)) (now (live .entry)) (now (down .entry)) (now (estimates .entry)) (now (elapsed .entry))))
+        (opening (now (file .entry))
+        (areasOf (now (ranks .entry)) (now (pairs .entry)) (now (live .entry)) (now (down .entry)) (now (estimates .entry)) (now (elapsed .entry))))
         (lentOf (now (route .entry)) (now (log .entry)))
         (heldIn r (areasOf (now (ranks .exit)) (now (pairs .exit)) (now (live .exit)) (now (down .exit)) (now (estimates .exit)) (now (elapsed .exit)))
         (now (route .exit)) (now (log .exit)) (now (out .exit))) r) ⌝ }

@@ -1,4 +1,5 @@
--- Lines answered one after the other from a prepared card: what is printed is what the plain machine answers, and demand 3 holds of the calls of the readable lines. Assumes nothing.
+-- Lines answered one after the other from a prepared card: what is printed is what the plain machine answers, and demand 3 holds of the
+-- calls of the readable lines. Assumes nothing.
 use mathlib.Core.Path.{_∙_, _≡_, ap, ap₂, refl, subst, sym}
 use mathlib.Core.Option.{Option, none, some}
 use mathlib.Core.List.{List, [], _++_, _∷_, map}
@@ -100,7 +101,11 @@ chained card (t ∷ l) s w = on (lineOf (t .line)) (w .0) (chained card l (befor
         → ((r : List Step) × Chain card (before (t .header) (t .areas)) (callsOf l) r × Prints l r)
         → (r : List Step) × Chain card s (callOn x (t .lent) (callsOf l)) r × PrintsOn x t (Prints l) r
     on Unreadable a rest = (rest .0, subst (λ (z : State). Chain card z (callsOf l) (rest .0)) (a .state) (rest .1), (a .printed, rest .2))
-    on (Call c) a rest = (after (record { header = t .header; answer = a .answer }) (t .areas) (lentAfter c (t .left)) ∷ rest .0, (a .called .meets, rest .1), (refl, a .printed, rest .2, a .room))
+    on (Call c) a rest = (
+      after (record { header = t .header; answer = a .answer }) (t .areas) (lentAfter c (t .left)) ∷ rest .0,
+      (a .called .meets, rest .1),
+      (refl, a .printed, rest .2, a .room),
+    )
 
 -- ---- what the machine's answer prints
 
@@ -121,7 +126,9 @@ machine-text : (M : Map) (m : Machine) (c : unit.Call) (l k : Lent) → let t = 
 machine-text M m (Set i t) l k h = unless-text (model.setRefusal (M .base .arcs) (M .base .cost) i (t .0)) m _ (k .route) refl
 machine-text M m (Aim j) l k h = unless-text (model.aimRefusal (M .vertices) (j .0)) m _ (k .route) refl
 machine-text M m (Estimate j) l k h = unless-text (model.estimateRefusal (M .vertices) (m .target) (j .0)) m _ (k .route) refl
-machine-text M m (Go j) l k h = go-text (model.goRefusal (M .vertices) (m .target) (j .0) (length (l .route)) (length (l .log))) (timeOf M (m .live) (j .0) (model.targetOf (m .target))) (plainSearch M (m .live) (j .0) (model.targetOf (m .target))) m (k .route) h
+machine-text M m (Go j) l k h =
+    go-text (model.goRefusal (M .vertices) (m .target) (j .0) (length (l .route)) (length (l .log)))
+    (timeOf M (m .live) (j .0) (model.targetOf (m .target))) (plainSearch M (m .live) (j .0) (model.targetOf (m .target))) m (k .route) h
 
 -- only the lengths of go's areas are told to the machine
 told-of : (c : unit.Call) (l : Lent) → Roomy l → plain (callIn c l) ≡ plain (callIn c words200)
@@ -130,7 +137,8 @@ told-of (Aim j) l h = refl
 told-of (Estimate j) l h = refl
 told-of (Go j) l h = ap₂ (plainGo (j .0)) (h .0) (h .1)
 
-texts : (M : Map) (turns : List Turn) (m : Machine) (r : List Step) → Demand3 M m (callsOf turns) r → Prints turns r → textsIn turns ≡ machineTexts (linesIn turns) M m
+texts : (M : Map) (turns : List Turn) (m : Machine) (r : List Step) → Demand3 M m (callsOf turns) r → Prints turns r
+    → textsIn turns ≡ machineTexts (linesIn turns) M m
 texts M [] m [] d p = refl
 texts M [] m (u ∷ r) d p = absurd p
 texts M (t ∷ l) m r d p = on (lineOf (t .line)) r d p (λ n q e f. texts M l n q e f)
@@ -143,12 +151,15 @@ texts M (t ∷ l) m r d p = on (lineOf (t .line)) r d p (λ n q e f. texts M l n
     on (Call c) (u ∷ r) d p more =
         let told = machineStep M m (plain (callIn c (t .lent))) in
         let h = ap (λ (k : Lent). take (length (told .roads)) (k .route)) (sym (p .0)) ∙ d .0 .same .roads in
-        ap₂ _∷_ (p .1 ∙ ap (λ (a : Answer). answerText a (t .left .route)) (d .0 .same .answer) ∙ machine-text M m c (t .lent) (t .left) h) (more (told .next) r (d .1) (p .2))
-        ∙ ap (λ (q : Plain). answerText (machineStep M m q .answer) (machineStep M m q .roads) ∷ machineTexts (linesIn l) M (machineStep M m q .next)) (told-of c (t .lent) (p .3))
+        ap₂ _∷_ (p .1 ∙ ap (λ (a : Answer). answerText a (t .left .route)) (d .0 .same .answer) ∙ machine-text M m c (t .lent) (t .left) h)
+        (more (told .next) r (d .1) (p .2))
+        ∙ ap (λ (q : Plain). answerText (machineStep M m q .answer) (machineStep M m q .roads) ∷ machineTexts (linesIn l) M (machineStep M m q .next))
+        (told-of c (t .lent) (p .3))
 
 -- ---- the theorem
 
-pub session-right : (card : List ℕ) (a : Areas) (turns : List Turn) → prepare card a .answer ≡ Accepted → Session card (prepare card a .state) turns → Conversed card turns
+pub session-right : (card : List ℕ) (a : Areas) (turns : List Turn) → prepare card a .answer ≡ Accepted → Session card (prepare card a .state) turns
+    → Conversed card turns
 session-right card a turns e w =
     let c = chained card turns (prepare card a .state) w in
     let d = chain-demand3 card a e (callsOf turns) (c .0) (c .1) in

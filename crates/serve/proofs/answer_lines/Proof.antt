@@ -2,25 +2,25 @@
 use mathlib.Core.Path.{_∙_, _≡_, refl}
 use mathlib.Core.List.{List}
 use Prim.Native.Nat.{ℕ}
-use lib.ListN.{length}
+use lib.ListN.{length, take}
 use Rattle.model.specs.Contracts.{areasOf}
 use Rattle.lines.specs.Input.{NextLine}
 use Rattle.lines.specs.declared.Reader.{Reader}
 use Rattle.serve.specs.Serving.{heldIn}
-use Rattle.serve.proofs.Talks.{Underway, loop-end, loop-turn, steps-fall, stepsLeft, underway-start}
+use Rattle.serve.proofs.Talks.{Underway, loop-end, loop-turn, said-length, steps-fall, stepsLeft, underway-start}
 use Rattle.serve.proofs.answer_lines.Statement.{statement}
 use Rattle.serve.proofs.answer_lines.Tie as tie
 
 abbrev Inv-loop : tie.InvT-loop
 Inv-loop file ranks pairs live₀ down₀ estimates₀ elapsed₀ route₀ log₀ out₀ chunk₀ line₀ said l₀ live down estimates elapsed route log out chunk line l =
-    (length live ≡ length live₀) × (length down ≡ length down₀) × (length estimates ≡ length estimates₀) × (length elapsed ≡ length elapsed₀) × ((from : Reader) (start : List ℕ) → NextLine from start (l₀ .reader) chunk₀ line₀
+    (length live ≡ length live₀) × (length down ≡ length down₀) × (length estimates ≡ length estimates₀) × (length elapsed ≡ length elapsed₀) × (l .said ≡ length (take (l .said) out)) × ((from : Reader) (start : List ℕ) → NextLine from start (l₀ .reader) chunk₀ line₀
     → Underway file (heldIn l₀ (areasOf ranks pairs live₀ down₀ estimates₀ elapsed₀) route₀ log₀ out₀) from start (heldIn l (areasOf ranks pairs live down estimates elapsed) route log out) (l .reader) chunk line)
 
 abbrev μ-loop : tie.MeasureT-loop
 μ-loop file ranks pairs live₀ down₀ estimates₀ elapsed₀ route₀ log₀ out₀ chunk₀ line₀ said l₀ live down estimates elapsed route log out chunk line l = stepsLeft (l .reader)
 
 loop-holds : tie.Need-loop-holds Inv-loop μ-loop
-loop-holds c = (refl, refl, refl, refl, λ from start n. underway-start n)
+loop-holds c = (refl, refl, refl, refl, said-length _ (c .before .before .before .before .before .before .before .before .before .before .before .before .before .args .from .said) (c .before .before .before .text-of .ensures) (c .turn .ensures), λ from start n. underway-start n)
 
 loop-less : tie.Need-loop-less Inv-loop μ-loop
 loop-less c = steps-fall (c .before .before .before .before .before .before .before .before .before .before .before .before .before .before .before .before .before .before .before .before .before .before .before .before .before .loop-test .taken) (c .turn2 .ensures .next)
@@ -35,10 +35,11 @@ loop-again c =
       g .kept .1 .1 .1 .1 .1 .1 .0 ∙ held .inv .1,
       g .kept .1 .1 .1 .1 .1 .1 .1 .0 ∙ held .inv .2,
       g .kept .1 .1 .1 .1 .1 .1 .1 .1 .0 ∙ held .inv .3,
+      said-length _ (g .result .length) (c .before .before .before .text-of2 .ensures) (c .turn2 .ensures),
       λ from start n.
           loop-turn (areasOf (args .ranks .now) (args .pairs .now) (held .live) (held .down) (held .estimates) (held .elapsed))
           (areasOf (args .ranks .now) (args .pairs .now) (g .last .1 .1 .1 .1 .1 .0) (g .last .1 .1 .1 .1 .1 .1 .0) (g .last .1 .1 .1 .1 .1 .1 .1 .0) (g .last .1 .1 .1 .1 .1 .1 .1 .1 .0)) (held .route) (held .log) (g .last .1 .1 .1 .1 .1 .1 .1 .1 .1 .0) (g .last .1 .1 .1 .1 .1 .1 .1 .1 .1 .1 .0) (held .out) (g .last .1 .1 .1 .1 .1 .1 .1 .1 .1 .1 .1 .0)
-          (c .before .before .before .before .before .before .before .before .before .before .before .before .before .before .before .before .before .before .before .before .before .before .before .heard .result .now) (g .result .header) (g .result .length) (held .inv .4 from start n) (c .before .before .before .before .before .before .before .before .before .before .before .before .before .before .before .before .before .before .before .before .before .before .before .before .before .loop-test .taken) (c .before .before .before .before .before .before .before .before .before .before .before .before .before .before .before .before .before .before .before .before .before .before .before .heard .ensures) (g .ensures .0) (c .before .before .before .text-of2 .ensures) (c .turn2 .ensures),
+          (c .before .before .before .before .before .before .before .before .before .before .before .before .before .before .before .before .before .before .before .before .before .before .before .heard .result .now) (g .result .header) (g .result .length) (held .inv .5 from start n) (c .before .before .before .before .before .before .before .before .before .before .before .before .before .before .before .before .before .before .before .before .before .before .before .before .before .loop-test .taken) (c .before .before .before .before .before .before .before .before .before .before .before .before .before .before .before .before .before .before .before .before .before .before .before .heard .ensures) (g .ensures .0) (c .before .before .before .text-of2 .ensures) (c .turn2 .ensures),
     )
 
 returns : tie.Need-returns Inv-loop μ-loop
@@ -47,7 +48,7 @@ returns c =
     let after-turn = c .before .before in
     let args = after-turn .before .before .before .before .before .before .before .before .before .before .before .before .before .args in
     loop-end (areasOf (args .ranks .now) (args .pairs .now) (args .live .now) (args .down .now) (args .estimates .now) (args .elapsed .now)) (args .route .now) (args .log .now) (args .out .now)
-    (after-turn .before .before .before .text-of .ensures) (after-turn .turn .ensures) (held .inv .4) (c .loop-test .left)
+    (after-turn .before .before .before .text-of .ensures) (after-turn .turn .ensures) (held .inv .5) (c .loop-test .left) (held .inv .4)
 
 pub answer-lines-spec : {M : Type 1} → statement M
 answer-lines-spec =
