@@ -18,17 +18,38 @@ loop-holds : tie.Need-loop-holds Inv-loop μ-loop
 loop-holds c = (refl, refl, turned-start _ _ _ _ _ _)
 
 step-requires : tie.Need-step-requires Inv-loop μ-loop
-step-requires c κs = some-turns (c .before .before .before .before .loop .r) (sym (c .before .before .before .waits .ensures) ∙ c .before .before .if1 .taken)
+step-requires c κs =
+    let then1 = c .before .before in
+    let after-waits = then1 .before in
+    let at-loop = after-waits .before in
+    some-turns (at-loop .loop .r) (sym (after-waits .waits .ensures) ∙ then1 .if1 .taken)
 
 loop-less : tie.Need-loop-less Inv-loop μ-loop
-loop-less c = fewer _ _ _ _ _ _ (some-turns (c .before .before .before .before .before .before .before .before .before .loop .r) (sym (c .before .before .before .before .before .before .before .before .waits .ensures) ∙ c .before .before .before .before .before .before .before .if1 .taken)) (c .before .before .before .before .step .ensures)
+loop-less c =
+    let after-step = c .before .before .before .before in
+    let then1 = after-step .before .before .before in
+    let after-waits = then1 .before in
+    let at-loop = after-waits .before in
+    fewer _ _ _ _ _ _ (some-turns (at-loop .loop .r) (sym (after-waits .waits .ensures) ∙ then1 .if1 .taken)) (after-step .step .ensures)
 
 loop-again : tie.Need-loop-again Inv-loop μ-loop
-loop-again c = let held = c .before .before .before .before .before .before .before .before .before .loop .inv in
-    (search needs, search needs, turned _ _ _ _ _ _ _ _ (sym (c .before .before .before .before .before .before .before .before .waits .ensures) ∙ c .before .before .before .before .before .before .before .if1 .taken) (omega (arith, c .before .before .before .before .before .before .before .before .before .before .before .before .pre, held .1)) (held .2) (c .before .before .before .before .step .ensures))
+loop-again c =
+    let after-step = c .before .before .before .before in
+    let then1 = after-step .before .before .before in
+    let after-waits = then1 .before in
+    let at-loop = after-waits .before in
+    let start = at-loop .before .before .before in
+    let held = at-loop .loop .inv in (
+      search needs,
+      search needs,
+      turned _ _ _ _ _ _ _ _ (sym (after-waits .waits .ensures) ∙ then1 .if1 .taken) (omega (arith, start .pre, held .1)) (held .2)
+          (after-step .step .ensures),
+    )
 
 returns : tie.Need-returns Inv-loop μ-loop
-returns c = anew _ _ _ _ _ _ _ (turned-end _ _ _ _ _ (sym (c .before .waits .ensures) ∙ c .if1 .left) (c .before .before .loop .inv .2))
+returns c =
+    let at-loop = c .before .before in
+    anew _ _ _ _ _ _ _ (turned-end _ _ _ _ _ (sym (c .before .waits .ensures) ∙ c .if1 .left) (at-loop .loop .inv .2))
 
 pub read-line-spec : {M : Type 1} → statement M
 read-line-spec =

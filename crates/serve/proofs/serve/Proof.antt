@@ -8,16 +8,23 @@ use Rattle.serve.proofs.serve.Tie as tie
 
 returns : tie.Need-returns
 returns c =
-    let w = c .before .before .before .before .before .before .before .before .answer-lines in
-    let after-begin = c .before .before .before .before .before .before .before .before .before .before .before .before .before .before .before .before .before .before in
+    let after-answer-lines = c .before .before .before .before .before .before .before .before in
+    let after-begin = after-answer-lines .before .before .before .before .before .before .before .before .before .before in
     let after-open-card = after-begin .before .before .before .before .before .before .before .before .before .before .before in
+    let after-slice-known2 = after-open-card .before .before .before .before .before .before .before .before .before .before .before in
+    let start = after-slice-known2 .before .before .before in
+    let w = after-answer-lines .answer-lines in
     let o = after-open-card .open-card in
-    let args = after-open-card .before .before .before .before .before .before .before .before .before .before .before .before .before .before .args in
+    let args = start .args in
     λ lends.
-    card-runs (args .file .now) (areasOf (args .ranks .now) (args .pairs .now) (args .live .now) (args .down .now) (args .estimates .now) (args .elapsed .now))
-    (areasOf (o .last .1 .0) (o .last .1 .1 .0) (o .last .1 .1 .1 .0) (o .last .1 .1 .1 .1 .0) (o .last .1 .1 .1 .1 .1 .0) (o .last .1 .1 .1 .1 .1 .1 .0)) lends (o .result) (o .last .1 .1 .1 .1 .1 .1 .1 .0) (args .route .now) (args .log .now)
+    card-runs (args .file .now) (areasOf (args .ranks .now) (args .pairs .now) (args .live .now) (args .down .now) (args .estimates .now)
+    (args .elapsed .now))
+    (areasOf (o .last .1 .0) (o .last .1 .1 .0) (o .last .1 .1 .1 .0) (o .last .1 .1 .1 .1 .0) (o .last .1 .1 .1 .1 .1 .0)
+    (o .last .1 .1 .1 .1 .1 .1 .0)) lends (o .result) (o .last .1 .1 .1 .1 .1 .1 .1 .0) (args .route .now) (args .log .now)
     (after-begin .begin .result) (after-begin .begin .ensures)
-    (heldIn (w .result) (areasOf (o .last .1 .0) (o .last .1 .1 .0) (w .last .1 .1 .1 .1 .0) (w .last .1 .1 .1 .1 .1 .0) (w .last .1 .1 .1 .1 .1 .1 .0) (w .last .1 .1 .1 .1 .1 .1 .1 .0)) (w .last .1 .1 .1 .1 .1 .1 .1 .1 .0) (w .last .1 .1 .1 .1 .1 .1 .1 .1 .1 .0) (w .last .1 .1 .1 .1 .1 .1 .1 .1 .1 .1 .0))
+    (heldIn (w .result) (areasOf (o .last .1 .0) (o .last .1 .1 .0) (w .last .1 .1 .1 .1 .0) (w .last .1 .1 .1 .1 .1 .0)
+    (w .last .1 .1 .1 .1 .1 .1 .0) (w .last .1 .1 .1 .1 .1 .1 .1 .0)) (w .last .1 .1 .1 .1 .1 .1 .1 .1 .0)
+    (w .last .1 .1 .1 .1 .1 .1 .1 .1 .1 .0) (w .last .1 .1 .1 .1 .1 .1 .1 .1 .1 .1 .0))
     (w .result) (w .ensures) (o .ensures .1 .1) (o .ensures .1 .0 lends)
 
 pub serve-spec : {M : Type 1} → statement M
@@ -27,9 +34,29 @@ serve-spec =
     (λ c κs. tt)
     (λ c κs. tt)
     (λ c κs. tt)
-    (λ c. c .before .before .before .before .before .before .before .before .before .before .before .before .before .before .before .before .before .before .before .before .before .before .before .before .before .before .before .before .before .open-card .kept .1 .0)
-    (λ c. c .before .before .before .before .before .before .before .before .answer-lines .kept .1 .1 .1 .1 .0 ∙ c .before .before .before .before .before .before .before .before .before .before .before .before .before .before .before .before .before .before .before .before .before .before .before .before .before .before .before .before .before .open-card .kept .1 .1 .1 .0)
-    (λ c. c .before .before .before .before .before .before .before .before .answer-lines .kept .1 .1 .1 .1 .1 .0 ∙ c .before .before .before .before .before .before .before .before .before .before .before .before .before .before .before .before .before .before .before .before .before .before .before .before .before .before .before .before .before .open-card .kept .1 .1 .1 .1 .0)
-    (λ c. c .before .before .before .before .before .before .before .before .answer-lines .kept .1 .1 .1 .1 .1 .1 .0 ∙ c .before .before .before .before .before .before .before .before .before .before .before .before .before .before .before .before .before .before .before .before .before .before .before .before .before .before .before .before .before .open-card .kept .1 .1 .1 .1 .1 .0)
-    (λ c. c .before .before .before .before .before .before .before .before .answer-lines .kept .1 .1 .1 .1 .1 .1 .1 .0 ∙ c .before .before .before .before .before .before .before .before .before .before .before .before .before .before .before .before .before .before .before .before .before .before .before .before .before .before .before .before .before .open-card .kept .1 .1 .1 .1 .1 .1 .0)
+    (λ c.
+    let after-answer-lines = c .before .before .before .before .before .before .before .before in
+    let after-begin = after-answer-lines .before .before .before .before .before .before .before .before .before .before in
+    let after-open-card = after-begin .before .before .before .before .before .before .before .before .before .before .before in
+    after-open-card .open-card .kept .1 .0)
+    (λ c.
+    let after-answer-lines = c .before .before .before .before .before .before .before .before in
+    let after-begin = after-answer-lines .before .before .before .before .before .before .before .before .before .before in
+    let after-open-card = after-begin .before .before .before .before .before .before .before .before .before .before .before in
+    after-answer-lines .answer-lines .kept .1 .1 .1 .1 .0 ∙ after-open-card .open-card .kept .1 .1 .1 .0)
+    (λ c.
+    let after-answer-lines = c .before .before .before .before .before .before .before .before in
+    let after-begin = after-answer-lines .before .before .before .before .before .before .before .before .before .before in
+    let after-open-card = after-begin .before .before .before .before .before .before .before .before .before .before .before in
+    after-answer-lines .answer-lines .kept .1 .1 .1 .1 .1 .0 ∙ after-open-card .open-card .kept .1 .1 .1 .1 .0)
+    (λ c.
+    let after-answer-lines = c .before .before .before .before .before .before .before .before in
+    let after-begin = after-answer-lines .before .before .before .before .before .before .before .before .before .before in
+    let after-open-card = after-begin .before .before .before .before .before .before .before .before .before .before .before in
+    after-answer-lines .answer-lines .kept .1 .1 .1 .1 .1 .1 .0 ∙ after-open-card .open-card .kept .1 .1 .1 .1 .1 .0)
+    (λ c.
+    let after-answer-lines = c .before .before .before .before .before .before .before .before in
+    let after-begin = after-answer-lines .before .before .before .before .before .before .before .before .before .before in
+    let after-open-card = after-begin .before .before .before .before .before .before .before .before .before .before .before in
+    after-answer-lines .answer-lines .kept .1 .1 .1 .1 .1 .1 .1 .0 ∙ after-open-card .open-card .kept .1 .1 .1 .1 .1 .1 .0)
     returns)

@@ -1,3 +1,4 @@
+-- `shell::open_card`: what preparing answers and leaves is judged, for any areas; with those of `Lends` it is what document 01 says. Assumes nothing.
 use mathlib.Core.Path.{_∙_}
 use Rattle.shell.proofs.Cards.{prepared-opens, prepared-way}
 use Rattle.model.specs.Contracts.{areasOf}
@@ -9,12 +10,16 @@ use Rattle.shell.proofs.open_card.Tie as tie
 
 returns : tie.Need-returns
 returns c =
-    let s = c .before .before .before .before .before .before .before .before .before .before .before .before .before .before .before .before .before .before .before .before .before .before .before .before .before in
-    let a = s .args in
-    let p = c .before .before .before .before .before .before .before .before .before .before .before .before .prepare in
+    let after-prepare = c .before .before .before .before .before .before .before .before .before .before .before .before in
+    let after-slice-known = after-prepare .before .before .before .before .before .before .before .before .before .before .before in
+    let start = after-slice-known .before .before in
+    let a = start .args in
+    let p = after-prepare .prepare in
     let j = c .judge in
     let lent = areasOf (a .ranks .now) (a .pairs .now) (a .live .now) (a .down .now) (a .estimates .now) (a .elapsed .now) in
-    let is = prepared-way (a .file .now) lent (answeredIn (p .result)) (areasOf (p .last .1 .0) (p .last .1 .1 .0) (p .last .1 .1 .1 .0) (p .last .1 .1 .1 .1 .0) (p .last .1 .1 .1 .1 .1 .0) (p .last .1 .1 .1 .1 .1 .1 .0)) (openedIn (j .result) (j .last .1 .1 .0)) (p .ensures) (j .ensures .0) in
+    let is = prepared-way (a .file .now) lent (answeredIn (p .result))
+    (areasOf (p .last .1 .0) (p .last .1 .1 .0) (p .last .1 .1 .1 .0) (p .last .1 .1 .1 .1 .0) (p .last .1 .1 .1 .1 .1 .0)
+    (p .last .1 .1 .1 .1 .1 .1 .0)) (openedIn (j .result) (j .last .1 .1 .0)) (p .ensures) (j .ensures .0) in
     (is, (λ l. is ∙ prepared-opens (a .file .now) lent l, j .ensures .1))
 
 pub open-card-spec : {M : Type 1} → statement M
@@ -22,10 +27,24 @@ open-card-spec =
     tie.close
     (tie.spec
     (λ c κs. tt)
-    (λ c κs. room 8192 (c .before .before .before .before .before .before .before .before .before .before .before .before .before .before .before .before .before .before .before .before .before .before .before .before .args .out .now) (c .judge-arg .given .0 .1))
-    (λ c. c .before .before .before .before .before .before .before .before .before .before .before .before .prepare .kept .1 .0)
-    (λ c. c .before .before .before .before .before .before .before .before .before .before .before .before .prepare .kept .1 .1 .1 .0)
-    (λ c. c .before .before .before .before .before .before .before .before .before .before .before .before .prepare .kept .1 .1 .1 .1 .0)
-    (λ c. c .before .before .before .before .before .before .before .before .before .before .before .before .prepare .kept .1 .1 .1 .1 .1 .0)
-    (λ c. c .before .before .before .before .before .before .before .before .before .before .before .before .prepare .kept .1 .1 .1 .1 .1 .1 .0)
+    (λ c κs.
+    let after-prepare = c .before .before .before .before .before .before .before .before .before .before .before in
+    let after-slice-known = after-prepare .before .before .before .before .before .before .before .before .before .before .before in
+    let start = after-slice-known .before .before in
+    room 8192 (start .args .out .now) (c .judge-arg .given .0 .1))
+    (λ c.
+    let after-prepare = c .before .before .before .before .before .before .before .before .before .before .before .before in
+    after-prepare .prepare .kept .1 .0)
+    (λ c.
+    let after-prepare = c .before .before .before .before .before .before .before .before .before .before .before .before in
+    after-prepare .prepare .kept .1 .1 .1 .0)
+    (λ c.
+    let after-prepare = c .before .before .before .before .before .before .before .before .before .before .before .before in
+    after-prepare .prepare .kept .1 .1 .1 .1 .0)
+    (λ c.
+    let after-prepare = c .before .before .before .before .before .before .before .before .before .before .before .before in
+    after-prepare .prepare .kept .1 .1 .1 .1 .1 .0)
+    (λ c.
+    let after-prepare = c .before .before .before .before .before .before .before .before .before .before .before .before in
+    after-prepare .prepare .kept .1 .1 .1 .1 .1 .1 .0)
     returns)
