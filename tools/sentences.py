@@ -22,6 +22,7 @@ DOCS = ('docs/THEOREMS.md', 'docs/THEORY.md', 'docs/DECISIONS.md', 'README.md')
 # words of Rattle, of antt, of the kit and of the commands: no name of ours
 FOREIGN = set('''eqb ltb leb not cond none some replicate getD take drop length min abbrev unfoldable unfolding use data record
     requires ensures rt cc tried repeats'''.split())
+KIT = ('bytes', 'io', 'libc', 'os', 'std')
 
 
 @functools.lru_cache(maxsize=None)
@@ -103,7 +104,9 @@ def named_files(cell):
 
 
 def of_code(owner, name):
-    """Is `owner::name` a function or constant of the crate, or one in a block of the type?"""
+    """Is `owner::name` a function or constant of the crate, or one in a block of the type? The kit's are not looked for."""
+    if owner in KIT:
+        return True
     if os.path.isdir(f'crates/{owner}'):
         sources = files_of(f'crates/{owner}/src/*.rt')
         if name == '*':

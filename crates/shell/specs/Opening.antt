@@ -9,7 +9,7 @@ use lib.ListN.{length, take}
 use Rattle.graph.specs.Map.{Map}
 use Rattle.model.specs.Types as model
 use Rattle.model.specs.Card.{cardRefusal, mapOn, question, readCard}
-use Rattle.model.specs.State.{Areas, State, fresh, roomRefusal}
+use Rattle.model.specs.State.{Areas, State, fresh, prepare, roomRefusal}
 use Rattle.model.specs.Contracts.{before}
 use Rattle.unit.specs.Shape.{headerIn}
 use Rattle.console.specs.Texts.{answerText, unreadableText}
@@ -78,3 +78,7 @@ judged h (model.Refused q) a = Ends (refusalLine q)
 judged h model.Accepted a = Opens (before h a)
 judged h (model.Estimated t) a = Opens (before h a)
 judged h (model.Gone t c k) a = Opens (before h a)
+
+-- a preparing of any areas, and what it comes to
+unfoldable pub prepared : (file : List ℕ) → Areas → Opening
+prepared file a = unlessOver (length file) (judged (prepare file a .state .header) (prepare file a .answer) (prepare file a .state .areas))

@@ -14,7 +14,7 @@ ghost use Rattle.unit.specs.Shape.{headerIn, lentOf};
 ghost use Rattle.console.specs.Lines.{lineOf};
 ghost use Rattle.texts.specs.Areas.{Written};
 ghost use Rattle.lines.specs.Holds.{Holds};
-ghost use Rattle.shell.specs.Opening.{Lends, judged, junctionRoom, openedIn, opening, refusalLine, roadRoom, unlessOver};
+ghost use Rattle.shell.specs.Opening.{Lends, judged, junctionRoom, openedIn, opening, prepared, refusalLine, roadRoom, unlessOver};
 ghost use Rattle.shell.specs.Answering.{Answers};
 use answers::Answer;
 use card::Reading;
@@ -80,7 +80,8 @@ fn write_refusal(q: Refusal, out: &mut [u8]) -> usize
 // What a preparing's answer comes to. A file that is too long prints `no 0`, whatever its preparing answers.
 fn judge(bytes: usize, answered: Answered, out: &mut [u8]) -> Opened
     requires { ⌜ 8192 ≤ length (now out) ⌝ }
-    ensures { λ r. ⌜ ((a : Areas) → openedIn r (now (out .exit)) a ≡ unlessOver bytes (judged (headerIn (answered .header)) (answerIn (answered .answer)) a)) ⌝ }
+    ensures { λ r. ⌜ ((a : Areas) → openedIn r (now (out .exit)) a
+        ≡ unlessOver bytes (judged (headerIn (answered .header)) (answerIn (answered .answer)) a)) ⌝ }
     ensures { λ r. ⌜ (r .prepared ≡ true → r .length ≡ 0) ⌝ }
 {
     let header = answered.header;
@@ -116,7 +117,8 @@ fn judge(bytes: usize, answered: Answered, out: &mut [u8]) -> Opened
     }
 }
 
-// Opens a card: its line stands first in `out`, or the areas are prepared and nothing is printed.
+// Opens a card: its line stands first in `out`, or the areas are prepared and nothing is printed. Lent areas of other lengths than
+// `room_for` computes are judged as preparing judges them.
 pub fn open_card(
     file: &[u8],
     ranks: &mut [u32],
@@ -127,9 +129,16 @@ pub fn open_card(
     elapsed: &mut [u32],
     out: &mut [u8; OUT_ROOM],
 ) -> Opened
-    requires { ⌜ Lends (now file) (areasOf (now ranks) (now pairs) (now live) (now down) (now estimates) (now elapsed)) ⌝ }
-    ensures { λ r. ⌜ openedIn r (now (out .exit)) (areasOf (now (ranks .exit)) (now (pairs .exit)) (now (live .exit)) (now (down .exit)) (now (estimates .exit)) (now (elapsed .exit)))
-        ≡ opening (now (file .entry)) (areasOf (now (ranks .entry)) (now (pairs .entry)) (now (live .entry)) (now (down .entry)) (now (estimates .entry)) (now (elapsed .entry))) ⌝ }
+    ensures { λ r. ⌜ openedIn r (now (out .exit))
+        (areasOf (now (ranks .exit)) (now (pairs .exit)) (now (live .exit)) (now (down .exit)) (now (estimates .exit)) (now (elapsed .exit)))
+        ≡ prepared (now (file .entry))
+        (areasOf (now (ranks .entry)) (now (pairs .entry)) (now (live .entry)) (now (down .entry)) (now (estimates .entry)) (now (elapsed .entry))) ⌝ }
+    ensures { λ r. ⌜ (Lends (now (file .entry))
+        (areasOf (now (ranks .entry)) (now (pairs .entry)) (now (live .entry)) (now (down .entry)) (now (estimates .entry)) (now (elapsed .entry)))
+        → openedIn r (now (out .exit))
+        (areasOf (now (ranks .exit)) (now (pairs .exit)) (now (live .exit)) (now (down .exit)) (now (estimates .exit)) (now (elapsed .exit)))
+        ≡ opening (now (file .entry))
+        (areasOf (now (ranks .entry)) (now (pairs .entry)) (now (live .entry)) (now (down .entry)) (now (estimates .entry)) (now (elapsed .entry)))) ⌝ }
     ensures { λ r. ⌜ (r .prepared ≡ true → r .length ≡ 0) ⌝ }
 {
     let prepared = switch_on::prepare(file, ranks, pairs, live, down, estimates, elapsed);
@@ -174,7 +183,8 @@ pub fn answer_line(
     out: &mut [u8; OUT_ROOM],
 ) -> Reply
     ensures { λ r. ⌜ Answers (now (card .entry))
-        (before (headerIn header) (areasOf (now (ranks .entry)) (now (pairs .entry)) (now (live .entry)) (now (down .entry)) (now (estimates .entry)) (now (elapsed .entry))))
+        (before (headerIn header)
+        (areasOf (now (ranks .entry)) (now (pairs .entry)) (now (live .entry)) (now (down .entry)) (now (estimates .entry)) (now (elapsed .entry))))
         (lentOf (now (route .entry)) (now (log .entry))) (lineOf (now (line .entry))) (headerIn (r .header))
         (areasOf (now (ranks .entry)) (now (pairs .entry)) (now (live .exit)) (now (down .exit)) (now (estimates .exit)) (now (elapsed .exit)))
         (lentOf (now (route .exit)) (now (log .exit))) (take (r .length) (now (out .exit))) ⌝ }
