@@ -1,3 +1,4 @@
+pub mod Lending
 pub mod Opening
 pub mod Answering
 pub mod Session
