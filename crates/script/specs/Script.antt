@@ -3,7 +3,6 @@ use mathlib.Core.Path.{_≡_}
 use mathlib.Core.List.{List, [], _++_, _∷_, map}
 use Prim.Native.Nat.{suc, zero, ℕ}
 use lib.ListN.{length, take}
-use denote.Ref.{RefT}
 use denote.Triple.Both.{Both}
 use Rattle.graph.specs.Map.{Map}
 use Rattle.model.specs.Types.{Accepted, Answer, Answered, Header}
@@ -12,7 +11,7 @@ use Rattle.model.specs.State.{Areas, Lent, State, Step, prepare}
 use Rattle.model.specs.Calls.{Call, aimCall, estimateCall, first, goCall, setCall, steps}
 use Rattle.model.specs.Machine.{Machine, Plain, machineStep, plain, plainAim, plainEstimate, plainGo, plainSet, started}
 use Rattle.model.specs.Demand3.{Demand3}
-use Rattle.model.specs.Contracts.{areasOf, before}
+use Rattle.model.specs.Contracts.{before}
 use Rattle.model.specs.Chain.{Chain}
 use Rattle.script_words.specs.Words.{answerWords, scriptedAt, turnsOf}
 
@@ -93,22 +92,6 @@ pub record Made (card : List ℕ) (l : List Plain) (out₀ out : List ℕ) (h₀
   pub written : out ≡ first (told (answersOf results)) out₀
 
 -- ---- the contracts
-
--- a lent slice, when the function begins and when it returns
-abbrev pub Slice : Type 0
-Slice = Both (RefT (List ℕ)) (RefT (List ℕ))
-
-abbrev pub areas : (ranks pairs live down estimates elapsed : Slice) → Both Areas Areas
-areas r p l d e t = record {
-  entry = areasOf (r .entry .now) (p .entry .now) (l .entry .now) (d .entry .now) (e .entry .now) (t .entry .now);
-  exit = areasOf (r .exit .now) (p .exit .now) (l .exit .now) (d .exit .now) (e .exit .now) (t .exit .now);
-}
-
-abbrev pub lentAreas : (route log : Slice) → Both Lent Lent
-lentAreas r l = record {
-  entry = record { route = r .entry .now; log = l .entry .now };
-  exit = record { route = r .exit .now; log = l .exit .now };
-}
 
 -- the calls that are made of a script: those that it has, as far as their answers have room in out
 abbrev pub callsIn : (script : List ℕ) → Lent → (out : List ℕ) → List Plain

@@ -1,6 +1,7 @@
 // A script of calls as words: makes them one after the other, and writes the words of their answers.
 ghost use Rattle.unit.specs.Shape.{answeredIn, headerIn};
-ghost use Rattle.script.specs.Script.{MakeContract, ReplayContract, areas, lentAreas};
+ghost use Rattle.unit.specs.Lending.{areas, lent};
+ghost use Rattle.script.specs.Script.{MakeContract, ReplayContract};
 use unit::Answered;
 use unit::Header;
 
@@ -20,7 +21,7 @@ fn make_calls(
     script: &[u32],
     out: &mut [u64],
 ) -> Header
-    ensures { λ h. ⌜ MakeContract (now (card .entry)) (headerIn start) (areas ranks pairs live down estimates elapsed) (lentAreas route log)
+    ensures { λ h. ⌜ MakeContract (now (card .entry)) (headerIn start) (areas ranks pairs live down estimates elapsed) (lent route log)
         (now (script .entry)) (now (out .entry)) (now (out .exit)) (headerIn h) ⌝ }
 {
     let n = script_words::turns(script.len(), out.len());
@@ -66,7 +67,7 @@ pub fn replay(
     script: &[u32],
     out: &mut [u64],
 ) -> Answered
-    ensures { λ r. ⌜ ReplayContract (now (card .entry)) (areas ranks pairs live down estimates elapsed) (lentAreas route log)
+    ensures { λ r. ⌜ ReplayContract (now (card .entry)) (areas ranks pairs live down estimates elapsed) (lent route log)
         (now (script .entry)) (now (out .entry)) (now (out .exit)) (answeredIn r) ⌝ }
 {
     let prepared = switch_on::prepare(card, ranks, pairs, live, down, estimates, elapsed);

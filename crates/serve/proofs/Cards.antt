@@ -9,7 +9,7 @@ use Rattle.model.specs.Card.{mapOn}
 use Rattle.model.specs.State.{Areas, Lent, State}
 use Rattle.model.specs.Machine.{started}
 use Rattle.model.specs.Contracts.{before}
-use Rattle.unit.specs.Shape.{headerIn, lentOf}
+use Rattle.unit.specs.Shape.{headerIn}
 use Rattle.unit.specs.declared.Header.{Header}
 use Rattle.lines.specs.Input.{AtStart, Ends, NextLine, after-end, at-end, at-newline, inOrder, out-of-turns, unread}
 use Rattle.lines.specs.AllLines.{Lines, lines-right, lines-stop}
@@ -37,23 +37,23 @@ ended-still {from = from} (over n r) q = (refl, still (from .turns) (n .ends) q 
 
 -- ---- the card
 
-module _ (file : List ℕ) (lent a : Areas) (lends : shell.Lends file lent) (o : Opened) (out route log : List ℕ) (from : Talk) (begun : Begun o from)
+module _ (file : List ℕ) (lent a : Areas) (lends : shell.Lends file lent) (o : Opened) (out : List ℕ) (k : Lent) (from : Talk) (begun : Begun o from)
     (z : Held) (l : Talk)
-    (served : Served file (heldIn from a route log out) (from .reader) z l) where
+    (served : Served file (heldIn from a k out) (from .reader) z l) where
   refuses : o .prepared ≡ false → Refuses (take (o .length) out) z l
   refuses p =
       let s = begun .reader in
       let e = ended-still (served .serving) (s .ended ∙ ap not p) in
-      let printed = ap (λ (h : Held). h .text) (e .0) ∙ ap (λ (k : ℕ). take k out) (begun .said) in
+      let printed = ap (λ (h : Held). h .text) (e .0) ∙ ap (λ (i : ℕ). take i out) (begun .said) in
       record { printed = printed; said = served .said ∙ ap length printed; unread = e .1 ∙ s .turns }
 
   abbrev opened : State
   opened = before (headerIn (o .header)) a
 
-  attends : o .prepared ≡ true → o .length ≡ 0 → shell.opening file lent ≡ shell.Opens opened → Attends file opened (lentOf route log) z l
+  attends : o .prepared ≡ true → o .length ≡ 0 → shell.opening file lent ≡ shell.Opens opened → Attends file opened k z l
   attends p none opens =
-      let begins : heldIn from a route log out ≡ heldOf (o .header) a route log [] =
-      ap₂ (λ (h : Header) (k : ℕ). heldOf h a route log (take k out)) (begun .header) (begun .said ∙ none) in
+      let begins : heldIn from a k out ≡ heldOf (o .header) a k [] =
+      ap₂ (λ (h : Header) (i : ℕ). heldOf h a k (take i out)) (begun .header) (begun .said ∙ none) in
       let at-start = subst (λ (b : Bool). AtStart b (from .reader)) p (begun .reader) in
       let lines = serving-lines (served .serving) in
       let printed = program-right file lent lends opened opens (served .turns)
@@ -75,9 +75,9 @@ module _ (file : List ℕ) (lent a : Areas) (lends : shell.Lends file lent) (o :
       }
 
   pub card-runs : (o .prepared ≡ true → o .length ≡ 0) → shell.openedIn o out a ≡ shell.opening file lent
-      → Runs file (shell.opening file lent) (lentOf route log) z l
-  card-runs none e = subst (λ (x : shell.Opening). Runs file x (lentOf route log) z l) e (go (o .prepared) refl)
+      → Runs file (shell.opening file lent) k z l
+  card-runs none e = subst (λ (x : shell.Opening). Runs file x k z l) e (go (o .prepared) refl)
     where
-      go : (p : Bool) → o .prepared ≡ p → Runs file (cond p (shell.Opens opened) (shell.Ends (take (o .length) out))) (lentOf route log) z l
+      go : (p : Bool) → o .prepared ≡ p → Runs file (cond p (shell.Opens opened) (shell.Ends (take (o .length) out))) k z l
       go false p = refuses p
       go true p = attends p (none p) (sym e ∙ ap (λ (b : Bool). cond b (shell.Opens opened) (shell.Ends (take (o .length) out))) p)

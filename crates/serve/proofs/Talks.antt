@@ -14,9 +14,9 @@ use Rattle.console.specs.Lines.{lineOf}
 use Rattle.console.specs.declared.Line.{Line}
 use Rattle.shell.specs.Answering.{Answers}
 use Rattle.shell.specs.Session.{Turn}
-use Rattle.model.specs.State.{Areas}
+use Rattle.model.specs.State.{Areas, Lent}
 use Rattle.model.specs.Contracts.{before}
-use Rattle.unit.specs.Shape.{headerIn, lentOf}
+use Rattle.unit.specs.Shape.{headerIn}
 use Rattle.unit.specs.declared.Header.{Header}
 use Rattle.serve.specs.Serving.{AnsweredTo, Held, Served, Serving, Turns, answered, heldIn, heldOf, leaves, over}
 use Rattle.serve.specs.declared.Talk.{Talk}
@@ -103,38 +103,35 @@ underway-end {start = start} {z = z} {to = to} u r e =
 -- ---- in the code
 
 -- a text is said: what is at hand is the same, with the header that was handed on
-said-held : {from to : Talk} {h : Header} {text chunk chunk′ area : List ℕ} (a : Areas) (route log out : List ℕ) (k : ℕ) → text ≡ take k out
-    → Turns from h text chunk to chunk′ area
-    → heldIn to a route log out ≡ heldOf h a route log (take k out)
-said-held {to = to} {text = text} a route log out k e w =
-    ap₂ (λ (p : Header) (x : List ℕ). heldOf p a route log x) (w .header) (same-text k (to .said) out text e (w .said))
+said-held : {from to : Talk} {h : Header} {text chunk chunk′ area : List ℕ} (a : Areas) (l : Lent) (out : List ℕ) (k : ℕ) → text ≡ take k out
+    → Turns from h text chunk to chunk′ area → heldIn to a l out ≡ heldOf h a l (take k out)
+said-held {to = to} {text = text} a l out k e w =
+    ap₂ (λ (p : Header) (x : List ℕ). heldOf p a l x) (w .header) (same-text k (to .said) out text e (w .said))
 
 pub said-length : {from to : Talk} {h : Header} {text chunk chunk′ area : List ℕ} (out : List ℕ) (k : ℕ) → text ≡ take k out
     → Turns from h text chunk to chunk′ area → to .said ≡ length (take (to .said) out)
 said-length {to = to} {text = text} out k e w = w .said ∙ ap length (e ∙ sym (same-text k (to .said) out text e (w .said)))
 
-pub loop-turn : {card start chunk chunk′ area area′ text : List ℕ} {h : Held} {from : Reader} {l to : Talk} (a b : Areas)
-    (route log route′ log′ out out′ bytes : List ℕ) (p : Header) (k : ℕ)
-    → Underway card h from start (heldIn l a route log out) (l .reader) chunk area → l .reader .ready ≡ true
-    → ((xs : List ℕ) → Holds (l .reader .part) area xs → lineOf bytes ≡ lineOf xs)
-    → Answers card (before (headerIn (l .header)) a) (lentOf route log) (lineOf bytes) (headerIn p) b (lentOf route′ log′) (take k out′)
-    → text ≡ take k out′ → Turns l p text chunk to chunk′ area′
-    → Underway card h from start (heldIn to b route′ log′ out′) (to .reader) chunk′ area′
-loop-turn {card} {start} {chunk} {chunk′} {area} {area′} {h = h} {from = from} {l = l} {to = to} a b route log route′ log′ out out′ bytes p k u r heard w e t =
-    subst (λ (z : Held). Underway card h from start z (to .reader) chunk′ area′) (sym (said-held b route′ log′ out′ k e t))
-    (underway-turn u r (record { line = u .next .line; lent = lentOf route log; header = headerIn p; areas = b; left = lentOf route′ log′; text = take k out′ })
-    (record {
-      line = refl;
-      lent = refl;
-      answers = subst (λ (x : Line). Answers card (before (headerIn (l .header)) a) (lentOf route log) x (headerIn p) b (lentOf route′ log′)
-          (take k out′)) (heard (u .next .line) (u .next .holds)) w;
-    })
-    (t .next))
+-- a turn: header p, areas b and l′ and the first k bytes of `out′` are what the answer to the line leaves
+module _ {card start chunk area : List ℕ} {h : Held} {from : Reader} (on : Talk) (a b : Areas) (l l′ : Lent) (out out′ bytes : List ℕ) (p : Header) (k : ℕ)
+    (u : Underway card h from start (heldIn on a l out) (on .reader) chunk area) (ready : on .reader .ready ≡ true) where
+  abbrev AnswersOn : Line → Type 0
+  AnswersOn x = Answers card (before (headerIn (on .header)) a) l x (headerIn p) b l′ (take k out′)
 
-pub loop-end : {card text start chunk area chunk′ area′ : List ℕ} {z : Held} {from l to : Talk} (a : Areas) (route log out : List ℕ)
-    → text ≡ take (from .said) out → Turns from (from .header) text start l chunk area
-    → ((r : Reader) (c : List ℕ) → NextLine r c (l .reader) chunk area → Underway card (heldIn l a route log out) r c z (to .reader) chunk′ area′)
-    → to .reader .ready ≡ false → to .said ≡ length (z .text) → Served card (heldIn from a route log out) (from .reader) z to
-loop-end {card} {z = z} {from = from} {to = to} a route log out e t u r f =
-    subst (λ (x : Held). Served card x (from .reader) z to) (said-held a route log out (from .said) e t)
+  pub loop-turn : {text chunk′ area′ : List ℕ} {to : Talk} → ((xs : List ℕ) → Holds (on .reader .part) area xs → lineOf bytes ≡ lineOf xs)
+      → AnswersOn (lineOf bytes) → text ≡ take k out′ → Turns on p text chunk to chunk′ area′
+      → Underway card h from start (heldIn to b l′ out′) (to .reader) chunk′ area′
+  loop-turn {chunk′ = chunk′} {area′ = area′} {to = to} heard w e t =
+      let says = heard (u .next .line) (u .next .holds) in
+      subst (λ (z : Held). Underway card h from start z (to .reader) chunk′ area′) (sym (said-held b l′ out′ k e t))
+      (underway-turn u ready (record { line = u .next .line; lent = l; header = headerIn p; areas = b; left = l′; text = take k out′ })
+      (record { line = refl; lent = refl; answers = subst AnswersOn says w })
+      (t .next))
+
+pub loop-end : {card text start chunk area chunk′ area′ : List ℕ} {z : Held} {from on to : Talk} (a : Areas) (l : Lent) (out : List ℕ)
+    → text ≡ take (from .said) out → Turns from (from .header) text start on chunk area
+    → ((r : Reader) (c : List ℕ) → NextLine r c (on .reader) chunk area → Underway card (heldIn on a l out) r c z (to .reader) chunk′ area′)
+    → to .reader .ready ≡ false → to .said ≡ length (z .text) → Served card (heldIn from a l out) (from .reader) z to
+loop-end {card} {z = z} {from = from} {to = to} a l out e t u r f =
+    subst (λ (x : Held). Served card x (from .reader) z to) (said-held a l out (from .said) e t)
     (underway-end (u (from .reader) _ (t .next)) r f)

@@ -9,7 +9,7 @@ use Rattle.model.specs.Card.{mapOn}
 use Rattle.model.specs.State.{Areas, Lent, State}
 use Rattle.model.specs.Machine.{started}
 use Rattle.model.specs.Contracts.{before}
-use Rattle.unit.specs.Shape.{headerIn, lentOf}
+use Rattle.unit.specs.Shape.{headerIn}
 use Rattle.unit.specs.declared.Header.{Header}
 use Rattle.lines.specs.Input.{AtStart, NextLine, inOrder}
 use Rattle.lines.specs.AllLines.{Lines, line-more, linesOf, no-more}
@@ -30,11 +30,11 @@ pub record Held : Type 0 where
   pub text : List ℕ
 
 -- the same in the code: the text stands first in the area `out`
-abbrev pub heldOf : Header → Areas → (route log text : List ℕ) → Held
-heldOf h a route log text = record { state = before (headerIn h) a; lent = lentOf route log; text = text }
+abbrev pub heldOf : Header → Areas → Lent → (text : List ℕ) → Held
+heldOf h a k text = record { state = before (headerIn h) a; lent = k; text = text }
 
-abbrev pub heldIn : Talk → Areas → (route log out : List ℕ) → Held
-heldIn l a route log out = heldOf (l .header) a route log (take (l .said) out)
+abbrev pub heldIn : Talk → Areas → Lent → (out : List ℕ) → Held
+heldIn l a k out = heldOf (l .header) a k (take (l .said) out)
 
 abbrev pub leaves : Turn → Held
 leaves t = record { state = before (t .header) (t .areas); lent = t .left; text = t .text }

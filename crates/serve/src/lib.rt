@@ -4,10 +4,9 @@ ghost use mathlib.Core.List.{List};
 ghost use Prim.Native.Nat.{ℕ};
 ghost use lib.ListN.{length, take};
 ghost use Rattle.io.specs.Counts.{Counts};
-ghost use Rattle.model.specs.Contracts.{areasOf};
-ghost use Rattle.unit.specs.Shape.{lentOf};
 ghost use Rattle.lines.specs.Holds.{Holds};
 ghost use Rattle.console.specs.Lines.{lineOf};
+ghost use Rattle.unit.specs.Lending.{areas, lent};
 ghost use Rattle.shell.specs.Opening.{Lends, opening};
 ghost use Rattle.serve.specs.Serving.{Begun, Runs, Served, Starts, Turns, heldIn};
 use lines::Reader;
@@ -94,10 +93,8 @@ fn answer_lines(
     out: &mut [u8; shell::OUT_ROOM],
 ) -> Talk
     ensures { λ r. ⌜ Served (now (file .entry))
-        (heldIn from (areasOf (now (ranks .entry)) (now (pairs .entry)) (now (live .entry)) (now (down .entry)) (now (estimates .entry)) (now (elapsed .entry)))
-        (now (route .entry)) (now (log .entry)) (now (out .entry))) (from .reader)
-        (heldIn r (areasOf (now (ranks .entry)) (now (pairs .entry)) (now (live .exit)) (now (down .exit)) (now (estimates .exit)) (now (elapsed .exit)))
-        (now (route .exit)) (now (log .exit)) (now (out .exit))) r ⌝ }
+        (heldIn from (areas ranks pairs live down estimates elapsed .entry) (lent route log .entry) (now (out .entry))) (from .reader)
+        (heldIn r (areas ranks pairs live down estimates elapsed .exit) (lent route log .exit) (now (out .exit))) r ⌝ }
 {
     let mut chunk = [0u8; lines::CHUNK_ROOM];
     let mut line = [0u8; lines::LINE_ROOM];
@@ -157,14 +154,9 @@ fn serve(
     input: i32,
     output: i32,
 ) -> Talk
-    ensures { λ r. ⌜ (Lends (now (file .entry))
-        (areasOf (now (ranks .entry)) (now (pairs .entry)) (now (live .entry)) (now (down .entry)) (now (estimates .entry)) (now (elapsed .entry)))
-        → Runs (now (file .entry))
-        (opening (now (file .entry))
-        (areasOf (now (ranks .entry)) (now (pairs .entry)) (now (live .entry)) (now (down .entry)) (now (estimates .entry)) (now (elapsed .entry))))
-        (lentOf (now (route .entry)) (now (log .entry)))
-        (heldIn r (areasOf (now (ranks .exit)) (now (pairs .exit)) (now (live .exit)) (now (down .exit)) (now (estimates .exit)) (now (elapsed .exit)))
-        (now (route .exit)) (now (log .exit)) (now (out .exit))) r) ⌝ }
+    ensures { λ r. ⌜ (Lends (now (file .entry)) (areas ranks pairs live down estimates elapsed .entry)
+        → Runs (now (file .entry)) (opening (now (file .entry)) (areas ranks pairs live down estimates elapsed .entry)) (lent route log .entry)
+        (heldIn r (areas ranks pairs live down estimates elapsed .exit) (lent route log .exit) (now (out .exit))) r) ⌝ }
 {
     let opened = shell::open_card(file, ranks, pairs, live, down, estimates, elapsed, out);
     answer_lines(

@@ -5,7 +5,8 @@ ghost use Rattle.model.specs.Card.{readCard};
 ghost use Rattle.card.specs.Answers.{rowsOf};
 ghost use Rattle.model.specs.Types as model;
 ghost use Rattle.model.specs.Contracts.{AimContract, EstimateContract, GoContract, PrepareContract, SetContract, areasOf};
-ghost use Rattle.script.specs.Script.{ReplayContract, areas, lentAreas};
+ghost use Rattle.unit.specs.Lending.{areas, lent};
+ghost use Rattle.script.specs.Script.{ReplayContract};
 ghost use Rattle.unit.specs.Shape.{lentOf};
 ghost use Rattle.unit_c.specs.Words.{Wrote, readingNumber, readingWords};
 ghost use Rattle.types_c.specs.Answers.{answerWords, headerOf};
@@ -207,7 +208,7 @@ pub extern "C" fn unit_replay(
     out: &mut [u64],
 ) -> UnitAnswer
     ensures { λ r. ⌜ ((x : model.Answered) × (r ≡ answerWords x)
-        × ReplayContract (now (card .entry)) (areas ranks pairs live down estimates elapsed) (lentAreas route log)
+        × ReplayContract (now (card .entry)) (areas ranks pairs live down estimates elapsed) (lent route log)
         (now (script .entry)) (now (out .entry)) (now (out .exit)) x) ⌝ }
 {
     types_c::answer_of(script::replay(

@@ -4,6 +4,7 @@ use mathlib.Core.List.{List}
 use Prim.Native.Nat.{ℕ}
 use lib.ListN.{length, take}
 use Rattle.model.specs.Contracts.{areasOf}
+use Rattle.unit.specs.Shape.{lentOf}
 use Rattle.lines.specs.Input.{NextLine}
 use Rattle.lines.specs.declared.Reader.{Reader}
 use Rattle.serve.specs.Serving.{heldIn}
@@ -17,8 +18,8 @@ Inv-loop file ranks pairs live₀ down₀ estimates₀ elapsed₀ route₀ log�
     (length live ≡ length live₀) × (length down ≡ length down₀) × (length estimates ≡ length estimates₀)
     × (length elapsed ≡ length elapsed₀) × (l .said ≡ length (take (l .said) out))
     × ((from : Reader) (start : List ℕ) → NextLine from start (l₀ .reader) chunk₀ line₀
-    → Underway file (heldIn l₀ (areasOf ranks pairs live₀ down₀ estimates₀ elapsed₀) route₀ log₀ out₀) from start
-    (heldIn l (areasOf ranks pairs live down estimates elapsed) route log out) (l .reader) chunk line)
+    → Underway file (heldIn l₀ (areasOf ranks pairs live₀ down₀ estimates₀ elapsed₀) (lentOf route₀ log₀) out₀) from start
+    (heldIn l (areasOf ranks pairs live down estimates elapsed) (lentOf route log) out) (l .reader) chunk line)
 
 abbrev μ-loop : tie.MeasureT-loop
 μ-loop file ranks pairs live₀ down₀ estimates₀ elapsed₀ route₀ log₀ out₀ chunk₀ line₀ said l₀ live down estimates elapsed route log out
@@ -62,10 +63,10 @@ loop-again c =
       g .kept .1 .1 .1 .1 .1 .1 .1 .1 .0 ∙ held .inv .3,
       said-length _ (g .result .length) (after-text-of2 .text-of2 .ensures) (c .turn2 .ensures),
       λ from start n.
-          loop-turn (areasOf (args .ranks .now) (args .pairs .now) (held .live) (held .down) (held .estimates) (held .elapsed))
+          loop-turn (held .l) (areasOf (args .ranks .now) (args .pairs .now) (held .live) (held .down) (held .estimates) (held .elapsed))
           (areasOf (args .ranks .now) (args .pairs .now) (g .last .1 .1 .1 .1 .1 .0) (g .last .1 .1 .1 .1 .1 .1 .0)
-          (g .last .1 .1 .1 .1 .1 .1 .1 .0) (g .last .1 .1 .1 .1 .1 .1 .1 .1 .0)) (held .route) (held .log)
-          (g .last .1 .1 .1 .1 .1 .1 .1 .1 .1 .0) (g .last .1 .1 .1 .1 .1 .1 .1 .1 .1 .1 .0) (held .out)
+          (g .last .1 .1 .1 .1 .1 .1 .1 .0) (g .last .1 .1 .1 .1 .1 .1 .1 .1 .0)) (lentOf (held .route) (held .log))
+          (lentOf (g .last .1 .1 .1 .1 .1 .1 .1 .1 .1 .0) (g .last .1 .1 .1 .1 .1 .1 .1 .1 .1 .1 .0)) (held .out)
           (g .last .1 .1 .1 .1 .1 .1 .1 .1 .1 .1 .1 .0)
           (after-heard .heard .result .now) (g .result .header) (g .result .length) (held .inv .5 from start n) (in-loop .loop-test .taken)
           (after-heard .heard .ensures) (g .ensures .0) (after-text-of2 .text-of2 .ensures) (c .turn2 .ensures),
@@ -79,7 +80,7 @@ returns c =
     let held = c .before .loop in
     let args = start-here .args in
     loop-end (areasOf (args .ranks .now) (args .pairs .now) (args .live .now) (args .down .now) (args .estimates .now) (args .elapsed .now))
-    (args .route .now) (args .log .now) (args .out .now)
+    (lentOf (args .route .now) (args .log .now)) (args .out .now)
     (after-text-of .text-of .ensures) (after-turn .turn .ensures) (held .inv .5) (c .loop-test .left) (held .inv .4)
 
 pub answer-lines-spec : {M : Type 1} → statement M

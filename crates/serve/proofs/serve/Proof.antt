@@ -1,6 +1,7 @@
 -- `serve::serve`: the card is opened, and what it leaves is what the lines are answered from. Assumes nothing.
 use mathlib.Core.Path.{_∙_}
 use Rattle.model.specs.Contracts.{areasOf}
+use Rattle.unit.specs.Shape.{lentOf}
 use Rattle.serve.specs.Serving.{heldIn}
 use Rattle.serve.proofs.Cards.{card-runs}
 use Rattle.serve.proofs.serve.Statement.{statement}
@@ -20,12 +21,12 @@ returns c =
     card-runs (args .file .now) (areasOf (args .ranks .now) (args .pairs .now) (args .live .now) (args .down .now) (args .estimates .now)
     (args .elapsed .now))
     (areasOf (o .last .1 .0) (o .last .1 .1 .0) (o .last .1 .1 .1 .0) (o .last .1 .1 .1 .1 .0) (o .last .1 .1 .1 .1 .1 .0)
-    (o .last .1 .1 .1 .1 .1 .1 .0)) lends (o .result) (o .last .1 .1 .1 .1 .1 .1 .1 .0) (args .route .now) (args .log .now)
+    (o .last .1 .1 .1 .1 .1 .1 .0)) lends (o .result) (o .last .1 .1 .1 .1 .1 .1 .1 .0) (lentOf (args .route .now) (args .log .now))
     (after-begin .begin .result) (after-begin .begin .ensures)
     (heldIn (w .result) (areasOf (o .last .1 .0) (o .last .1 .1 .0) (w .last .1 .1 .1 .1 .0) (w .last .1 .1 .1 .1 .1 .0)
-    (w .last .1 .1 .1 .1 .1 .1 .0) (w .last .1 .1 .1 .1 .1 .1 .1 .0)) (w .last .1 .1 .1 .1 .1 .1 .1 .1 .0)
-    (w .last .1 .1 .1 .1 .1 .1 .1 .1 .1 .0) (w .last .1 .1 .1 .1 .1 .1 .1 .1 .1 .1 .0))
-    (w .result) (w .ensures) (o .ensures .1 .1) (o .ensures .1 .0 lends)
+    (w .last .1 .1 .1 .1 .1 .1 .0) (w .last .1 .1 .1 .1 .1 .1 .1 .0)) (lentOf (w .last .1 .1 .1 .1 .1 .1 .1 .1 .0)
+    (w .last .1 .1 .1 .1 .1 .1 .1 .1 .1 .0)) (w .last .1 .1 .1 .1 .1 .1 .1 .1 .1 .1 .0))
+    (w .result) (w .ensures) (o .ensures .quiet) (o .ensures .right lends)
 
 pub serve-spec : {M : Type 1} → statement M
 serve-spec =

@@ -23,7 +23,7 @@ returns c =
       lends = lent;
       lent = lentOf (replicate 200 0) (replicate 200 0);
       left = heldIn (w .result) (areasOf (w .last .1 .0) (w .last .1 .1 .0) (w .last .1 .1 .1 .0) (w .last .1 .1 .1 .1 .0)
-          (w .last .1 .1 .1 .1 .1 .0) (w .last .1 .1 .1 .1 .1 .1 .0)) (w .last .1 .1 .1 .1 .1 .1 .1 .0) (w .last .1 .1 .1 .1 .1 .1 .1 .1 .0)
+          (w .last .1 .1 .1 .1 .1 .0) (w .last .1 .1 .1 .1 .1 .1 .0)) (lentOf (w .last .1 .1 .1 .1 .1 .1 .1 .0) (w .last .1 .1 .1 .1 .1 .1 .1 .1 .0))
           (w .last .1 .1 .1 .1 .1 .1 .1 .1 .1 .0);
       header = refl;
       runs = w .ensures lent;

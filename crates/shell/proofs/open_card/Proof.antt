@@ -20,7 +20,7 @@ returns c =
     let is = prepared-way (a .file .now) lent (answeredIn (p .result))
     (areasOf (p .last .1 .0) (p .last .1 .1 .0) (p .last .1 .1 .1 .0) (p .last .1 .1 .1 .1 .0) (p .last .1 .1 .1 .1 .1 .0)
     (p .last .1 .1 .1 .1 .1 .1 .0)) (openedIn (j .result) (j .last .1 .1 .0)) (p .ensures) (j .ensures .0) in
-    (is, (λ l. is ∙ prepared-opens (a .file .now) lent l, j .ensures .1))
+    record { always = is; right = λ l. is ∙ prepared-opens (a .file .now) lent l; quiet = j .ensures .1 }
 
 pub open-card-spec : {M : Type 1} → statement M
 open-card-spec =
