@@ -62,7 +62,7 @@ pub data Serving (card : List ℕ) : Held → Reader → (chunk input : List ℕ
   over : {h : Held} {from to : Reader} {chunk chunk′ area : List ℕ} → (n : NextLine from chunk to chunk′ area) → to .ready ≡ false
       → Serving card h from chunk (inOrder (n .reads)) [] h to
 
--- as much was printed last as that text has
+-- the loop from what is at hand and a reader, to what it leaves; as many bytes were printed last as the text there has
 pub record Served (card : List ℕ) (h : Held) (from : Reader) (z : Held) (l : Talk) : Type 0 where
   pub chunk : List ℕ
   pub input : List ℕ
