@@ -133,11 +133,12 @@ UnitAnswer unit_go(UnitHeader header, const uint8_t *card, size_t card_len, cons
     uint32_t *log, size_t log_len, uint32_t start);
 
 /*
- * Prepares a card and makes a list of calls. A call is three words of script: 0, road, time for set; 1, junction and any word for
- * aim; 2, junction and any word for estimate; any other word, start and any word for go. Its answer is four words of out: the
- * refusal or 0; estimate or total; count; number of roads. As many calls are made as there are three words in script and four
- * in out; the rest of out is as it was. Each go writes into the same route and log. What is handed back is preparing's answer, with
- * the header after the last call. After a refused preparing the calls are made all the same, on its header of zeros.
+ * Prepares a card and makes a list of calls. A call is four words of script: 0, road, time and any word for set; 1, junction and any
+ * two words for aim; 2, junction and any two words for estimate; any other word, start, entries of route and entries of log for go. A go
+ * is lent the first so many entries of route and log, or all of them where there are fewer; what lies behind them is as it was. The
+ * answer is four words of out: the refusal or 0; estimate or total; count; number of roads. As many calls are made as there are four
+ * words in script and four in out; the rest of out is as it was. What is handed back is preparing's answer, with the header after
+ * the last call. After a refused preparing the calls are made all the same, on its header of zeros.
  */
 UnitAnswer unit_replay(const uint8_t *card, size_t card_len, uint32_t *ranks, size_t ranks_len,
     uint32_t *pairs, size_t pairs_len, uint32_t *live, size_t live_len, uint32_t *down, size_t down_len,

@@ -341,8 +341,8 @@ impl Unit {
         self.hand_back(returned)?.done()
     }
 
-    /// Prepares, and makes the calls of a script, three words each; their answers go to `out`, four words
-    /// each.
+    /// Prepares, and makes the calls of a script, four words each; a go is lent the first entries of route
+    /// and log, as many as its last two words say, or all. The answers go to `out`, four words each.
     pub fn replay(
         &mut self,
         route: &mut [u32],

@@ -236,14 +236,27 @@ fn lists_on_the_largest_maps() {
     });
 }
 
-/// A call as three words of a script.
-fn call_words(random: &mut Random, call: Call) -> [u32; 3] {
-    let any = random.word();
+/// A call as four words of a script. A go's lengths are those that it asks for; a word that a call has
+/// no use for is any.
+fn call_words(random: &mut Random, call: Call) -> [u32; 4] {
+    let (any, other) = (random.word(), random.word());
     match call {
-        Call::Set { road, time } => [0, road, time],
-        Call::Aim { junction } => [1, junction, any],
-        Call::Estimate { junction } => [2, junction, any],
-        Call::Go { start, .. } => [random.pick(&[3, 3, 4, u32::MAX]), start, any],
+        Call::Set { road, time } => [0, road, time, any],
+        Call::Aim { junction } => [1, junction, any, other],
+        Call::Estimate { junction } => [2, junction, any, other],
+        Call::Go { start, route, log } => {
+            [random.pick(&[3, 3, 4, u32::MAX]), start, route as u32, log as u32]
+        }
+    }
+}
+
+/// The call as it is made: a go is lent what it asks for of areas of these lengths, or all of them.
+fn lent_of(call: Call, route_len: usize, log_len: usize) -> Call {
+    match call {
+        Call::Go { start, route, log } => {
+            Call::Go { start, route: route.min(route_len), log: log.min(log_len) }
+        }
+        call => call,
     }
 }
 
@@ -258,58 +271,182 @@ fn answer_words(answer: Answer) -> [u64; 4] {
     }
 }
 
-/// A script through the one function that makes all its calls: the machine's answers, and what the calls
-/// leave that are made one by one.
-fn run_script(random: &mut Random, map: &Map) -> usize {
-    let (n, len) = (map.n(), random.below(80));
-    let (mut route, mut log) = (Area::new(lent(random, n)), Area::new(lent(random, n)));
-    let (mut want_route, mut want_log) = (route.clone(), log.clone());
-    let calls: Vec<Call> = (0..len)
-        .map(|_| match random_call(random, map) {
-            Call::Go { start, .. } => Call::Go { start, route: route.len(), log: log.len() },
-            call => call,
-        })
-        .collect();
+/// An area of any words.
+fn any_area(random: &mut Random, len: usize) -> Area {
+    Area::of(&(0..len).map(|_| random.word()).collect::<Vec<u32>>())
+}
+
+/// How the gos of scripts were answered, and how many scripts have gos of both kinds.
+#[derive(Debug, Default)]
+struct Gos {
+    calls: usize,
+    refused_by_14: usize,
+    found: usize,
+    lost: usize,
+    mixed: usize,
+}
+
+impl Gos {
+    fn count(&mut self, answers: &[(Call, Answer)]) {
+        let gos = |wanted: fn(Answer) -> bool| {
+            let go = |&&(call, answer): &&(Call, Answer)| {
+                matches!(call, Call::Go { .. }) && wanted(answer)
+            };
+            answers.iter().filter(go).count()
+        };
+        let refused = gos(|answer| answer == Err(Refusal::LentLengths));
+        let found = gos(|answer| answer.is_ok());
+        let lost = gos(|answer| matches!(answer, Err(Refusal::NoPath(_))));
+        self.calls += answers.len();
+        self.refused_by_14 += refused;
+        self.found += found;
+        self.lost += lost;
+        self.mixed += (refused > 0 && found + lost > 0) as usize;
+    }
+}
+
+/// A script through the one function that makes all its calls, as many as `room` words of answers hold.
+/// The answers, routes and logs are the machine's; the header, every area, and route and log, beyond what
+/// was lent too, are those that the same calls leave when they are made one by one.
+fn run_script(
+    random: &mut Random,
+    map: &Map,
+    calls: &[Call],
+    mut lent: [Area; 2],
+    room: usize,
+) -> Vec<(Call, Answer)> {
     let mut script: Vec<u32> = calls.iter().flat_map(|&call| call_words(random, call)).collect();
-    script.extend_from_slice(&[1, 0][..random.below(3)]);
-    let room =
-        if random.chance(50) { 4 * len + random.below(9) } else { random.below(4 * len + 1) };
+    script.extend_from_slice(&[1, 0, 0][..random.below(4)]);
     let mut out = vec![u64::MAX - 5; room];
+    let (mut want_out, mut want, mut one_by_one) = (out.clone(), lent.clone(), lent.clone());
 
     let mut both = Both::prepare(map, order::pairs(map)).unwrap();
-    let mut unit = Unit::new(&both.unit.card, n, map.m(), order::pairs(map));
+    let mut unit = Unit::new(&both.unit.card, map.n(), map.m(), order::pairs(map));
+    let mut single = unit.clone();
+    single.prepare().unwrap();
     let mut machine = Machine::new(map);
-    let mut want = out.clone();
-    let made = len.min(room / 4);
-    for (&call, words) in calls.iter().zip(want.chunks_exact_mut(4)) {
+    let mut answers = Vec::new();
+    for (&call, words) in calls.iter().zip(want_out.chunks_exact_mut(4)) {
+        let call = lent_of(call, lent[0].len(), lent[1].len());
         let reply = both.call(call);
         assert_eq!(reply, machine.answer(call), "{call:?}: proved (left), machine (right)");
-        want_route[..reply.route.len()].copy_from_slice(&reply.route);
-        want_log[..reply.log.len()].copy_from_slice(&reply.log);
+        want[0][..reply.route.len()].copy_from_slice(&reply.route);
+        want[1][..reply.log.len()].copy_from_slice(&reply.log);
+        let [route, log] = &mut one_by_one;
+        let (route, log) = match call {
+            Call::Go { route: r, log: l, .. } => (&mut route[..r], &mut log[..l]),
+            _ => (&mut route[..], &mut log[..]),
+        };
+        assert_eq!(single.call(call, route, log), reply.answer, "{call:?}");
         words.copy_from_slice(&answer_words(reply.answer));
+        answers.push((call, reply.answer));
     }
-    unit.replay(&mut route, &mut log, &script, &mut out).unwrap();
-    assert_eq!(out, want, "{calls:?}");
-    assert!(unit == both.unit, "the unit is left otherwise than by the calls one by one");
-    assert!((route, log) == (want_route, want_log), "route and log are left otherwise");
-    made
+    let [route, log] = &mut lent;
+    unit.replay(route, log, &script, &mut out).unwrap();
+    assert_eq!(out, want_out, "{calls:?}");
+    assert!(unit == single && unit == both.unit, "the unit is left otherwise than by single calls");
+    assert!(lent == want, "route and log are left otherwise than by the machine");
+    assert!(lent == one_by_one, "route and log are left otherwise than by single calls");
+    answers
+}
+
+/// A number of entries that a go asks for, of an area of `len`: often fewer than n, or more than there are.
+fn asked(random: &mut Random, n: usize, len: usize) -> usize {
+    match random.below(12) {
+        0 => 0,
+        1 => n - 1,
+        2 => random.below(n),
+        3 | 4 => n,
+        5 | 6 => len,
+        7 => len + 1,
+        8 => random.pick(&[u32::MAX, u32::MAX - 1, 1 << 31]) as usize,
+        _ => n + random.below(9),
+    }
 }
 
 #[test]
 fn scripts() {
     with_stack(|| {
         let mut random = Random::new(4);
-        let mut calls = 0;
+        let mut gos = Gos::default();
         for most in [12; 400].into_iter().chain([200; 20]).chain([MOST_JUNCTIONS]) {
             let map = random_map(&mut random, most);
-            calls += run_script(&mut random, &map);
+            let (n, len) = (map.n(), random.below(80));
+            let lent = [0; 2].map(|_| {
+                let more = random.below(9);
+                let len = random.pick(&[n - 1, n, n, n, n + 1, n + more, n + more, 2 * n]);
+                any_area(&mut random, len)
+            });
+            let calls: Vec<Call> = (0..len)
+                .map(|_| match random_call(&mut random, &map) {
+                    Call::Go { start, .. } => {
+                        let [route, log] = [0, 1].map(|i| asked(&mut random, n, lent[i].len()));
+                        Call::Go { start, route, log }
+                    }
+                    call => call,
+                })
+                .collect();
+            let room = match random.chance(50) {
+                true => 4 * len + random.below(9),
+                false => random.below(4 * len + 1),
+            };
+            gos.count(&run_script(&mut random, &map, &calls, lent, room));
         }
-        assert!(calls > 10_000, "{calls} calls");
+        assert!(
+            gos.calls > 10_000
+                && gos.refused_by_14 > 1_000
+                && gos.found > 800
+                && gos.lost > 200
+                && gos.mixed > 150,
+            "too few of one kind: {gos:?}"
+        );
         let mut refused = Unit::new(&[0; 28], 0, 0, 0);
         let mut out = [1; 8];
-        let script = [0, 0, 0, 3, 0, 0];
+        let script = [0, 0, 0, 0, 3, 0, 0, 0];
         let answer = refused.replay(&mut [], &mut [], &script, &mut out);
         assert_eq!((answer, out), (Err(Refusal::Kinds), [10, 0, 0, 0, 12, 0, 0, 0]));
+    });
+}
+
+/// A go of each pair of lengths, in one script: none, too few by one, n, more than n, all, more than there
+/// are. Each is refused by 14 exactly if one of the two is below n; so the next is not, or is. On small
+/// maps the script is run to each of its calls, so that what each leaves is seen.
+#[test]
+fn scripts_of_each_length() {
+    with_stack(|| {
+        let mut random = Random::new(5);
+        let mut gos = Gos::default();
+        let mut maps = 0;
+        for most in [12; 40].into_iter().chain([200; 5]) {
+            let map = random_map(&mut random, most);
+            let n = map.n();
+            let lent = [n + 3, n + 4].map(|len| any_area(&mut random, len));
+            let [route_len, log_len] = [lent[0].len(), lent[1].len()];
+            let lengths = |len: usize| [0, n - 1, n, n + 1, len, len + 1, u32::MAX as usize];
+            let mut calls = vec![Call::Aim { junction: random.below(n) as u32 }];
+            for route in lengths(route_len) {
+                for log in lengths(log_len) {
+                    calls.push(Call::Go { start: random.below(n) as u32, route, log });
+                }
+            }
+            let last = 4 * calls.len();
+            for room in if most > 12 { vec![last] } else { (0..=last).step_by(4).collect() } {
+                let answers = run_script(&mut random, &map, &calls, lent.clone(), room);
+                for (call, answer) in answers.iter().copied() {
+                    if let Call::Go { route, log, .. } = call {
+                        let short = answer == Err(Refusal::LentLengths);
+                        assert_eq!(short, route < n || log < n, "{call:?}: {answer:?}");
+                    }
+                }
+                if room == last {
+                    gos.count(&answers);
+                    maps += 1;
+                }
+            }
+        }
+        assert_eq!((maps, gos.mixed, gos.refused_by_14), (45, 45, 45 * 24));
+        assert_eq!(gos.found + gos.lost, 45 * 25);
+        assert!(gos.found > 400 && gos.lost > 50, "too few of one kind: {gos:?}");
     });
 }
 

@@ -1,6 +1,6 @@
 //! Calls on states that no list of calls leaves: areas, headers and cards of right lengths and any
-//! contents. The answer is free, but the call ends, writes only in the areas that it is lent to write, and
-//! hands the header back as it was, but for the target after an aim.
+//! contents. The answer is free, but the call ends, writes only in the areas that it is lent to write, leaves
+//! each estimate that is filled, but for an aim, and hands the header back as it was, but for its target.
 
 use harness::both::with_stack;
 use harness::calls::{Call, Calls, Refusal};
@@ -164,8 +164,19 @@ fn call(random: &mut Random, unit: &Unit) -> Call {
     }
 }
 
-/// Makes a call, and looks at what it may not alter. The number that it is refused with, 0 if it is not.
-fn free_call(unit: &mut Unit, call: Call) -> usize {
+/// What the calls met.
+#[derive(Debug, Default)]
+struct Met {
+    /// How often they were refused with each number, 0 for accepted.
+    refusals: [usize; 16],
+    /// How many filled estimates the estimates that were answered found, and left.
+    kept_by_estimates: usize,
+    /// The same of the goes that searched.
+    kept_by_goes: usize,
+}
+
+/// Makes a call, and looks at what it may not alter.
+fn free_call(unit: &mut Unit, call: Call, met: &mut Met) {
     let before = unit.clone();
     let (mut route, mut log) = lent_areas(call);
     let answer = unit.call(call, &mut route, &mut log);
@@ -192,18 +203,40 @@ fn free_call(unit: &mut Unit, call: Call) -> usize {
     {
         assert!(written || area == old, "{call:?} alters {name}");
     }
-    answer.map_or_else(|refusal| refusal.number() as usize, |_| 0)
+
+    let refusal = answer.map_or_else(|refusal| refusal.number() as usize, |_| 0);
+    met.refusals[refusal] += 1;
+    if !matches!(call, Call::Aim { .. }) {
+        let kept = kept(&before.estimates, &unit.estimates, call);
+        match (call, refusal) {
+            (Call::Estimate { .. }, 0) => met.kept_by_estimates += kept,
+            (Call::Go { .. }, 0 | 15) => met.kept_by_goes += kept,
+            _ => (),
+        }
+    }
 }
 
-/// Makes calls on one unit after another. How often they were refused with each number, 0 for accepted.
-fn free_calls(seed: usize, calls: usize, make: impl Fn(&mut Random) -> Unit) -> [usize; 16] {
+/// No filled estimate is altered. How many there are.
+fn kept(before: &[u32], after: &[u32], call: Call) -> usize {
+    let mut filled = 0;
+    for (junction, (&old, &new)) in before.iter().zip(after).enumerate() {
+        if old != UNASKED {
+            assert_eq!(new, old, "{call:?} alters the estimate of junction {junction}");
+            filled += 1;
+        }
+    }
+    filled
+}
+
+/// Makes calls on one unit after another.
+fn free_calls(seed: usize, calls: usize, make: impl Fn(&mut Random) -> Unit) -> Met {
     let mut random = Random::new((setting("CALLS_SEED", 0) + seed) as u64);
-    let mut met = [0; 16];
-    while met.iter().sum::<usize>() < calls {
+    let mut met = Met::default();
+    while met.refusals.iter().sum::<usize>() < calls {
         let mut unit = make(&mut random);
         for _ in 0..=random.below(12) {
             let call = call(&mut random, &unit);
-            met[free_call(&mut unit, call)] += 1;
+            free_call(&mut unit, call, &mut met);
         }
     }
     met
@@ -214,8 +247,10 @@ fn noise_in_every_area() {
     with_stack(|| {
         let calls = setting("CALLS_LENGTH", 30_000);
         let met = free_calls(1, calls, forge);
-        let enough = met[0] > calls / 4 && met[12] > calls / 20 && met[15] > calls / 100;
-        assert!(enough, "{met:?}");
+        let [accepted, no_junction, no_path] = [0, 12, 15].map(|number| met.refusals[number]);
+        let enough = accepted > calls / 4 && no_junction > calls / 20 && no_path > calls / 100;
+        let kept = met.kept_by_estimates > 10 * calls && met.kept_by_goes > 10 * calls;
+        assert!(enough && kept, "{met:?}");
     });
 }
 
@@ -224,8 +259,9 @@ fn damaged_states() {
     with_stack(|| {
         let calls = setting("CALLS_LENGTH", 60_000);
         let met = free_calls(2, calls, damage);
-        let enough = met[0] > calls / 3 && met[15] > calls / 50;
-        assert!(enough, "{met:?}");
+        let enough = met.refusals[0] > calls / 3 && met.refusals[15] > calls / 50;
+        let kept = met.kept_by_estimates > calls && met.kept_by_goes > calls;
+        assert!(enough && kept, "{met:?}");
     });
 }
 
@@ -243,12 +279,13 @@ fn no_entry_is_asked_twice() {
             *record = [i as u32 / 2, i as u32 / 2 + 1 + i as u32 % 2, 0, NONE];
         }
         unit.header.pairs = 2 * n as u32;
+        let mut met = Met::default();
         for estimate in [UNASKED, UNASKED - 1, NONE] {
             unit.down.fill(estimate);
             unit.estimates.fill(UNASKED);
-            free_call(&mut unit, Call::Estimate { junction: 0 });
+            free_call(&mut unit, Call::Estimate { junction: 0 }, &mut met);
             unit.estimates.fill(UNASKED);
-            free_call(&mut unit, Call::Go { start: 0, route: n, log: n });
+            free_call(&mut unit, Call::Go { start: 0, route: n, log: n }, &mut met);
         }
     });
 }
@@ -265,6 +302,7 @@ fn headers_of_any_size() {
     prepared.aim(7).expect("a junction");
     let right = prepared.header;
     let mut refusals = 0;
+    let mut met = Met::default();
     for i in 0..20_000 {
         let mut other = |old: u32| {
             let word = random.word();
@@ -301,7 +339,7 @@ fn headers_of_any_size() {
             Call::Go { start: 0, route: n, log: n },
         ] {
             if fits {
-                free_call(&mut unit, call);
+                free_call(&mut unit, call, &mut met);
                 continue;
             }
             let (mut route, mut log) = lent_areas(call);

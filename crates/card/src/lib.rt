@@ -4,7 +4,7 @@ ghost use Prim.Native.Nat.{_≤_};
 ghost use lib.ListN.{length};
 ghost use Rattle.model.specs.Card.{kindsOk, startsOk};
 ghost use Rattle.model.specs.Contracts.{ReadContract, WriteContract};
-ghost use Rattle.card.specs.Answers.{readingIn, writingIn};
+ghost use Rattle.card.specs.Answers.{readingIn, rowsOf, writingIn};
 use network::Refusal;
 use sections::Verdict;
 
@@ -69,8 +69,10 @@ pub fn read(card: &[u8]) -> Reading
 }
 
 // Makes the card of a map, which is lent as two rows of words, or refuses by questions 4 to 6 and then 7; a refusal leaves the area unaltered.
+// What was written is read back word for word, and the map of a card that was read gives that card's bytes.
 pub fn write(roads: &[u32], order: &[u32], area: &mut [u8]) -> Writing
-    ensures { λ r. ⌜ WriteContract (now (roads .entry)) (now (order .entry)) (now (area .entry)) (now (area .exit)) (writingIn r) ⌝ }
+    ensures { λ r. ⌜ WriteContract (rowsOf (now (roads .entry)) (now (order .entry)))
+        (now (area .entry)) (now (area .exit)) (writingIn r) ⌝ }
 {
     match writer::check(roads, order) {
         Verdict::Failed(q) => Writing::Refused(q),

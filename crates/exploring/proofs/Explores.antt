@@ -20,7 +20,9 @@ use Rattle.graph.specs.History.{Reached, fresh, grow}
 use Rattle.graph.specs.Complete.{Complete, extend-grows, length-le, length-vertices, no-goal}
 use Rattle.graph.specs.Steps.{complete-history}
 use Rattle.model.specs.Calls.{first}
+use Rattle.model.specs.Contracts.{Kept}
 use Rattle.model.specs.Ends.{first-snoc}
+use Rattle.model.specs.Laws.{kept-refl, kept-trans}
 use Rattle.network.specs.declared.Junction.{Junction}
 use Rattle.keys.specs.declared.Choice.{Choice}
 use Rattle.keys.specs.declared.Choice.the-variants.{At, Nothing}
@@ -87,12 +89,16 @@ module _ (roads order ranks pairs live down : List ℕ) (n m count z : ℕ) wher
 
   -- so it goes on from the first candidate
   pub record Goes (e times keys vias wins log e′ times′ keys′ vias′ wins′ log′ : List ℕ) (c : ℕ) : Type 0 where
+    pub kept : Kept e e′
     pub goes : (s : ℕ) (e₀ : List ℕ) → Ready roads order ranks pairs live n m count s z → Held roads order live s z [] z m down e₀ e times keys vias wins
         → Going s e₀ log e′ times′ keys′ vias′ wins′ log′ c
 
   pub goes-start : (e times keys vias wins log : List ℕ) → Goes e times keys vias wins log e times keys vias wins log 0
   unfolding hasGoal vertices
-  goes-start e times keys vias wins log = record { goes = λ s e₀ r h. record { past = []; reached = fresh; no-goal = refl; counted = refl; log-is = refl; held = h } }
+  goes-start e times keys vias wins log = record {
+    kept = kept-refl;
+    goes = λ s e₀ r h. record { past = []; reached = fresh; no-goal = refl; counted = refl; log-is = refl; held = h };
+  }
 
   module _ {s : ℕ} (r : Ready roads order ranks pairs live n m count s z) where
     -- a complete history is the whole one
@@ -210,7 +216,7 @@ module _ (roads order ranks pairs live down : List ℕ) (n m count z : ℕ) wher
             → Going s e₀ log₀ e″ times″ keys″ vias″ wins″ log′ (c + 1)
         goes-more e″ times″ keys″ vias″ wins″ lz y x =
             let ne = target-key lz y in
-            let h = x s z (entry ∷ g .past) e₀ r (logged-more ne) held-more in
+            let h = x .exact s z (entry ∷ g .past) e₀ r (logged-more ne) held-more in
             record {
               past = entry ∷ g .past;
               reached = reached-more;
@@ -227,19 +233,28 @@ module _ (roads order ranks pairs live down : List ℕ) (n m count z : ℕ) wher
   -- ---- the ways through the loop, by what was chosen
   module _ {e times keys vias wins log e′ times′ keys′ vias′ wins′ log′ : List ℕ} {c : ℕ} (g : Goes e times keys vias wins log e′ times′ keys′ vias′ wins′ log′ c) where
     pub goes-full : n ≤ c → Explores roads order ranks pairs live down n m count z e times keys vias wins log e′ times′ keys′ vias′ wins′ log′ c
-    goes-full le s e₀ r h = ends-full r (g .goes s e₀ r h) le
+    goes-full le = record { kept = g .kept; exact = λ s e₀ r h. ends-full r (g .goes s e₀ r h) le }
 
     module _ (b : Choice) (ch : Chooses keys′ wins′ n b) where
       pub goes-none : b ≡ Nothing → Explores roads order ranks pairs live down n m count z e times keys vias wins log e′ times′ keys′ vias′ wins′ log′ c
-      goes-none q s e₀ r h = let d = g .goes s e₀ r h in ends-none r d (nothing-of keys′ n b (ch .exact (won r d)) q)
+      goes-none q = record {
+        kept = g .kept;
+        exact = λ s e₀ r h. (let d = g .goes s e₀ r h in ends-none r d (nothing-of keys′ n b (ch .exact (won r d)) q));
+      }
 
       module _ (j : Junction) (q : b ≡ At j) (lk : j .0 < length keys′) (lc : c < length log) (keys″ wins″ log″ : List ℕ) (st : Settled n c (j .0) keys′ wins′ log′ keys″ wins″ log″) where
         pub goes-found : eqb (getD keys″ z 0) settledKey ≡ true → Explores roads order ranks pairs live down n m count z e times keys vias wins log e′ times′ keys″ vias′ wins″ log″ (c + 1)
-        goes-found t s e₀ r h = let d = g .goes s e₀ r h in ends-found r d (j .0) (least-of keys′ n b j (ch .exact (won r d)) q) lk lc keys″ wins″ log″ st t
+        goes-found t = record {
+          kept = g .kept;
+          exact = λ s e₀ r h. (
+              let d = g .goes s e₀ r h in
+              ends-found r d (j .0) (least-of keys′ n b j (ch .exact (won r d)) q) lk lc keys″ wins″ log″ st t);
+        }
 
         pub goes-on : (e‴ times‴ keys‴ vias‴ wins‴ : List ℕ) → z < length keys′ → eqb (getD keys″ z 0) settledKey ≡ false
             → Relaxed roads order ranks pairs live down n m count (j .0) (getD times′ (j .0) 0) 0 m e′ times′ keys″ vias′ wins″ e‴ times‴ keys‴ vias‴ wins‴
             → Goes e times keys vias wins log e‴ times‴ keys‴ vias‴ wins‴ log″ (c + 1)
         goes-on e‴ times‴ keys‴ vias‴ wins‴ lz ne x = record {
+          kept = kept-trans (g .kept) (x .kept);
           goes = λ s e₀ r h. (let d = g .goes s e₀ r h in goes-more r d (j .0) (least-of keys′ n b j (ch .exact (won r d)) q) lk lc keys″ wins″ log″ st e‴ times‴ keys‴ vias‴ wins‴ lz ne x);
         }

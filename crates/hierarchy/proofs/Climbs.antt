@@ -22,7 +22,7 @@ use Rattle.graph.specs.Map.{Map, downTotalOf, estimateOf, pairsOf, rank, weight
 use Rattle.model.specs.Bytes.{wordAt}
 use Rattle.model.specs.Word.{noneWord, ofWord, ofWord-word, unasked, word}
 use Rattle.model.specs.Calls.{filled}
-use Rattle.model.specs.Laws.{listed-at}
+use Rattle.model.specs.Laws.{kept-refl, kept-trans, listed-at}
 use Rattle.model.specs.Ends.{filled-is}
 use Rattle.model.specs.Good.{AimFacts, Filled, filled-no, filled-yes}
 use Rattle.model.specs.Use.{pairIn}
@@ -125,7 +125,8 @@ module _ {M : Map} {n : ℕ} {order pairs : List ℕ} {count : ℕ} (o : Holds M
           at i c' (yes p) il q u v' lv a = ap (λ (y : List ℕ). getD y v' 0) z-is ∙ filled-yes M t (above M h) e v' lv (subst (λ (y : ℕ). above M (At M y .high) v' ≡ true) p a)
           at i c' (no p) il q u v' lv a =
               let d = w .reached i c' (omega arith) q u v' lv a in
-              c .kept v' (λ g. not-unasked t (rank M v') (getD e v' 0) (target-rank (w .aims)) (rank-below (o .valid .orders) v' lv) d g) ∙ d
+              let b = rank-below (o .valid .orders) v' lv in
+              c .kept .stays v' (λ g. not-unasked t (rank M v') (getD e v' 0) (target-rank (w .aims)) b d g) ∙ d
 
       -- the records from k on are those of higher ranks
       risen-off : k ≤ count → ((i : ℕ) → k ≤ i → i < count → At M i .low ≡ r → ⊥) → Risen M t r count down e₀ e best
@@ -157,7 +158,10 @@ module _ {M : Map} {n : ℕ} {order pairs : List ℕ} {count : ℕ} (o : Holds M
 
 module _ (n : ℕ) (order pairs : List ℕ) (count : ℕ) (down e₀ : List ℕ) (r own : ℕ) (lr : r < n) where
   pub walk-start : (s : ℕ) → Starts pairs count r s → Walked n order pairs count down e₀ e₀ r own s own
-  walk-start s st = record { kept = λ i h. refl; exact = λ M o t a d. risen-start o t r down e₀ (omega (arith, lr, o .vertices-are)) own s st a d }
+  walk-start s st = record {
+    kept = kept-refl;
+    exact = λ M o t a d. risen-start o t r down e₀ (omega (arith, lr, o .vertices-are)) own s st a d;
+  }
 
   module _ (k : ℕ) (e : List ℕ) (best : ℕ) (w : Walked n order pairs count down e₀ e r own k best) where
     pub walk-skip : k < count → leads n r (lowIn pairs k) (highIn pairs k) (upIn pairs k) ≡ false → Walked n order pairs count down e₀ e r own (k + 1) best
@@ -169,7 +173,7 @@ module _ (n : ℕ) (order pairs : List ℕ) (count : ℕ) (down e₀ : List ℕ)
     pub walk-take : k < count → leads n r (lowIn pairs k) (highIn pairs k) (upIn pairs k) ≡ true → (z : List ℕ) (h x v best′ : ℕ) → h ≡ highIn pairs k → x ≡ upIn pairs k
         → Climbed n order pairs count down e z h v → best′ ≡ min best (word (fit (ofWord x ⊕ ofWord v))) → Walked n order pairs count down e₀ z r own (k + 1) best′
     walk-take l f z h x v best′ he xe c b = record {
-      kept = λ i q. c .kept i (λ u. q (sym (w .kept i q) ∙ u)) ∙ w .kept i q;
+      kept = kept-trans (w .kept) (c .kept);
       exact = λ M o t a d.
           subst (λ (y : ℕ). Risen M t r y down e₀ z best′) (sym (add-one k))
           (risen-take o t r down e₀ (omega (arith, lr, o .vertices-are)) k e best (w .exact M o t a d) l (leads-facts n r (lowIn pairs k) (highIn pairs k) (upIn pairs k) f) z x v best′ xe
@@ -204,7 +208,7 @@ module _ (n : ℕ) (order pairs : List ℕ) (count : ℕ) (down e : List ℕ) (r
   -- a rank without a junction: this is no order
   pub astray : n ≤ i → Climbed n order pairs count down e e r noneWord
   astray h = record {
-    kept = λ j q. refl;
+    kept = kept-refl;
     stored = λ l. absurd (omega arith);
     answered = λ q. omega arith;
     exact = λ M o t a. absurd (omega (arith, vertices o, o .vertices-are));
@@ -213,7 +217,7 @@ module _ (n : ℕ) (order pairs : List ℕ) (count : ℕ) (down e : List ℕ) (r
   -- an entry that is filled is the answer
   pub known : (v : ℕ) → v ≡ getD e i 0 → length e ≡ n → (v ≡ unasked → ⊥) → Climbed n order pairs count down e e r v
   known v q len h = record {
-    kept = λ j p. refl;
+    kept = kept-refl;
     stored = λ l. sym (q ∙ ap (λ (y : ℕ). getD e y 0) i-is);
     answered = h;
     exact = λ M o t a.
@@ -232,7 +236,7 @@ module _ (n : ℕ) (order pairs : List ℕ) (count : ℕ) (down e : List ℕ) (r
   pub computed : (z : List ℕ) (own best v x : ℕ) → getD e i 0 ≡ unasked → length z ≡ n → own ≡ getD down i 0 → Walked n order pairs count down e z r own count best → v ≡ answer best → x ≡ v
       → Climbed n order pairs count down e (set z i x) r v
   computed z own best v x h len d w b xv = subst (λ (y : ℕ). Climbed n order pairs count down e (set z i y) r v) (sym xv) (record {
-    kept = λ j q. getD-set-other z i j v 0 (λ p. q (ap (λ (y : ℕ). getD e y 0) p ∙ h)) ∙ w .kept j q;
+    kept = record { stays = λ j q. getD-set-other z i j v 0 (λ p. q (ap (λ (y : ℕ). getD e y 0) p ∙ h)) ∙ w .kept .stays j q };
     stored = λ l. ap (λ (y : ℕ). getD (set z i v) y 0) (sym i-is) ∙ getD-set-same z i v 0 (omega (arith, l, i-is, len));
     answered = λ q. answer-asked best (sym b ∙ q);
     exact = λ M o t a. right M o t a;

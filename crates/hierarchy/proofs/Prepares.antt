@@ -7,7 +7,7 @@ use native.Mathlib.Omega.{arith}
 use Rattle.graph.specs.Ranks.{rank-below}
 use Rattle.graph.specs.Map.{rank}
 use Rattle.model.specs.Word.{noneWord}
-use Rattle.model.specs.Laws.{listed-at}
+use Rattle.model.specs.Laws.{kept-refl, listed-at}
 use Rattle.network.specs.Bodies.{Prepared, mapIn}
 use Rattle.hierarchy.specs.Estimates.{Estimated}
 use Rattle.hierarchy.specs.Walks.{Climbed}
@@ -21,7 +21,7 @@ module _ (n : ℕ) (order ranks pairs : List ℕ) (count : ℕ) (down e : List �
   -- a junction without a rank: this is no area of ranks
   pub unranked : n ≤ r → Estimated order ranks pairs count down e e j noneWord
   unranked h = record {
-    kept = λ i q. refl;
+    kept = kept-refl;
     answered = λ q. omega arith;
     exact = λ roads p t a.
         let o = prepared-holds p n lo in

@@ -3,17 +3,17 @@ use mathlib.Core.Path.{_≡_, subst, sym}
 use mathlib.Core.Bool.{Bool}
 use mathlib.Core.List.{List}
 use Prim.Native.Nat.{ℕ}
-use lib.ListN.{getD}
 use Rattle.graph.specs.Map.{Map, estimateOf, fills}
 use Rattle.model.specs.Word.{unasked, word}
 use Rattle.model.specs.Calls.{filled}
+use Rattle.model.specs.Contracts.{Kept}
 use Rattle.model.specs.Good.{AimFacts, UpClosed, filled-entries, fills-on}
 use Rattle.network.specs.Bodies.{Prepared, mapIn}
 
 -- The estimate v of junction j; e are the estimates before it, z those after it.
 pub record Estimated (order ranks pairs : List ℕ) (count : ℕ) (down e z : List ℕ) (j v : ℕ) : Type 0 where
   -- on any contents: what is filled stays, and the answer is no mark that would have it asked again
-  pub kept : (i : ℕ) → (getD e i 0 ≡ unasked → ⊥) → getD z i 0 ≡ getD e i 0
+  pub kept : Kept e z
   pub answered : v ≡ unasked → ⊥
   -- where preparing and aim left the areas: the least base total to the target or none, and exactly the junction and all reached from it are filled
   pub exact : (roads : List ℕ) → Prepared roads order ranks pairs count → (t : ℕ) → AimFacts (mapIn roads order) t down e

@@ -14,6 +14,7 @@ use Rattle.graph.specs.Map.{Map, estimateOf, pairsOf, rank, weights}
 use Rattle.model.specs.Bytes.{wordAt}
 use Rattle.model.specs.Word.{noneWord, unasked, word}
 use Rattle.model.specs.Calls.{filled}
+use Rattle.model.specs.Contracts.{Kept}
 use Rattle.model.specs.Good.{AimFacts}
 use Rattle.model.specs.Use.{pairIn}
 use Rattle.network.specs.Width.{fit}
@@ -38,10 +39,6 @@ over M t r i =
 -- what stands in the estimates e for rank r: the entry of the junction that the order has there; none, if that is none of the n
 unfoldable pub standing : (n : ℕ) (order e : List ℕ) (r : ℕ) → ℕ
 standing n order e r = cond (ltb (wordAt order (4 * r)) n) (getD e (wordAt order (4 * r)) 0) noneWord
-
--- filled entries stay
-abbrev pub Kept : (e z : List ℕ) → Type 0
-Kept e z = (i : ℕ) → (getD e i 0 ≡ unasked → ⊥) → getD z i 0 ≡ getD e i 0
 
 -- the estimate v of rank r
 pub record Climbed (n : ℕ) (order pairs : List ℕ) (count : ℕ) (down e z : List ℕ) (r v : ℕ) : Type 0 where

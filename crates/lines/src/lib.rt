@@ -1,10 +1,11 @@
 // Lines of the input: a line is taken byte by byte, out of chunks that are read from a descriptor.
+ghost use mathlib.Core.Path.{_≡_};
 ghost use mathlib.Core.List.{List, [], _++_, _∷_};
 ghost use Prim.Native.Nat.{_<_, _≤_, ℕ};
 ghost use lib.ListN.{length};
 ghost use Rattle.io.specs.Counts.{clamped};
 ghost use Rattle.lines.specs.Holds.{Holds};
-ghost use Rattle.lines.specs.Input.{AtStart, NextLine, Refilled, Stepped, Took};
+ghost use Rattle.lines.specs.Input.{AtStart, NextLine, Refilled, Stepped, Took, waiting};
 
 // The longest readable line has 45 bytes: `set` and two numbers of 20 digits.
 pub const LINE_ROOM: usize = 46;
@@ -38,19 +39,21 @@ pub fn take_byte(p: Part, b: u8, area: &mut [u8]) -> Part
 
 // ---- the reader
 
-// The input: the bytes of a chunk from `at` to `end` are not taken yet. `ready` says that the line's end has come. `turns` is how many more steps the line may take: 0 where it is ready or
-// the input has ended.
+// The input: the bytes of a chunk from `at` to `end` are not taken yet. `ready` says that the line's end has come, `ended` that a read gave
+// nothing. `turns` is how many more steps may be made: bytes taken, and reads.
 pub struct Reader {
     pub at: usize,
     pub end: usize,
     pub part: Part,
     pub ready: bool,
+    pub ended: bool,
     pub turns: u64,
 }
 
-// Before the first line.
-pub fn at_start() -> Reader
-    ensures { λ r. ⌜ AtStart r ⌝ }
+// Before the first line; an input that is not open counts as ended. A proved loop has to end, and nothing says that an input does: so steps
+// are counted down, from a number that no run uses up.
+pub fn at_start(opens: bool) -> Reader
+    ensures { λ r. ⌜ AtStart opens r ⌝ }
 {
     Reader {
         at: 0,
@@ -60,7 +63,8 @@ pub fn at_start() -> Reader
             long: false,
         },
         ready: false,
-        turns: 0,
+        ended: !opens,
+        turns: u64::MAX,
     }
 }
 
@@ -72,13 +76,15 @@ fn take_one(r: Reader, b: u8, left: u64, line: &mut [u8]) -> Reader
     let at = r.at + 1;
     let end = r.end;
     let part = r.part;
+    let ended = r.ended;
     if b == b'\n' {
         return Reader {
             at: at,
             end: end,
             part: part,
             ready: true,
-            turns: 0,
+            ended: ended,
+            turns: left,
         };
     }
     let longer = take_byte(part, b, line);
@@ -87,11 +93,13 @@ fn take_one(r: Reader, b: u8, left: u64, line: &mut [u8]) -> Reader
         end: end,
         part: longer,
         ready: false,
+        ended: ended,
         turns: left,
     }
 }
 
-// What a read answered. "A line ends at a newline or at the end of the input; after a last newline no further line follows": where the input ends, a line that has bytes is ready.
+// What a read answered. "A line ends at a newline or at the end of the input; after a last newline no further line follows": where the
+// input ends, a line that has bytes is ready.
 fn take_read(r: Reader, got: isize, left: u64, chunk: &[u8]) -> Reader
     ensures { λ s. ⌜ s .end ≤ length (now (chunk .entry)) ⌝ }
     ensures { λ s. ⌜ Refilled (clamped got (length (now (chunk .entry)))) left r s ⌝ }
@@ -104,7 +112,8 @@ fn take_read(r: Reader, got: isize, left: u64, chunk: &[u8]) -> Reader
             end: 0,
             part: part,
             ready: 0 < part.kept,
-            turns: 0,
+            ended: true,
+            turns: left,
         };
     }
     Reader {
@@ -112,6 +121,7 @@ fn take_read(r: Reader, got: isize, left: u64, chunk: &[u8]) -> Reader
         end: n,
         part: part,
         ready: false,
+        ended: false,
         turns: left,
     }
 }
@@ -139,7 +149,20 @@ fn step(input: i32, r: Reader, chunk: &mut [u8], line: &mut [u8]) -> Reader
     refill(input, r, left, chunk)
 }
 
-// Reads to the end of the next line. A proved loop has to end, and nothing says that an input does: so it counts its steps down, from a number that no run uses up.
+// Whether a step more is to be made: the line's end has not come, the input has not ended, and not all steps are used up.
+fn waits(r: Reader) -> bool
+    ensures { λ w. ⌜ w ≡ waiting r ⌝ }
+{
+    if r.ready {
+        return false;
+    }
+    if r.ended {
+        return false;
+    }
+    0 < r.turns
+}
+
+// Reads to the end of the next line. After the input's end it takes no step.
 fn read_line(input: i32, from: Reader, chunk: &mut [u8], line: &mut [u8]) -> Reader
     requires { ⌜ 0 < length (now line) ⌝ }
     ensures { λ r. ⌜ NextLine from (now (chunk .entry)) r (now (chunk .exit)) (now (line .exit)) ⌝ }
@@ -152,15 +175,16 @@ fn read_line(input: i32, from: Reader, chunk: &mut [u8], line: &mut [u8]) -> Rea
             long: false,
         },
         ready: false,
-        turns: u64::MAX,
+        ended: from.ended,
+        turns: from.turns,
     };
-    while r.turns > 0 {
+    while waits(r) {
         r = step(input, r, chunk, line);
     }
     r
 }
 
-// The next line of the input. What is left of the chunk is for the line after it.
+// The next line of the input, if there is one. What is left of the chunk is for the line after it.
 pub fn next_line(
     input: i32,
     from: Reader,

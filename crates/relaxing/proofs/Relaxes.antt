@@ -1,11 +1,12 @@
 -- The roads of a junction are relaxed, one after the other. Assumes nothing.
-use mathlib.Core.Path.{_∙_, _≡_, sym}
+use mathlib.Core.Path.{_∙_, _≡_, subst, subst₂, sym}
 use mathlib.Core.List.{List}
 use Prim.Native.Nat.{_*_, _+_, _<_, _≤_, suc, ℕ}
 use lib.ListN.{getD}
 use native.Mathlib.Omega.{arith}
 use Rattle.graph.specs.Search.{Entry}
 use Rattle.model.specs.Bytes.{wordAt}
+use Rattle.model.specs.Laws.{kept-refl, kept-trans}
 use Rattle.ways.specs.Grouped.{FirstFrom, Grouped}
 use Rattle.labels.specs.Relax.{labels-skip}
 use Rattle.relaxing.specs.State.{Held, Ready, Relaxed, goIn}
@@ -33,7 +34,11 @@ module _ (roads order ranks pairs live down : List ℕ) (n m count u t : ℕ) wh
       }
 
   pub standing-start : (j : ℕ) (e times keys vias wins : List ℕ) → FirstFrom roads m u 0 j → Standing j e times keys vias wins e times keys vias wins
-  standing-start j e times keys vias wins f = record { high = f .high; leaves = f .leaves; relaxed = λ s z H e₀ r l h. held-skip 0 j f s z H e₀ r e times keys vias wins h }
+  standing-start j e times keys vias wins f = record {
+    high = f .high;
+    leaves = f .leaves;
+    relaxed = record { kept = kept-refl; exact = λ s z H e₀ r l h. held-skip 0 j f s z H e₀ r e times keys vias wins h };
+  }
 
   pub standing-turn : (i j : ℕ) (e times keys vias wins e′ times′ keys′ vias′ wins′ e″ times″ keys″ vias″ wins″ : List ℕ) → i < m → Standing i e times keys vias wins e′ times′ keys′ vias′ wins′
       → Relaxed roads order ranks pairs live down n m count (wordAt roads (12 * i)) t i (i + 1) e′ times′ keys′ vias′ wins′ e″ times″ keys″ vias″ wins″
@@ -44,11 +49,18 @@ module _ (roads order ranks pairs live down : List ℕ) (n m count u t : ℕ) wh
       record {
         high = f .high;
         leaves = g .leaves;
-        relaxed = λ s z H e₀ r l h. held-skip (i + 1) j g s z H e₀ r e″ times″ keys″ vias″ wins″ (step q s z H e₀ r l (w .relaxed s z H e₀ r l h));
+        relaxed = record {
+          kept = kept-trans (w .relaxed .kept) (x .kept);
+          exact = λ s z H e₀ r l h.
+              held-skip (i + 1) j g s z H e₀ r e″ times″ keys″ vias″ wins″ (here q .exact s z H e₀ r l (w .relaxed .exact s z H e₀ r l h));
+        };
       }
     where
-      step : wordAt roads (12 * i) ≡ u → Relaxed roads order ranks pairs live down n m count u t i (i + 1) e′ times′ keys′ vias′ wins′ e″ times″ keys″ vias″ wins″
-      step q s z H e₀ r l h = rw q at (x s z H e₀ r (rw (← q) at l) (rw (← q) at h))
+      road-of : ℕ → Type 0
+      road-of v = Relaxed roads order ranks pairs live down n m count v t i (i + 1) e′ times′ keys′ vias′ wins′ e″ times″ keys″ vias″ wins″
+
+      here : wordAt roads (12 * i) ≡ u → road-of u
+      here q = subst road-of q x
 
   -- the next road of u behind one of its own
   pub next-from : (i : ℕ) (e times keys vias wins e′ times′ keys′ vias′ wins′ firsts nexts : List ℕ) → i < m → u < n → Standing i e times keys vias wins e′ times′ keys′ vias′ wins′ → Grouped roads n m firsts nexts
@@ -57,6 +69,9 @@ module _ (roads order ranks pairs live down : List ℕ) (n m count u t : ℕ) wh
 
   pub standing-end : (i x : ℕ) (e times keys vias wins e′ times′ keys′ vias′ wins′ : List ℕ) → m ≤ i → t ≡ x → Standing i e times keys vias wins e′ times′ keys′ vias′ wins′
       → Relaxed roads order ranks pairs live down n m count u x 0 m e times keys vias wins e′ times′ keys′ vias′ wins′
-  standing-end i x e times keys vias wins e′ times′ keys′ vias′ wins′ le p w s z H e₀ r l h =
+  standing-end i x e times keys vias wins e′ times′ keys′ vias′ wins′ le p w =
       let q : i ≡ m = omega (arith, w .high) in
-      rw q at (w .relaxed s z H e₀ r (rw (← p) at l) h)
+      subst₂ done p q (w .relaxed)
+    where
+      done : ℕ → ℕ → Type 0
+      done y k = Relaxed roads order ranks pairs live down n m count u y 0 k e times keys vias wins e′ times′ keys′ vias′ wins′

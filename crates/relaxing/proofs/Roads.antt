@@ -16,6 +16,7 @@ use Rattle.graph.specs.Search.{Entry, Problem, offerVia, timeIn}
 use Rattle.graph.specs.Walk.{some-offerVia}
 use Rattle.model.specs.Word.{noneWord, ofWord, ofWord-none, ofWord-some, word}
 use Rattle.model.specs.Bytes.{wordAt}
+use Rattle.model.specs.Laws.{kept-refl}
 use Rattle.network.specs.Width.{fit, fit-in}
 use Rattle.network.specs.Bodies.{mapIn}
 use Rattle.hierarchy.specs.Estimates.{Estimated, aim-estimated}
@@ -46,70 +47,83 @@ module _ (roads order ranks pairs live down : List ℕ) (n m count i from : ℕ)
 
   module _ (w : ℕ) (w-is : w ≡ getD live i 0) where
     pub road-closed : (e times keys vias wins : List ℕ) → eqb w noneWord ≡ true → Road e times keys vias wins e times keys vias wins
-    road-closed e times keys vias wins closed s z H e₀ r l held =
-        let G = goIn roads order live s z in
-        let k = codes r in
-        let x : getD live i 0 ≡ noneWord = sym w-is ∙ eqb-true w noneWord closed in
-        let q : G .net .cost i ≡ none = k .costs i ∙ ap ofWord x ∙ ofWord-none in
-        let la : i < G .net .arcs = rw (k .arcs-are) li in
-        record {
-          labels = λ v lv. label-passed la (via-closed G H v i q) (held .labels v lv);
-          winners = held .winners;
-          filling = filling-same (λ a x. asked-on a x) (λ a x. asked-closed q a x) (held .filling);
-        }
+    road-closed e times keys vias wins closed = record {
+      kept = kept-refl;
+      exact = λ s z H e₀ r l held.
+          let G = goIn roads order live s z in
+          let k = codes r in
+          let x : getD live i 0 ≡ noneWord = sym w-is ∙ eqb-true w noneWord closed in
+          let q : G .net .cost i ≡ none = k .costs i ∙ ap ofWord x ∙ ofWord-none in
+          let la : i < G .net .arcs = rw (k .arcs-are) li in
+          record {
+            labels = λ v lv. label-passed la (via-closed G H v i q) (held .labels v lv);
+            winners = held .winners;
+            filling = filling-same (λ a x. asked-on a x) (λ a x. asked-closed q a x) (held .filling);
+          };
+    }
 
     module _ (h : ℕ) (h-is : h ≡ wordAt roads (12 * i + 4)) where
       -- the head of a road of a map is one of its junctions
       pub road-far : (e times keys vias wins : List ℕ) → n ≤ h → Road e times keys vias wins e times keys vias wins
-      road-far e times keys vias wins far s z H e₀ r l held =
-          let k = codes r in
-          let b = k .ok .well-formed .inside .heads i (rw (k .arcs-are) li) in
-          absurd (omega (arith, b, k .heads i li, k .size-is))
+      road-far e times keys vias wins far = record {
+        kept = kept-refl;
+        exact = λ s z H e₀ r l held.
+            let k = codes r in
+            let b = k .ok .well-formed .inside .heads i (rw (k .arcs-are) li) in
+            absurd (omega (arith, b, k .heads i li, k .size-is));
+      }
 
       pub road-open : (v o : ℕ) (e times keys vias wins e′ times′ keys′ vias′ wins′ : List ℕ) → eqb w noneWord ≡ false → h < n → h < length times → h < length keys → h < length vias
           → Estimated order ranks pairs count down e e′ h v → o ≡ min noneWord (word (fit (ofWord from ⊕ ofWord w)))
           → Stored o v i h times keys vias times′ keys′ vias′ → Entered keys′ wins wins′ h → n ≤ length keys → Road e times keys vias wins e′ times′ keys′ vias′ wins′
       unfolding ofWord
-      road-open v o e times keys vias wins e′ times′ keys′ vias′ wins′ open′ lh lt lk lv est offer st ent ln s z H e₀ r l held =
-          let G = goIn roads order live s z in
-          let k = codes r in
-          let la : i < G .net .arcs = rw (k .arcs-are) li in
-          let hd : G .net .head i ≡ h = k .heads i li ∙ sym h-is in
-          let tl : G .net .tail i ≡ wordAt roads (12 * i) = k .tails i li in
-          let cost : G .net .cost i ≡ some w = k .costs i ∙ ap ofWord (sym w-is) ∙ rw open′ in
-          let low : w ≤ 1000000 = k .ok .costs i w la cost in
-          let from-low : from ≤ 4095000000 = k .ok .times (l .reached) (wordAt roads (12 * i)) from (l .time-is) in
-          let o-is : o ≡ from + w = offer-word o from w offer from-low low in
-          let logged : timeIn H (G .net .tail i) ≡ some from = ap (timeIn H) tl ∙ l .time-is in
-          let gives : offerVia (G .net) H h i ≡ some o = some-offerVia (G .net) H h i from w o hd logged cost o-is in
-          let lM : h < mapIn roads order .vertices = rw (r .n-is) lh in
-          let x = est .exact roads (r .prepared) z (held .filling .aims) in
-          let v-is : v ≡ word (G .pot h) = x .0 ∙ ap word (sym (k .pots h)) in
-          let lG : h < G .size = rw (k .size-is) lh in
-          let new : Labelled G H (wordAt roads (12 * i)) (i + 1) h (st .time) (st .key) (st .via) =
-          label-improved la gives (omega arith) v-is (λ p q. k .ok .pots h p lG q) (st .improves) (held .labels h lG) in
-          let falls : st .key ≤ getD keys h 0 = label-falls la gives (omega arith) v-is (λ p q. k .ok .pots h p lG q) (st .improves) (held .labels h lG) in
-          let key-is : getD keys′ h 0 ≡ st .key = ap (λ (l : List ℕ). getD l h 0) (st .keys-are) ∙ getD-set-same keys h (st .key) 0 lk in
-          let keys-length : length keys′ ≡ length keys = ap length (st .keys-are) ∙ length-set keys h (st .key) in
-          record {
-            labels = at G la hd new (held .labels);
-            winners = ent .winners keys (mapIn roads order .vertices) (st .keys-are ∙ ap (set keys h) (sym key-is)) (rw key-is falls) lM (omega (arith, r .n-is, keys-length)) (held .winners);
-            filling =
-                filling-more h lM (λ a x. asked-on a x)
-                (asked-head i from w la (λ q. omega arith) (λ q. l .not-target (sym tl ∙ q)) logged cost hd)
-                (λ a x. both hd a (asked-open a x))
-                (aim-estimated est roads (r .prepared) z (held .filling .aims)) (x .1) (held .filling);
-          }
+      road-open v o e times keys vias wins e′ times′ keys′ vias′ wins′ open′ lh lt lk lv est offer st ent ln = record {
+        kept = est .kept;
+        exact = λ s z H e₀ r l held.
+            let G = goIn roads order live s z in
+            let k = codes r in
+            let la : i < G .net .arcs = rw (k .arcs-are) li in
+            let hd : G .net .head i ≡ h = k .heads i li ∙ sym h-is in
+            let tl : G .net .tail i ≡ wordAt roads (12 * i) = k .tails i li in
+            let cost : G .net .cost i ≡ some w = k .costs i ∙ ap ofWord (sym w-is) ∙ rw open′ in
+            let low : w ≤ 1000000 = k .ok .costs i w la cost in
+            let from-low : from ≤ 4095000000 = k .ok .times (l .reached) (wordAt roads (12 * i)) from (l .time-is) in
+            let o-is : o ≡ from + w = offer-word o from w offer from-low low in
+            let logged : timeIn H (G .net .tail i) ≡ some from = ap (timeIn H) tl ∙ l .time-is in
+            let gives : offerVia (G .net) H h i ≡ some o = some-offerVia (G .net) H h i from w o hd logged cost o-is in
+            let lM : h < mapIn roads order .vertices = rw (r .n-is) lh in
+            let x = est .exact roads (r .prepared) z (held .filling .aims) in
+            let v-is : v ≡ word (G .pot h) = x .0 ∙ ap word (sym (k .pots h)) in
+            let lG : h < G .size = rw (k .size-is) lh in
+            let new : Labelled G H (wordAt roads (12 * i)) (i + 1) h (st .time) (st .key) (st .via) =
+            label-improved la gives (omega arith) v-is (λ p q. k .ok .pots h p lG q) (st .improves) (held .labels h lG) in
+            let falls : st .key ≤ getD keys h 0 =
+            label-falls la gives (omega arith) v-is (λ p q. k .ok .pots h p lG q) (st .improves) (held .labels h lG) in
+            let key-is : getD keys′ h 0 ≡ st .key = ap (λ (l : List ℕ). getD l h 0) (st .keys-are) ∙ getD-set-same keys h (st .key) 0 lk in
+            let keys-length : length keys′ ≡ length keys = ap length (st .keys-are) ∙ length-set keys h (st .key) in
+            record {
+              labels = at H G la hd new (held .labels);
+              winners =
+                  ent .winners keys (mapIn roads order .vertices) (st .keys-are ∙ ap (set keys h) (sym key-is)) (rw key-is falls) lM
+                  (omega (arith, r .n-is, keys-length)) (held .winners);
+              filling =
+                  filling-more h lM (λ a x. asked-on a x)
+                  (asked-head i from w la (λ q. omega arith) (λ q. l .not-target (sym tl ∙ q)) logged cost hd)
+                  (λ a x. both s z H hd a (asked-open a x))
+                  (aim-estimated est roads (r .prepared) z (held .filling .aims)) (x .1) (held .filling);
+            };
+      }
         where
-          both : goIn roads order live s z .net .head i ≡ h → (a : ℕ)
+          both : (s z : ℕ) (H : List Entry) → goIn roads order live s z .net .head i ≡ h → (a : ℕ)
               → Asked (goIn roads order live s z) s z H (wordAt roads (12 * i)) i a ⊎ (a ≡ goIn roads order live s z .net .head i)
               → Asked (goIn roads order live s z) s z H (wordAt roads (12 * i)) i a ⊎ (a ≡ h)
-          both q a (inl x) = inl x
-          both q a (inr x) = inr (x ∙ q)
+          both s z H q a (inl x) = inl x
+          both s z H q a (inr x) = inr (x ∙ q)
 
-          at : (G : Problem) → i < G .net .arcs → G .net .head i ≡ h → Labelled G H (wordAt roads (12 * i)) (i + 1) h (st .time) (st .key) (st .via)
+          at : (H : List Entry) (G : Problem) → i < G .net .arcs → G .net .head i ≡ h
+              → Labelled G H (wordAt roads (12 * i)) (i + 1) h (st .time) (st .key) (st .via)
               → Labels G H (wordAt roads (12 * i)) i times keys vias → Labels G H (wordAt roads (12 * i)) (i + 1) times′ keys′ vias′
-          at G la hd new old u lu = one (ℕ-discrete u h)
+          at H G la hd new old u lu = one (ℕ-discrete u h)
             where
               one : Dec (u ≡ h) → Labelled G H (wordAt roads (12 * i)) (i + 1) u (getD times′ u 0) (getD keys′ u 0) (getD vias′ u 0)
               one (yes q) =

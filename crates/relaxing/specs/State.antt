@@ -9,6 +9,7 @@ use Rattle.graph.specs.Search.{Entry, Problem, history, timeIn, vertices}
 use Rattle.graph.specs.History.{Reached}
 use Rattle.graph.specs.Map.{Map, fills}
 use Rattle.model.specs.Calls.{first, liveOf, searchOf, settable}
+use Rattle.model.specs.Contracts.{Kept}
 use Rattle.model.specs.Good.{AimFacts, Filled}
 use Rattle.network.specs.Bodies.{Prepared, mapIn}
 use Rattle.keys.specs.Winners.{Winners}
@@ -68,17 +69,23 @@ pub record Logged (G : Problem) (H : List Entry) (z u t : ℕ) : Type 0 where
   pub time-is : timeIn H u ≡ some t
   pub not-target : u ≡ z → ⊥
 
--- Relaxing the roads of u, whose time is t, from number k up to l takes the areas from what they hold before these roads to what they hold after them.
-abbrev pub Relaxed : (roads order ranks pairs live down : List ℕ) (n m count u t k l : ℕ) (e times keys vias wins e′ times′ keys′ vias′ wins′ : List ℕ) → Type 0
-Relaxed roads order ranks pairs live down n m count u t k l e times keys vias wins e′ times′ keys′ vias′ wins′ =
-    (s z : ℕ) (H : List Entry) (e₀ : List ℕ) → Ready roads order ranks pairs live n m count s z → Logged (goIn roads order live s z) H z u t
-    → Held roads order live s z H u k down e₀ e times keys vias wins → Held roads order live s z H u l down e₀ e′ times′ keys′ vias′ wins′
+-- The roads of u, whose time is t, are relaxed from number k up to l.
+pub record Relaxed (roads order ranks pairs live down : List ℕ) (n m count u t k l : ℕ)
+    (e times keys vias wins e′ times′ keys′ vias′ wins′ : List ℕ) : Type 0 where
+  -- on any contents: what is filled stays
+  pub kept : Kept e e′
+  -- in a state that is ready: from what the areas hold before these roads to what they hold after them
+  pub exact : (s z : ℕ) (H : List Entry) (e₀ : List ℕ) → Ready roads order ranks pairs live n m count s z
+      → Logged (goIn roads order live s z) H z u t → Held roads order live s z H u k down e₀ e times keys vias wins
+      → Held roads order live s z H u l down e₀ e′ times′ keys′ vias′ wins′
 
 -- The areas before anything is logged: the start's estimate is asked, and it is the first candidate if it has one. e are the estimates before, e′ those after.
-abbrev pub Begun : (n count : ℕ) (order ranks pairs down : List ℕ) (s : ℕ) (e e′ times keys wins : List ℕ) → Type 0
-Begun n count order ranks pairs down s e e′ times keys wins =
-    (roads live vias : List ℕ) (m z : ℕ) → Ready roads order ranks pairs live n m count s z → AimFacts (mapIn roads order) z down e
-    → Held roads order live s z [] z m down e e′ times keys vias wins
+pub record Begun (n count : ℕ) (order ranks pairs down : List ℕ) (s : ℕ) (e e′ times keys wins : List ℕ) : Type 0 where
+  -- on any contents: what is filled stays
+  pub kept : Kept e e′
+  -- in a state that is ready
+  pub exact : (roads live vias : List ℕ) (m z : ℕ) → Ready roads order ranks pairs live n m count s z
+      → AimFacts (mapIn roads order) z down e → Held roads order live s z [] z m down e e′ times keys vias wins
 
 -- The search is over: c junctions are logged, and the areas hold what the whole history gives. log₀ is the log area before.
 pub record Explored (roads order live : List ℕ) (s z : ℕ) (down e₀ log₀ e times keys vias wins log : List ℕ) (c : ℕ) : Type 0 where
@@ -88,7 +95,11 @@ pub record Explored (roads order live : List ℕ) (s z : ℕ) (down e₀ log₀ 
   pub held : Held roads order live s z (history (goIn roads order live s z)) z upto down e₀ e times keys vias wins
 
 -- from the first candidate to the end
-abbrev pub Explores : (roads order ranks pairs live down : List ℕ) (n m count z : ℕ) (e times keys vias wins log e′ times′ keys′ vias′ wins′ log′ : List ℕ) (c : ℕ) → Type 0
-Explores roads order ranks pairs live down n m count z e times keys vias wins log e′ times′ keys′ vias′ wins′ log′ c =
-    (s : ℕ) (e₀ : List ℕ) → Ready roads order ranks pairs live n m count s z → Held roads order live s z [] z m down e₀ e times keys vias wins
-    → Explored roads order live s z down e₀ log e′ times′ keys′ vias′ wins′ log′ c
+pub record Explores (roads order ranks pairs live down : List ℕ) (n m count z : ℕ)
+    (e times keys vias wins log e′ times′ keys′ vias′ wins′ log′ : List ℕ) (c : ℕ) : Type 0 where
+  -- on any contents: what is filled stays
+  pub kept : Kept e e′
+  -- in a state that is ready
+  pub exact : (s : ℕ) (e₀ : List ℕ) → Ready roads order ranks pairs live n m count s z
+      → Held roads order live s z [] z m down e₀ e times keys vias wins
+      → Explored roads order live s z down e₀ log e′ times′ keys′ vias′ wins′ log′ c

@@ -1,13 +1,12 @@
 // A script of calls as words: makes them one after the other, and writes the words of their answers.
-ghost use Prim.Native.Nat.{_/_, min};
-ghost use lib.ListN.{length};
-ghost use Rattle.model.specs.Contracts.{areasOf};
-ghost use Rattle.unit.specs.Shape.{answeredIn, headerIn, lentOf};
-ghost use Rattle.script.specs.Script.{MakeContract, ReplayContract, holding};
+ghost use Rattle.unit.specs.Shape.{answeredIn, headerIn};
+ghost use Rattle.unit.specs.Lending.{areas, lent};
+ghost use Rattle.script.specs.Script.{MakeContract, ReplayContract};
 use unit::Answered;
 use unit::Header;
 
 // Makes the calls of a script from a header and the areas that belong to it, and hands the last header back.
+// Each go is lent the first entries of route and log, as many as its words say, or all.
 fn make_calls(
     start: Header,
     card: &[u8],
@@ -22,16 +21,16 @@ fn make_calls(
     script: &[u32],
     out: &mut [u64],
 ) -> Header
-    ensures { λ h. ⌜ MakeContract (now (card .entry))
-        (holding (headerIn start) (areasOf (now (ranks .entry)) (now (pairs .entry)) (now (live .entry)) (now (down .entry)) (now (estimates .entry)) (now (elapsed .entry))) (lentOf (now (route .entry)) (now (log .entry))))
-        (now (script .entry)) (min (length (now (script .entry)) / 3) (length (now (out .entry)) / 4)) (now (out .entry)) (now (out .exit))
-        (holding (headerIn h) (areasOf (now (ranks .entry)) (now (pairs .entry)) (now (live .exit)) (now (down .exit)) (now (estimates .exit)) (now (elapsed .exit))) (lentOf (now (route .exit)) (now (log .exit)))) ⌝ }
+    ensures { λ h. ⌜ MakeContract (now (card .entry)) (headerIn start) (areas ranks pairs live down estimates elapsed) (lent route log)
+        (now (script .entry)) (now (out .entry)) (now (out .exit)) (headerIn h) ⌝ }
 {
     let n = script_words::turns(script.len(), out.len());
     let mut h = start;
     let mut k = 0;
     while k < n {
         let c = script_words::call_at(script, k);
+        let roads = script_words::entries_at(script, k, 2, route.len());
+        let logged = script_words::entries_at(script, k, 3, log.len());
         let r = dispatch::call(
             h,
             card,
@@ -41,8 +40,8 @@ fn make_calls(
             down,
             estimates,
             elapsed,
-            route,
-            log,
+            &mut route[..roads],
+            &mut log[..logged],
             c,
         );
         h = r.header;
@@ -53,7 +52,8 @@ fn make_calls(
     h
 }
 
-// Prepares the card and makes the calls of a script, three words each, through `call`; writes four words for each answer. Hands back preparing's answer and the last header.
+// Prepares the card and makes the calls of a script, four words each, through `call`; writes four words for each answer.
+// Hands back preparing's answer and the last header.
 pub fn replay(
     card: &[u8],
     ranks: &mut [u32],
@@ -67,10 +67,8 @@ pub fn replay(
     script: &[u32],
     out: &mut [u64],
 ) -> Answered
-    ensures { λ r. ⌜ ReplayContract (now (card .entry))
-        (areasOf (now (ranks .entry)) (now (pairs .entry)) (now (live .entry)) (now (down .entry)) (now (estimates .entry)) (now (elapsed .entry)))
-        (lentOf (now (route .entry)) (now (log .entry))) (now (script .entry)) (min (length (now (script .entry)) / 3) (length (now (out .entry)) / 4)) (now (out .entry)) (now (out .exit)) (answeredIn r)
-        (areasOf (now (ranks .exit)) (now (pairs .exit)) (now (live .exit)) (now (down .exit)) (now (estimates .exit)) (now (elapsed .exit))) (lentOf (now (route .exit)) (now (log .exit))) ⌝ }
+    ensures { λ r. ⌜ ReplayContract (now (card .entry)) (areas ranks pairs live down estimates elapsed) (lent route log)
+        (now (script .entry)) (now (out .entry)) (now (out .exit)) (answeredIn r) ⌝ }
 {
     let prepared = switch_on::prepare(card, ranks, pairs, live, down, estimates, elapsed);
     let header = prepared.header;

@@ -43,30 +43,39 @@ module _ (n count : ℕ) (order ranks pairs down : List ℕ) (s : ℕ) (e e′ t
   pot-word roads live m z r a = est .exact roads (r .prepared) z a .0 ∙ ap word (sym (codes r .pots s))
 
   pub begun-none : eqb v noneWord ≡ true → Begun n count order ranks pairs down s e e′ times keys wins
-  begun-none b roads live vias m z r a =
-      let k = codes r in
-      let ls : s < goIn roads order live s z .size = rw (k .size-is) (r .start) in
-      let p = word-none v (goIn roads order live s z .pot s) (pot-word roads live m z r a) (λ p q. k .ok .pots s p ls q) (eqb-true v noneWord b) in
-      record {
-        labels = labels-none (k .starts) z m times keys vias (λ u lu. blank u (rw (k .size-is) at lu)) (λ u lu. keyless u (rw (k .size-is) at lu)) p;
-        winners = rw (r .n-is) fresh-winners;
-        filling = asks-start roads live m z r a;
-      }
+  begun-none b = record {
+    kept = est .kept;
+    exact = λ roads live vias m z r a.
+        let k = codes r in
+        let ls : s < goIn roads order live s z .size = rw (k .size-is) (r .start) in
+        let w = pot-word roads live m z r a in
+        let p = word-none v (goIn roads order live s z .pot s) w (λ p q. k .ok .pots s p ls q) (eqb-true v noneWord b) in
+        record {
+          labels =
+              labels-none (k .starts) z m times keys vias (λ u lu. blank u (rw (k .size-is) at lu))
+              (λ u lu. keyless u (rw (k .size-is) at lu)) p;
+          winners = rw (r .n-is) fresh-winners;
+          filling = asks-start roads live m z r a;
+        };
+  }
 
   pub begun-first : (x y : ℕ) (wins′ : List ℕ) → eqb v noneWord ≡ false → x ≡ 0 → y ≡ v → s < n → n ≤ length keys → Entered (set keys s y) wins wins′ s
       → Begun n count order ranks pairs down s e e′ (set times s x) (set keys s y) wins′
-  begun-first x y wins′ b ex ey ls lk ent roads live vias m z r a =
-      let k = codes r in
-      let p = word-some v (goIn roads order live s z .pot s) (pot-word roads live m z r a) (eqb-false v noneWord b) in
-      let key-is : getD (set keys s y) s 0 ≡ y = getD-set-same keys s y 0 (omega arith) in
-      let low : y ≤ 4095000000 = (let q = k .ok .pots s (p .0) (rw (k .size-is) ls) (p .1) in omega (arith, p .2)) in
-      let t : length times ≡ length times₀ = ap length cleared ∙ length-replicate (length times₀) noneWord in
-      record {
-        labels =
-            labels-first (k .starts) z m times keys vias (λ u lu. blank u (rw (k .size-is) at lu)) (λ u lu. keyless u (rw (k .size-is) at lu))
-            (p .0) x y (p .1) ex (ey ∙ p .2) (omega arith) (omega arith);
-        winners =
-            ent .winners keys (mapIn roads order .vertices) (ap (set keys s) (sym key-is)) (omega (arith, key-is, keyless s ls, low)) (rw (r .n-is) ls)
-            (rw (r .n-is) (omega (arith, length-set keys s y))) (rw (r .n-is) fresh-winners);
-        filling = asks-start roads live m z r a;
-      }
+  begun-first x y wins′ b ex ey ls lk ent = record {
+    kept = est .kept;
+    exact = λ roads live vias m z r a.
+        let k = codes r in
+        let p = word-some v (goIn roads order live s z .pot s) (pot-word roads live m z r a) (eqb-false v noneWord b) in
+        let key-is : getD (set keys s y) s 0 ≡ y = getD-set-same keys s y 0 (omega arith) in
+        let low : y ≤ 4095000000 = (let q = k .ok .pots s (p .0) (rw (k .size-is) ls) (p .1) in omega (arith, p .2)) in
+        let t : length times ≡ length times₀ = ap length cleared ∙ length-replicate (length times₀) noneWord in
+        record {
+          labels =
+              labels-first (k .starts) z m times keys vias (λ u lu. blank u (rw (k .size-is) at lu))
+              (λ u lu. keyless u (rw (k .size-is) at lu)) (p .0) x y (p .1) ex (ey ∙ p .2) (omega arith) (omega arith);
+          winners =
+              ent .winners keys (mapIn roads order .vertices) (ap (set keys s) (sym key-is)) (omega (arith, key-is, keyless s ls, low))
+              (rw (r .n-is) ls) (rw (r .n-is) (omega (arith, length-set keys s y))) (rw (r .n-is) fresh-winners);
+          filling = asks-start roads live m z r a;
+        };
+  }

@@ -4,6 +4,7 @@ use mathlib.Core.List.{List}
 use Prim.Native.Nat.{ℕ}
 use lib.ListN.{length}
 use Rattle.model.specs.Bytes.{listed}
+use Rattle.model.specs.Contracts.{Kept}
 use Rattle.model.specs.Good.{AimFacts}
 use Rattle.network.specs.Bodies.{mapIn}
 use Rattle.keys.specs.Keys.{kept}
@@ -18,6 +19,11 @@ pub record Over (roads order live : List ℕ) (n s z : ℕ) (down e₀ log₀ e 
   pub elapsed-is : elapsed ≡ listed (length times) (kept keys times)
   pub timed : length times ≡ n
 
-abbrev pub Logs : (roads order ranks pairs live down : List ℕ) (n m count s z : ℕ) (e₀ log₀ e elapsed vias log : List ℕ) (c : ℕ) → Type 0
-Logs roads order ranks pairs live down n m count s z e₀ log₀ e elapsed vias log c =
-    Ready roads order ranks pairs live n m count s z → AimFacts (mapIn roads order) z down e₀ → Over roads order live n s z down e₀ log₀ e elapsed vias log c
+-- from the start to the end
+pub record Logs (roads order ranks pairs live down : List ℕ) (n m count s z : ℕ)
+    (e₀ log₀ e elapsed vias log : List ℕ) (c : ℕ) : Type 0 where
+  -- on any contents: what is filled stays
+  pub kept : Kept e₀ e
+  -- in a state that is ready
+  pub exact : Ready roads order ranks pairs live n m count s z → AimFacts (mapIn roads order) z down e₀
+      → Over roads order live n s z down e₀ log₀ e elapsed vias log c

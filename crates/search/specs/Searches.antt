@@ -10,6 +10,7 @@ use Rattle.graph.specs.Search.{countOf, history, logOf, routeOf, timeIn, totalO
 use Rattle.model.specs.Word.{noneWord, word}
 use Rattle.model.specs.Bytes.{listed}
 use Rattle.model.specs.Calls.{asks, filled, first, goRoute, liveOf, settable}
+use Rattle.model.specs.Contracts.{Kept}
 use Rattle.model.specs.Good.{AimFacts}
 use Rattle.network.specs.Bodies.{Prepared, mapIn}
 use Rattle.labels.specs.Labelled.{word-none, word-some}
@@ -27,12 +28,14 @@ pub record Found (roads order live : List ℕ) (s z : ℕ) (e₀ route₀ log₀
   pub route-is : route ≡ goRoute (totalOf (goIn roads order live s z)) (routeOf (goIn roads order live s z)) route₀
   pub log-is : log ≡ first (vertices (logOf (goIn roads order live s z))) log₀
 
--- where preparing and aim left the areas, and each live time is one that set allows
-abbrev pub Searches : (roads order ranks pairs live down : List ℕ) (count s z : ℕ) (e₀ route₀ log₀ e elapsed route log : List ℕ) (total logged number : ℕ) → Type 0
-Searches roads order ranks pairs live down count s z e₀ route₀ log₀ e elapsed route log total logged number =
-    Prepared roads order ranks pairs count → AimFacts (mapIn roads order) z down e₀
-    → ((i : ℕ) → i < mapIn roads order .base .arcs → settable (mapIn roads order .base .cost i) (liveOf live i) ≡ true)
-    → Found roads order live s z e₀ route₀ log₀ e elapsed route log total logged number
+pub record Searches (roads order ranks pairs live down : List ℕ) (count s z : ℕ)
+    (e₀ route₀ log₀ e elapsed route log : List ℕ) (total logged number : ℕ) : Type 0 where
+  -- on any contents: what is filled stays
+  pub kept : Kept e₀ e
+  -- where preparing and aim left the areas, and each live time is one that set allows
+  pub exact : Prepared roads order ranks pairs count → AimFacts (mapIn roads order) z down e₀
+      → ((i : ℕ) → i < mapIn roads order .base .arcs → settable (mapIn roads order .base .cost i) (liveOf live i) ≡ true)
+      → Found roads order live s z e₀ route₀ log₀ e elapsed route log total logged number
 
 -- the word of the total tells whether there is a path
 module _ {roads order live : List ℕ} {s z : ℕ} {e₀ route₀ log₀ e elapsed route log : List ℕ} {total count number : ℕ} (f : Found roads order live s z e₀ route₀ log₀ e elapsed route log total count number) where

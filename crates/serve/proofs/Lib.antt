@@ -1,1 +1,3 @@
 mod Areas
+mod Cards
+mod Talks

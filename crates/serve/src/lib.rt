@@ -1,89 +1,196 @@
 // The program: reads its card, then lines to the end of the input, and writes each answer at once.
 ghost use mathlib.Core.Path.{_≡_};
-ghost use Prim.Native.Nat.{_-_, _≤_};
+ghost use mathlib.Core.List.{List};
+ghost use Prim.Native.Nat.{ℕ};
+ghost use lib.ListN.{length, take};
 ghost use Rattle.io.specs.Counts.{Counts};
-ghost use Rattle.model.specs.Card.{readCard};
-ghost use Rattle.shell.specs.Opening.{junctionRoom, roadRoom};
+ghost use Rattle.lines.specs.Holds.{Holds};
+ghost use Rattle.console.specs.Lines.{lineOf};
+ghost use Rattle.unit.specs.Lending.{areas, lent};
+ghost use Rattle.shell.specs.Opening.{Lends, opening};
+ghost use Rattle.serve.specs.Serving.{Begun, Runs, Served, Starts, Turns, heldIn};
 use lines::Reader;
+use shell::Opened;
+use unit::Header;
 
 // The longest card that is read, and one byte more, which shows that a file is longer.
 const FILE_ROOM: usize = 32769;
 
-// Writes the first k bytes.
-fn print(output: i32, out: &[u8], k: usize) {
-    if k <= out.len() {
-        io::write_all(output, &out[0..k]);
-    }
-}
+// ---- a line
 
-// ---- lines
-
-// The input, and how many lines may still be answered, with the one that is ready: 0 where none is.
-struct Listening {
+// What travels from line to line: the input as far as it is read, the unit's header, how many bytes were printed last, and the descriptors of input and output.
+struct Talk {
     reader: Reader,
-    lines: u64,
-}
-
-// Before the first line. A proved loop has to end, and nothing says that an input does: so lines are counted down, from a number that no run uses up.
-fn begin(prepared: bool) -> Listening {
-    Listening {
-        reader: lines::at_start(),
-        lines: if prepared { u64::MAX } else { 0 },
-    }
-}
-
-// Writes the first k bytes, then reads the next line, if one may come.
-fn turn(
-    from: Listening,
+    header: Header,
+    said: usize,
     input: i32,
     output: i32,
-    text: &[u8; shell::OUT_ROOM],
-    k: usize,
+}
+
+// The first k bytes of an area.
+fn text_of(out: &[u8], k: usize) -> &[u8]
+    ensures { λ r. ⌜ now r ≡ take k (now (out .entry)) ⌝ }
+{
+    if k < out.len() {
+        return &out[0..k];
+    }
+    out
+}
+
+// Hands a text to the operating system, whole, and answers its length.
+fn say(output: i32, text: &[u8]) -> usize
+    ensures { λ r. ⌜ r ≡ length (now (text .entry)) ⌝ }
+{
+    io::write_all(output, text);
+    text.len()
+}
+
+// Says a text, then reads the next line, if there is one.
+fn turn(
+    from: Talk,
+    header: Header,
+    text: &[u8],
     chunk: &mut [u8; lines::CHUNK_ROOM],
     line: &mut [u8; lines::LINE_ROOM],
-) -> Listening
-    ensures { λ r. ⌜ r .lines ≤ from .lines - 1 ⌝ }
+) -> Talk
+    ensures { λ r. ⌜ Turns from header (now (text .entry)) (now (chunk .entry)) r (now (chunk .exit)) (now (line .exit)) ⌝ }
 {
-    let left = from.lines;
     let before = from.reader;
-    print(output, text, k);
-    if left == 0 {
-        return from;
-    }
-    let r = lines::next_line(input, before, chunk, line);
-    if r.ready {
-        return Listening {
-            reader: r,
-            lines: left - 1,
-        };
-    }
-    Listening {
-        reader: r,
-        lines: 0,
+    let input = from.input;
+    let output = from.output;
+    let said = say(output, text);
+    let reader = lines::next_line(input, before, chunk, line);
+    Talk {
+        reader: reader,
+        header: header,
+        said: said,
+        input: input,
+        output: output,
     }
 }
 
 // The line that is ready.
-fn heard(l: Listening, line: &[u8; lines::LINE_ROOM]) -> &[u8] {
+fn heard(l: Talk, line: &[u8; lines::LINE_ROOM]) -> &[u8]
+    ensures { λ r. ⌜ ((xs : List ℕ) → Holds (l .reader .part) (now (line .entry)) xs → lineOf (now r) ≡ lineOf xs) ⌝ }
+{
     let r = l.reader;
     let part = r.part;
     shell::kept_line(part, line)
 }
 
+// Says what is to be said first, then answers lines until there is none.
+fn answer_lines(
+    from: Talk,
+    file: &[u8],
+    ranks: &[u32],
+    pairs: &[u32; shell::PAIRS_ROOM],
+    live: &mut [u32],
+    down: &mut [u32],
+    estimates: &mut [u32],
+    elapsed: &mut [u32],
+    route: &mut [u32; 200],
+    log: &mut [u32; 200],
+    out: &mut [u8; shell::OUT_ROOM],
+) -> Talk
+    ensures { λ r. ⌜ Served (now (file .entry))
+        (heldIn from (areas ranks pairs live down estimates elapsed .entry) (lent route log .entry) (now (out .entry))) (from .reader)
+        (heldIn r (areas ranks pairs live down estimates elapsed .exit) (lent route log .exit) (now (out .exit))) r ⌝ }
+{
+    let mut chunk = [0u8; lines::CHUNK_ROOM];
+    let mut line = [0u8; lines::LINE_ROOM];
+    let first = from.header;
+    let said = from.said;
+    let mut l = turn(from, first, text_of(out, said), &mut chunk, &mut line);
+    while l.reader.ready {
+        let reply = shell::answer_line(
+            heard(l, &line),
+            l.header,
+            file,
+            ranks,
+            pairs,
+            live,
+            down,
+            estimates,
+            elapsed,
+            route,
+            log,
+            out,
+        );
+        let header = reply.header;
+        let length = reply.length;
+        l = turn(l, header, text_of(out, length), &mut chunk, &mut line);
+    }
+    l
+}
+
 // ---- the card
 
-// Opens the card, with the areas of a map of n junctions and m roads, and room for 4,000 pairs; a prepared unit answers each line.
-fn serve(file: &[u8], n: usize, m: usize, input: i32, output: i32)
-    requires { ⌜ (n ≤ 200) × (m ≤ 800) × (n ≡ junctionRoom (readCard (now file))) × (m ≡ roadRoom (readCard (now file))) ⌝ }
+// Before the first line. A card that does not open has a line to be said, and none is read.
+fn begin(opened: Opened, input: i32, output: i32) -> Talk
+    ensures { λ r. ⌜ Begun opened r ⌝ }
 {
+    let header = opened.header;
+    Talk {
+        reader: lines::at_start(opened.prepared),
+        header: header,
+        said: opened.length,
+        input: input,
+        output: output,
+    }
+}
+
+// Opens the card in lent areas; a prepared unit answers each line.
+fn serve(
+    file: &[u8],
+    ranks: &mut [u32],
+    pairs: &mut [u32; shell::PAIRS_ROOM],
+    live: &mut [u32],
+    down: &mut [u32],
+    estimates: &mut [u32],
+    elapsed: &mut [u32],
+    route: &mut [u32; 200],
+    log: &mut [u32; 200],
+    out: &mut [u8; shell::OUT_ROOM],
+    input: i32,
+    output: i32,
+) -> Talk
+    ensures { λ r. ⌜ (Lends (now (file .entry)) (areas ranks pairs live down estimates elapsed .entry)
+        → Runs (now (file .entry)) (opening (now (file .entry)) (areas ranks pairs live down estimates elapsed .entry)) (lent route log .entry)
+        (heldIn r (areas ranks pairs live down estimates elapsed .exit) (lent route log .exit) (now (out .exit))) r) ⌝ }
+{
+    let opened = shell::open_card(file, ranks, pairs, live, down, estimates, elapsed, out);
+    answer_lines(
+        begin(opened, input, output),
+        file,
+        ranks,
+        pairs,
+        live,
+        down,
+        estimates,
+        elapsed,
+        route,
+        log,
+        out,
+    )
+}
+
+// Lends the areas of the card's map, to 200 junctions and 800 roads, with room for 4,000 pairs.
+fn start(file: &[u8], input: i32, output: i32) -> Talk
+    ensures { λ r. ⌜ Starts (now (file .entry)) r ⌝ }
+{
+    let size = shell::room_for(file);
+    let n = size.n;
+    let m = size.m;
     let mut ranks = [0u32; 200];
     let mut pairs = [0u32; shell::PAIRS_ROOM];
     let mut live = [0u32; 800];
     let mut down = [0u32; 200];
     let mut estimates = [0u32; 200];
     let mut elapsed = [0u32; 200];
+    let mut route = [0u32; 200];
+    let mut log = [0u32; 200];
     let mut out = [0u8; shell::OUT_ROOM];
-    let opened = shell::open_card(
+    serve(
         file,
         &mut ranks[..n],
         &mut pairs,
@@ -91,40 +198,12 @@ fn serve(file: &[u8], n: usize, m: usize, input: i32, output: i32)
         &mut down[..n],
         &mut estimates[..n],
         &mut elapsed[..n],
+        &mut route,
+        &mut log,
         &mut out,
-    );
-    let mut chunk = [0u8; lines::CHUNK_ROOM];
-    let mut line = [0u8; lines::LINE_ROOM];
-    let mut header = opened.header;
-    let mut l = turn(
-        begin(opened.prepared),
         input,
         output,
-        &out,
-        opened.length,
-        &mut chunk,
-        &mut line,
-    );
-    let mut route = [0u32; 200];
-    let mut log = [0u32; 200];
-    while l.lines > 0 {
-        let said = shell::answer_line(
-            heard(l, &line),
-            header,
-            file,
-            &ranks[..n],
-            &pairs,
-            &mut live[..m],
-            &mut down[..n],
-            &mut estimates[..n],
-            &mut elapsed[..n],
-            &mut route,
-            &mut log,
-            &mut out,
-        );
-        header = said.header;
-        l = turn(l, input, output, &out, said.length, &mut chunk, &mut line);
-    }
+    )
 }
 
 // Puts the file at the start of `file` and answers its length; 0 where there is none, or where it cannot be read.
@@ -149,7 +228,5 @@ fn load(path: &[u8], file: &mut [u8]) -> usize
 pub fn run(path: &[u8], input: i32, output: i32) {
     let mut file = [0u8; FILE_ROOM];
     let n = load(path, &mut file);
-    let card = &file[..n];
-    let size = shell::room_for(card);
-    serve(card, size.n, size.m, input, output);
+    start(&file[..n], input, output);
 }

@@ -13,23 +13,28 @@ use native.Mathlib.Omega.{arith}
 use Rattle.graph.specs.Total.{Tested, Total, decide, none-some, some-some, true-false}
 use Rattle.graph.specs.Least.{firstBelow}
 use Rattle.graph.specs.Map.{Map, pairsOf}
-use Rattle.model.specs.Types.{Accepted, Answer, Answered, AreaLengths, Header, Kinds, Place, Read, Reading, Refusal, Refused, Road, Room, Short, Sizes, Starts, Unreadable}
-use Rattle.model.specs.Card.{andThen, ask, askEach, cardRefusal, kindsOk, mapOn, orderBytes, placeOk, question, readCard, reading, roadBytes, roadOk, rowsOf, rowsRefusal, sizesOk, startsOk}
+use Rattle.model.specs.Types.{Accepted, Answer, Answered, AreaLengths, Header, Kinds, Place, Read}
+use Rattle.model.specs.Types.{Reading, Refusal, Refused, Road, Room, Short, Sizes, Starts, Unreadable}
+use Rattle.model.specs.Card.{andThen, ask, askEach, cardRefusal, kindsOk, mapOn, orderBytes, placeOk}
+use Rattle.model.specs.Card.{question, readCard, reading, roadBytes, roadOk, rowsOf, rowsRefusal, sizesOk, startsOk}
 use Rattle.model.specs.State.{Areas, State, Step, areasRefusal, fresh, lengthsOk, noneLent, prepare, roomRefusal, answering, unless, zeroHeader, zeroed}
 use Rattle.model.specs.Contracts.{after}
 use Rattle.model.specs.Good.{facts-lengths, lengths-facts}
 use Rattle.texts.specs.Areas.{Written}
 use Rattle.console.specs.Texts.{unreadableText}
-use Rattle.shell.specs.Opening.{Ends, Lends, Opening, Opens, judged, junctionRoom, larger, noLine, onCard, onRoom, opening, refusalLine, roadRoom, unlessOver}
+use Rattle.shell.specs.Opening.{Ends, Lends, Opening, Opens, judged, junctionRoom, larger}
+use Rattle.shell.specs.Opening.{noLine, onCard, onRoom, opening, prepared, refusalLine, roadRoom, unlessOver}
 use Rattle.shell.proofs.Bounds.{answer-length, shown-text, unreadable-length}
 
 -- ---- which questions refuse
 
-ask-low : (b : Bool) (q : Refusal) (rest : Option Refusal) (p : Refusal) → question q < 7 → (rest ≡ some p → question p < 7) → ask b q rest ≡ some p → question p < 7
+ask-low : (b : Bool) (q : Refusal) (rest : Option Refusal) (p : Refusal) → question q < 7 → (rest ≡ some p → question p < 7) → ask b q rest ≡ some p
+    → question p < 7
 ask-low true q rest p h g e = g e
 ask-low false q rest p h g e = rw (ap question (some-some refl e)) at h
 
-each-low : (x : Total) (f : ℕ → Refusal) (rest : Option Refusal) (p : Refusal) → ((i : ℕ) → question (f i) < 7) → (rest ≡ some p → question p < 7) → askEach x f rest ≡ some p → question p < 7
+each-low : (x : Total) (f : ℕ → Refusal) (rest : Option Refusal) (p : Refusal) → ((i : ℕ) → question (f i) < 7) → (rest ≡ some p → question p < 7)
+    → askEach x f rest ≡ some p → question p < 7
 each-low none f rest p h g e = g e
 each-low (some i) f rest p h g e = rw (ap question (some-some refl e)) at (h i)
 
@@ -78,13 +83,15 @@ module _ (q : Refusal) (n k : ℕ) (out₀ out : List ℕ) (asked : n ≡ questi
   pub refused-line : n ≢ 7 → Written out₀ (noLine q) out k → Written out₀ (refusalLine q) out k
   refused-line h = subst (λ (t : List ℕ). Written out₀ t out k) (sym (line-plain q (λ e. h (asked ∙ e))))
 
-pub over-way : (bytes k : ℕ) (out₀ out : List ℕ) (o : Opening) → 32768 < bytes → 8192 ≤ length out₀ → Written out₀ unreadableText out k → Ends (take k out) ≡ unlessOver bytes o
+pub over-way : (bytes k : ℕ) (out₀ out : List ℕ) (o : Opening) → 32768 < bytes → 8192 ≤ length out₀ → Written out₀ unreadableText out k
+    → Ends (take k out) ≡ unlessOver bytes o
 over-way bytes k out₀ out o h g w = rw (lt-ltb 32768 bytes h) (ap Ends (shown-text unreadableText out₀ out k unreadable-length g w))
 
 pub within-way : (bytes : ℕ) (o p : Opening) → bytes ≤ 32768 → o ≡ p → o ≡ unlessOver bytes p
 within-way bytes o p h e = rw (le-ltb 32768 bytes h) e
 
-pub refused-way : (q : Refusal) (h : Header) (x : Answer) (a : Areas) (k : ℕ) (out₀ out : List ℕ) → x ≡ Refused q → 8192 ≤ length out₀ → Written out₀ (refusalLine q) out k → Ends (take k out) ≡ judged h x a
+pub refused-way : (q : Refusal) (h : Header) (x : Answer) (a : Areas) (k : ℕ) (out₀ out : List ℕ) → x ≡ Refused q → 8192 ≤ length out₀
+    → Written out₀ (refusalLine q) out k → Ends (take k out) ≡ judged h x a
 refused-way q h x a k out₀ out u g w = ap Ends (shown-text (refusalLine q) out₀ out k (refusal-length q) g w) ∙ ap (λ (y : Answer). judged h y a) (sym u)
 
 -- what a preparing comes to
@@ -99,10 +106,16 @@ opens-opens p q = cc
 
 accepted : (x y : Option Refusal) (b c s : State) (t : State)
     → judgedStep (unless x b noneLent (unless y c noneLent (answering Accepted s))) ≡ Opens t
-    → (unless x b noneLent (unless y c noneLent (answering Accepted s)) .answer ≡ Accepted) × (unless x b noneLent (unless y c noneLent (answering Accepted s)) .state ≡ t)
+    → (unless x b noneLent (unless y c noneLent (answering Accepted s)) .answer ≡ Accepted)
+    × (unless x b noneLent (unless y c noneLent (answering Accepted s)) .state ≡ t)
 accepted none none b c s t e = (refl, opens-opens refl e)
 accepted none (some q) b c s t e = absurd (ends-opens refl e)
 accepted (some q) y b c s t e = absurd (ends-opens refl e)
+
+pub prepared-way : (file : List ℕ) (a : Areas) (r : Answered) (b : Areas) (o : Areas → Opening) → after r b noneLent ≡ prepare file a
+    → ((k : Areas) → o k ≡ unlessOver (length file) (judged (r .header) (r .answer) k)) → o b ≡ prepared file a
+unfolding prepared
+prepared-way file a r b o e f = f b ∙ ap (λ (u : Step). unlessOver (length file) (judgedStep u)) e
 
 module _ (file : List ℕ) (a : Areas) (lends : Lends file a) where
   abbrev M : Map
@@ -162,9 +175,10 @@ module _ (file : List ℕ) (a : Areas) (lends : Lends file a) where
   after-questions none e = after-card e (decide (ltb 200 (M .vertices))) (decide (ltb 800 (M .base .arcs)))
   after-questions (some q) e = ap Ends (line-plain q (λ h. omega (arith, card-low file q e, h)))
 
-  pub open-way : (r : Answered) (b : Areas) (o : Areas → Opening) → after r b noneLent ≡ prepare file a → ((k : Areas) → o k ≡ unlessOver (length file) (judged (r .header) (r .answer) k)) → o b ≡ opening file a
-  unfolding opening prepare areasRefusal
-  open-way r b o e f = f b ∙ ap (unlessOver (length file)) (ap judgedStep e ∙ after-questions (cardRefusal file) refl)
+  -- with these areas a preparing comes to what document 01 says
+  pub prepared-opens : prepared file a ≡ opening file a
+  unfolding opening prepare prepared areasRefusal
+  prepared-opens = ap (unlessOver (length file)) (after-questions (cardRefusal file) refl)
 
   -- ---- a card that opens was prepared
 

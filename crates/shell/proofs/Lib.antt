@@ -2,4 +2,4 @@ mod Bounds
 mod Cards
 mod Lines
 mod Longs
-mod Programs
+pub mod Programs

@@ -1,15 +1,16 @@
 -- What the program makes of its card. "The program reads `unit.card` (to 200 junctions, 800 roads) with room for 4,000 pairs". Definitions only.
 use mathlib.Core.Path.{_≡_}
-use mathlib.Core.Bool.{Bool, _||_, cond}
+use mathlib.Core.Bool.{Bool, _||_, cond, true}
 use mathlib.Core.Option.{Option, none, some}
 use mathlib.Core.List.{List, []}
 use Prim.Native.Nat.{min, ℕ}
+use denote.Triple.Both.{Both}
 use lib.Dec.{eqb, ltb}
 use lib.ListN.{length, take}
 use Rattle.graph.specs.Map.{Map}
 use Rattle.model.specs.Types as model
 use Rattle.model.specs.Card.{cardRefusal, mapOn, question, readCard}
-use Rattle.model.specs.State.{Areas, State, fresh, roomRefusal}
+use Rattle.model.specs.State.{Areas, State, fresh, prepare, roomRefusal}
 use Rattle.model.specs.Contracts.{before}
 use Rattle.unit.specs.Shape.{headerIn}
 use Rattle.console.specs.Texts.{answerText, unreadableText}
@@ -78,3 +79,13 @@ judged h (model.Refused q) a = Ends (refusalLine q)
 judged h model.Accepted a = Opens (before h a)
 judged h (model.Estimated t) a = Opens (before h a)
 judged h (model.Gone t c k) a = Opens (before h a)
+
+-- a preparing of any areas, and what it comes to
+unfoldable pub prepared : (file : List ℕ) → Areas → Opening
+prepared file a = unlessOver (length file) (judged (prepare file a .state .header) (prepare file a .answer) (prepare file a .state .areas))
+
+-- the contract of `open_card`: for any areas; for those of `Lends`, what document 01 says; and nothing is printed where the card opens
+pub record OpensCard (file : List ℕ) (a : Both Areas Areas) (out : List ℕ) (r : Opened) : Type 0 where
+  pub always : openedIn r out (a .exit) ≡ prepared file (a .entry)
+  pub right : Lends file (a .entry) → openedIn r out (a .exit) ≡ opening file (a .entry)
+  pub quiet : r .prepared ≡ true → r .length ≡ 0

@@ -1,9 +1,10 @@
--- Lines answered one after the other from a prepared card: what is printed is what the plain machine answers, and demand 3 holds of the calls of the readable lines. Assumes nothing.
+-- Lines answered one after the other from a prepared card: what is printed is what the plain machine answers, and demand 3 holds of the
+-- calls of the readable lines. Assumes nothing.
 use mathlib.Core.Path.{_∙_, _≡_, ap, ap₂, refl, subst, sym}
 use mathlib.Core.Option.{Option, none, some}
 use mathlib.Core.List.{List, [], _++_, _∷_, map}
 use Prim.Native.Nat.{ℕ}
-use lib.ListN.{length, take}
+use lib.ListN.{length, replicate, take}
 use lib.Seq.{take-length}
 use Rattle.graph.specs.Total.{Total}
 use Rattle.graph.specs.Search.{Problem, countOf, routeOf}
@@ -12,7 +13,7 @@ use Rattle.model.specs.Types.{Accepted, Answer, Header, Refusal}
 use Rattle.model.specs.Card.{mapOn}
 use Rattle.model.specs.State.{Areas, Lent, State, Step, prepare}
 use Rattle.model.specs.Calls as model
-use Rattle.model.specs.Machine.{Machine, Told, goTold, machineStep, plain, plainSearch, started, unlessAsked}
+use Rattle.model.specs.Machine.{Machine, Plain, Told, goTold, machineStep, plain, plainGo, plainSearch, started, unlessAsked}
 use Rattle.model.specs.Demand3.{Demand3}
 use Rattle.model.specs.Contracts.{after, before}
 use Rattle.model.specs.Chain.{Chain, chain-demand3}
@@ -25,7 +26,7 @@ use Rattle.answer_texts.specs.Texts.{tripText}
 use Rattle.console.specs.Texts.{answerText, newline, unreadableText}
 use Rattle.console.specs.declared.Line.{Line}
 use Rattle.console.specs.declared.Line.the-variants.{Call, Unreadable}
-use Rattle.shell.specs.Answering.{Answers}
+use Rattle.shell.specs.Answering.{Answers, Roomy}
 
 -- ---- definitions
 
@@ -52,30 +53,40 @@ abbrev pub callsOf : List Turn → List model.Call
 callsOf [] = []
 callsOf (t ∷ l) = callOn (lineOf (t .line)) (t .lent) (callsOf l)
 
--- the line that the plain machine's answer prints; an unreadable one prints `no 0` and changes nothing
-abbrev pub toldOn : Line → Lent → Map → Machine → (Machine → List (List ℕ)) → List (List ℕ)
-toldOn Unreadable l M m rest = unreadableText ∷ rest m
-toldOn (Call c) l M m rest =
-    let t = machineStep M m (plain (callIn c l)) in
+-- the line that the plain machine's answer prints, fed with the lengths of areas of 200 words; an unreadable one prints `no 0` and changes nothing
+abbrev words200 : Lent
+words200 = record { route = replicate 200 0; log = replicate 200 0 }
+
+abbrev pub toldOn : Line → Map → Machine → (Machine → List (List ℕ)) → List (List ℕ)
+toldOn Unreadable M m rest = unreadableText ∷ rest m
+toldOn (Call c) M m rest =
+    let t = machineStep M m (plain (callIn c words200)) in
     answerText (t .answer) (t .roads) ∷ rest (t .next)
 
-abbrev pub machineTexts : List Turn → Map → Machine → List (List ℕ)
+-- what the plain machine's answers to lines print, one after the other
+abbrev pub machineTexts : (lines : List (List ℕ)) → Map → Machine → List (List ℕ)
 machineTexts [] M m = []
-machineTexts (t ∷ l) M m = toldOn (lineOf (t .line)) (t .lent) M m (machineTexts l M)
+machineTexts (l ∷ lines) M m = toldOn (lineOf l) M m (machineTexts lines M)
+
+abbrev pub linesIn : List Turn → List (List ℕ)
+linesIn turns = map (λ (t : Turn). t .line) turns
+
+abbrev pub textsIn : List Turn → List (List ℕ)
+textsIn turns = map (λ (t : Turn). t .text) turns
 
 -- what the calls answered and left, with demand 3; and what was printed
 pub record Conversed (card : List ℕ) (turns : List Turn) : Type 0 where
   pub results : List Step
   pub demand : Demand3 (mapOn card) (started (mapOn card)) (callsOf turns) results
-  pub printed : map (λ (t : Turn). t .text) turns ≡ machineTexts turns (mapOn card) (started (mapOn card))
+  pub printed : textsIn turns ≡ machineTexts (linesIn turns) (mapOn card) (started (mapOn card))
 
 -- ---- the calls, one after the other
 
--- each text is that of its call's answer
+-- each text is that of its call's answer, and go's areas have 200 words each
 abbrev PrintsOn : Line → Turn → (List Step → Type 0) → List Step → Type 0
 PrintsOn Unreadable t rest r = (t .text ≡ unreadableText) × rest r
 PrintsOn (Call c) t rest [] = ⊥
-PrintsOn (Call c) t rest (u ∷ r) = (u .lent ≡ lentAfter c (t .left)) × (t .text ≡ answerText (u .answer) (t .left .route)) × rest r
+PrintsOn (Call c) t rest (u ∷ r) = (u .lent ≡ lentAfter c (t .left)) × (t .text ≡ answerText (u .answer) (t .left .route)) × rest r × Roomy (t .lent)
 
 abbrev Prints : List Turn → List Step → Type 0
 Prints [] [] = Unit {0}
@@ -90,7 +101,11 @@ chained card (t ∷ l) s w = on (lineOf (t .line)) (w .0) (chained card l (befor
         → ((r : List Step) × Chain card (before (t .header) (t .areas)) (callsOf l) r × Prints l r)
         → (r : List Step) × Chain card s (callOn x (t .lent) (callsOf l)) r × PrintsOn x t (Prints l) r
     on Unreadable a rest = (rest .0, subst (λ (z : State). Chain card z (callsOf l) (rest .0)) (a .state) (rest .1), (a .printed, rest .2))
-    on (Call c) a rest = (after (record { header = t .header; answer = a .answer }) (t .areas) (lentAfter c (t .left)) ∷ rest .0, (a .called .meets, rest .1), (refl, a .printed, rest .2))
+    on (Call c) a rest = (
+      after (record { header = t .header; answer = a .answer }) (t .areas) (lentAfter c (t .left)) ∷ rest .0,
+      (a .called .meets, rest .1),
+      (refl, a .printed, rest .2, a .room),
+    )
 
 -- ---- what the machine's answer prints
 
@@ -111,26 +126,40 @@ machine-text : (M : Map) (m : Machine) (c : unit.Call) (l k : Lent) → let t = 
 machine-text M m (Set i t) l k h = unless-text (model.setRefusal (M .base .arcs) (M .base .cost) i (t .0)) m _ (k .route) refl
 machine-text M m (Aim j) l k h = unless-text (model.aimRefusal (M .vertices) (j .0)) m _ (k .route) refl
 machine-text M m (Estimate j) l k h = unless-text (model.estimateRefusal (M .vertices) (m .target) (j .0)) m _ (k .route) refl
-machine-text M m (Go j) l k h = go-text (model.goRefusal (M .vertices) (m .target) (j .0) (length (l .route)) (length (l .log))) (timeOf M (m .live) (j .0) (model.targetOf (m .target))) (plainSearch M (m .live) (j .0) (model.targetOf (m .target))) m (k .route) h
+machine-text M m (Go j) l k h =
+    go-text (model.goRefusal (M .vertices) (m .target) (j .0) (length (l .route)) (length (l .log)))
+    (timeOf M (m .live) (j .0) (model.targetOf (m .target))) (plainSearch M (m .live) (j .0) (model.targetOf (m .target))) m (k .route) h
 
-texts : (M : Map) (turns : List Turn) (m : Machine) (r : List Step) → Demand3 M m (callsOf turns) r → Prints turns r → map (λ (t : Turn). t .text) turns ≡ machineTexts turns M m
+-- only the lengths of go's areas are told to the machine
+told-of : (c : unit.Call) (l : Lent) → Roomy l → plain (callIn c l) ≡ plain (callIn c words200)
+told-of (Set i t) l h = refl
+told-of (Aim j) l h = refl
+told-of (Estimate j) l h = refl
+told-of (Go j) l h = ap₂ (plainGo (j .0)) (h .0) (h .1)
+
+texts : (M : Map) (turns : List Turn) (m : Machine) (r : List Step) → Demand3 M m (callsOf turns) r → Prints turns r
+    → textsIn turns ≡ machineTexts (linesIn turns) M m
 texts M [] m [] d p = refl
 texts M [] m (u ∷ r) d p = absurd p
 texts M (t ∷ l) m r d p = on (lineOf (t .line)) r d p (λ n q e f. texts M l n q e f)
   where
     on : (x : Line) (r : List Step) → Demand3 M m (callOn x (t .lent) (callsOf l)) r → PrintsOn x t (Prints l) r
-        → ((n : Machine) (q : List Step) → Demand3 M n (callsOf l) q → Prints l q → map (λ (z : Turn). z .text) l ≡ machineTexts l M n)
-        → map (λ (z : Turn). z .text) (t ∷ l) ≡ toldOn x (t .lent) M m (machineTexts l M)
+        → ((n : Machine) (q : List Step) → Demand3 M n (callsOf l) q → Prints l q → textsIn l ≡ machineTexts (linesIn l) M n)
+        → textsIn (t ∷ l) ≡ toldOn x M m (machineTexts (linesIn l) M)
     on Unreadable r d p more = ap₂ _∷_ (p .0) (more m r d (p .1))
     on (Call c) [] d p more = absurd p
     on (Call c) (u ∷ r) d p more =
         let told = machineStep M m (plain (callIn c (t .lent))) in
         let h = ap (λ (k : Lent). take (length (told .roads)) (k .route)) (sym (p .0)) ∙ d .0 .same .roads in
-        ap₂ _∷_ (p .1 ∙ ap (λ (a : Answer). answerText a (t .left .route)) (d .0 .same .answer) ∙ machine-text M m c (t .lent) (t .left) h) (more (told .next) r (d .1) (p .2))
+        ap₂ _∷_ (p .1 ∙ ap (λ (a : Answer). answerText a (t .left .route)) (d .0 .same .answer) ∙ machine-text M m c (t .lent) (t .left) h)
+        (more (told .next) r (d .1) (p .2))
+        ∙ ap (λ (q : Plain). answerText (machineStep M m q .answer) (machineStep M m q .roads) ∷ machineTexts (linesIn l) M (machineStep M m q .next))
+        (told-of c (t .lent) (p .3))
 
 -- ---- the theorem
 
-pub session-right : (card : List ℕ) (a : Areas) (turns : List Turn) → prepare card a .answer ≡ Accepted → Session card (prepare card a .state) turns → Conversed card turns
+pub session-right : (card : List ℕ) (a : Areas) (turns : List Turn) → prepare card a .answer ≡ Accepted → Session card (prepare card a .state) turns
+    → Conversed card turns
 session-right card a turns e w =
     let c = chained card turns (prepare card a .state) w in
     let d = chain-demand3 card a e (callsOf turns) (c .0) (c .1) in

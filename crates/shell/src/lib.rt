@@ -7,14 +7,15 @@ ghost use lib.ListN.{length, take};
 ghost use Rattle.io.specs.Counts.{Counts};
 ghost use Rattle.model.specs.Card.{readCard};
 ghost use Rattle.model.specs.State.{Areas};
-ghost use Rattle.model.specs.Contracts.{areasOf, before};
+ghost use Rattle.model.specs.Contracts.{before};
 ghost use Rattle.network.specs.Refusals.{refusalIn};
 ghost use Rattle.answers.specs.Shape.{answerIn};
-ghost use Rattle.unit.specs.Shape.{headerIn, lentOf};
+ghost use Rattle.unit.specs.Shape.{headerIn};
 ghost use Rattle.console.specs.Lines.{lineOf};
 ghost use Rattle.texts.specs.Areas.{Written};
 ghost use Rattle.lines.specs.Holds.{Holds};
-ghost use Rattle.shell.specs.Opening.{Lends, judged, junctionRoom, openedIn, opening, refusalLine, roadRoom, unlessOver};
+ghost use Rattle.unit.specs.Lending.{areas, lent};
+ghost use Rattle.shell.specs.Opening.{OpensCard, judged, junctionRoom, openedIn, refusalLine, roadRoom, unlessOver};
 ghost use Rattle.shell.specs.Answering.{Answers};
 use answers::Answer;
 use card::Reading;
@@ -80,7 +81,8 @@ fn write_refusal(q: Refusal, out: &mut [u8]) -> usize
 // What a preparing's answer comes to. A file that is too long prints `no 0`, whatever its preparing answers.
 fn judge(bytes: usize, answered: Answered, out: &mut [u8]) -> Opened
     requires { ⌜ 8192 ≤ length (now out) ⌝ }
-    ensures { λ r. ⌜ ((a : Areas) → openedIn r (now (out .exit)) a ≡ unlessOver bytes (judged (headerIn (answered .header)) (answerIn (answered .answer)) a)) ⌝ }
+    ensures { λ r. ⌜ ((a : Areas) → openedIn r (now (out .exit)) a
+        ≡ unlessOver bytes (judged (headerIn (answered .header)) (answerIn (answered .answer)) a)) ⌝ }
     ensures { λ r. ⌜ (r .prepared ≡ true → r .length ≡ 0) ⌝ }
 {
     let header = answered.header;
@@ -116,7 +118,8 @@ fn judge(bytes: usize, answered: Answered, out: &mut [u8]) -> Opened
     }
 }
 
-// Opens a card: its line stands first in `out`, or the areas are prepared and nothing is printed.
+// Opens a card: its line stands first in `out`, or the areas are prepared and nothing is printed. Lent areas of other lengths than
+// `room_for` computes are judged as preparing judges them.
 pub fn open_card(
     file: &[u8],
     ranks: &mut [u32],
@@ -127,10 +130,7 @@ pub fn open_card(
     elapsed: &mut [u32],
     out: &mut [u8; OUT_ROOM],
 ) -> Opened
-    requires { ⌜ Lends (now file) (areasOf (now ranks) (now pairs) (now live) (now down) (now estimates) (now elapsed)) ⌝ }
-    ensures { λ r. ⌜ openedIn r (now (out .exit)) (areasOf (now (ranks .exit)) (now (pairs .exit)) (now (live .exit)) (now (down .exit)) (now (estimates .exit)) (now (elapsed .exit)))
-        ≡ opening (now (file .entry)) (areasOf (now (ranks .entry)) (now (pairs .entry)) (now (live .entry)) (now (down .entry)) (now (estimates .entry)) (now (elapsed .entry))) ⌝ }
-    ensures { λ r. ⌜ (r .prepared ≡ true → r .length ≡ 0) ⌝ }
+    ensures { λ r. ⌜ OpensCard (now (file .entry)) (areas ranks pairs live down estimates elapsed) (now (out .exit)) r ⌝ }
 {
     let prepared = switch_on::prepare(file, ranks, pairs, live, down, estimates, elapsed);
     judge(file.len(), prepared, out)
@@ -173,11 +173,9 @@ pub fn answer_line(
     log: &mut [u32; 200],
     out: &mut [u8; OUT_ROOM],
 ) -> Reply
-    ensures { λ r. ⌜ Answers (now (card .entry))
-        (before (headerIn header) (areasOf (now (ranks .entry)) (now (pairs .entry)) (now (live .entry)) (now (down .entry)) (now (estimates .entry)) (now (elapsed .entry))))
-        (lentOf (now (route .entry)) (now (log .entry))) (lineOf (now (line .entry))) (headerIn (r .header))
-        (areasOf (now (ranks .entry)) (now (pairs .entry)) (now (live .exit)) (now (down .exit)) (now (estimates .exit)) (now (elapsed .exit)))
-        (lentOf (now (route .exit)) (now (log .exit))) (take (r .length) (now (out .exit))) ⌝ }
+    ensures { λ r. ⌜ Answers (now (card .entry)) (before (headerIn header) (areas ranks pairs live down estimates elapsed .entry)) (lent route log .entry)
+        (lineOf (now (line .entry))) (headerIn (r .header)) (areas ranks pairs live down estimates elapsed .exit) (lent route log .exit)
+        (take (r .length) (now (out .exit))) ⌝ }
     ensures { λ r. ⌜ Counts (r .length) (now (out .exit)) ⌝ }
 {
     match console::read_line(line) {

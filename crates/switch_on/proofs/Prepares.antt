@@ -1,5 +1,5 @@
 -- The ways through preparing: questions 1 to 8. Assumes nothing.
-use mathlib.Core.Path.{_∙_, _≡_, ap, refl, subst₂, sym}
+use mathlib.Core.Path.{_∙_, _≡_, ap, subst₂, sym}
 use mathlib.Core.Bool.{false, true}
 use mathlib.Core.Option.{Option, none, some}
 use mathlib.Core.List.{List}
@@ -9,6 +9,7 @@ use Rattle.model.specs.Types.{Answered, AreaLengths, Read, Refusal, Refused, Ro
 use Rattle.model.specs.Card.{cardRefusal, mapOn, readCard, reading}
 use Rattle.model.specs.State.{Areas, areasRefusal, lengthsOk, noneLent, prepare, zeroHeader}
 use Rattle.model.specs.Contracts.{PrepareContract, after}
+use Rattle.model.specs.Laws.{read-is}
 use Rattle.model.specs.Good.{lengths-facts}
 use Rattle.contraction.specs.declared.Contracted.{Contracted}
 use Rattle.contraction.specs.declared.Contracted.the-variants.{Kept, Overflow}
@@ -18,10 +19,6 @@ module _ (card : List ℕ) (a : Areas) where
   unread : (n m : ℕ) (x : Option Refusal) (q : Refusal) → Unreadable q ≡ reading n m x → x ≡ some q
   unread n m none q e = absurd (let z : _≡_ {A = ℕ} 0 1 = cc in omega arith)
   unread n m (some p) q e = let z : q ≡ p = cc in ap some (sym z)
-
-  read-is : (k l n m : ℕ) (x : Option Refusal) → Read n m ≡ reading k l x → (x ≡ none) × (n ≡ k) × (m ≡ l)
-  read-is k l n m none e = (refl, cc, cc)
-  read-is k l n m (some q) e = absurd (let z : _≡_ {A = ℕ} 0 1 = cc in omega arith)
 
   pub prepare-unread : (q : Refusal) → Unreadable q ≡ readCard card → (x : Answered) → x ≡ record { header = zeroHeader; answer = Refused q } → PrepareContract card a a x
   unfolding prepare areasRefusal

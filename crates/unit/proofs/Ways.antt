@@ -20,6 +20,7 @@ use Rattle.model.specs.State.{Areas, Lent, State, Step, answering, fitting}
 use Rattle.model.specs.Calls.{Call, Left, aimCall, aimMade, aimRefusal, aimStep, asks, estimateCall, estimateMade, estimateRefusal, estimateStep, filled, first, goAnswer, goCall, goMade, goRefusal, goRoute, goStep, leaving, liveOf, searchOf, setCall, setRefusal, setStep, settable, step, targetOf}
 use Rattle.model.specs.Contracts.{AimContract, Anywhere, CallContract, EstimateContract, GoContract, HandsBack, SetContract, Writes, asked, baseOn, before, lentTo}
 use Rattle.model.specs.Good.{AimFacts, Aims, Good, left-good}
+use Rattle.model.specs.Laws.{kept-refl}
 use Rattle.model.specs.Chain.{step-lengths}
 use Rattle.network.specs.Bodies.{mapIn}
 use Rattle.descents.specs.Downs.{Descended}
@@ -191,7 +192,7 @@ module _ (card : List ℕ) (h : Header) (a : Areas) (f : fitting card (before h 
         pub go-astray : leb (h .n) (length (lent .route)) && leb (h .n) (length (lent .log)) ≡ true → h .n ≤ z → GoContract card h a lent (a .estimates) (a .elapsed) lent s (record { header = h; answer = Refused Lengths })
         go-astray k x =
             met (goCall s lent) _ (λ w. (let g = left-good w (omega arith) in absurd (out g (aimed-at g .below)))) refl
-            (writes card (before h a) (goCall s lent) _ (go-passes k) refl)
+            (writes card (before h a) (goCall s lent) _ (go-passes k) (record { leaves = refl; kept = kept-refl }))
           where
             out : Good card (before h a) → z < mapOn card .vertices → ⊥
             out g y = omega (arith, g .n-is)
@@ -238,12 +239,12 @@ module _ (card : List ℕ) (h : Header) (a : Areas) (f : fitting card (before h 
           unfolding left-by
           go-made k d y =
               met (goCall s lent) _ (λ w. made (left-good w (omega arith))) refl
-              (writes card (before h a) (goCall s lent) _ (go-passes k) refl)
+              (writes card (before h a) (goCall s lent) _ (go-passes k) (record { leaves = refl; kept = d .kept }))
             where
               made : Good card (before h a) → left-by x e elapsed route log ≡ goStep card (before h a) s lent
               made g =
                   let M = good-map g in
-                  let q = d (good-prepared g) (subst (λ (N : Map). AimFacts N z (a .down) (a .estimates)) (sym M) (aimed-at g))
+                  let q = d .exact (good-prepared g) (subst (λ (N : Map). AimFacts N z (a .down) (a .estimates)) (sym M) (aimed-at g))
                   (subst (λ (N : Map). (i : ℕ) → i < N .base .arcs → settable (N .base .cost i) (liveOf (a .live) i) ≡ true) (sym M) (g .times)) in
                   found-is (roadsIn card (h .m)) (orderIn card (h .n) (h .m)) q y ∙ ap gone-on M ∙ made-is ∙ goes k
 

@@ -3,7 +3,8 @@ use mathlib.Core.Path.{_≡_}
 use mathlib.Core.List.{List, [], _∷_}
 use Prim.Native.Nat.{ℕ}
 use Rattle.model.specs.Types.{Accepted, Answer, Estimated, Gone, Read, Reading, Refused, Unreadable}
-use Rattle.model.specs.Card.{Written, question}
+use Rattle.model.specs.Card.{Rows, question}
+use Rattle.model.specs.Contracts.{WriteContract}
 use Rattle.network.specs.Refusals.{placeOf}
 
 -- 0, or the number of the question that refuses
@@ -28,8 +29,9 @@ answerPlace Accepted = 0
 answerPlace (Estimated t) = 0
 answerPlace (Gone t c k) = 0
 
--- what the writer answers and leaves, as the caller sees it
-pub record Wrote (w : Written) (number place : ℕ) (area : List ℕ) : Type 0 where
-  pub number-is : number ≡ answerNumber (w .answer)
-  pub place-is : place ≡ answerPlace (w .answer)
-  pub area-is : area ≡ w .area
+-- the caller sees the number and the place of an answer that meets the writer's contract
+pub record Wrote (map : Rows) (area areaAfter : List ℕ) (number place : ℕ) : Type 0 where
+  pub answer : Answer
+  pub meets : WriteContract map area areaAfter answer
+  pub number-is : number ≡ answerNumber answer
+  pub place-is : place ≡ answerPlace answer

@@ -1,12 +1,11 @@
 // What C and Rust call: the public functions over plain words and slices. A refusal is its number, and 0 is an acceptance.
 ghost use mathlib.Core.Path.{_≡_};
 ghost use mathlib.Core.List.{[], _∷_};
-ghost use Prim.Native.Nat.{_/_, min};
-ghost use lib.ListN.{length};
-ghost use Rattle.model.specs.Card.{readCard, writeCard};
+ghost use Rattle.model.specs.Card.{readCard};
 ghost use Rattle.card.specs.Answers.{rowsOf};
 ghost use Rattle.model.specs.Types as model;
 ghost use Rattle.model.specs.Contracts.{AimContract, EstimateContract, GoContract, PrepareContract, SetContract, areasOf};
+ghost use Rattle.unit.specs.Lending.{areas, lent};
 ghost use Rattle.script.specs.Script.{ReplayContract};
 ghost use Rattle.unit.specs.Shape.{lentOf};
 ghost use Rattle.unit_c.specs.Words.{Wrote, readingNumber, readingWords};
@@ -41,7 +40,8 @@ pub extern "C" fn card_read(card: &[u8], first: &mut u32, second: &mut u32) -> u
 // Writes the card of a map into `area`. `place` gets the place that questions 5 and 6 name, or 0.
 #[no_mangle]
 pub extern "C" fn card_write(roads: &[u32], order: &[u32], area: &mut [u8], place: &mut u32) -> u32
-    ensures { λ r. ⌜ Wrote (writeCard (rowsOf (now (roads .entry)) (now (order .entry))) (now (area .entry))) r (now (place .exit)) (now (area .exit)) ⌝ }
+    ensures { λ r. ⌜ Wrote (rowsOf (now (roads .entry)) (now (order .entry)))
+        (now (area .entry)) (now (area .exit)) r (now (place .exit)) ⌝ }
 {
     match card::write(roads, order, area) {
         Writing::Accepted => {
@@ -189,9 +189,10 @@ pub extern "C" fn unit_go(
     ))
 }
 
-// Prepares a card on the six areas and makes the calls of a script, three words each: 0 road time, 1 junction _, 2 junction _, any other start _ for set, aim, estimate, go. `out` gets four words for
-// each answer: the question that refuses, or 0; estimate or total; count; number of roads. As many calls are made as the script spells and `out` has room for. What is handed back is preparing's
-// answer with the last header.
+// Prepares a card on the six areas and makes the calls of a script, four words each: 0 road time _, 1 junction _ _, 2 junction _ _,
+// any other start r l for set, aim, estimate, go, which is lent the first r entries of the route and l of the log, all if there are fewer.
+// `out` gets four words for each answer: the question that refuses, or 0; estimate or total; count; number of roads. As many calls are
+// made as the script spells and `out` has room for. What is handed back is preparing's answer with the last header.
 #[no_mangle]
 pub extern "C" fn unit_replay(
     card: &[u8],
@@ -206,7 +207,9 @@ pub extern "C" fn unit_replay(
     script: &[u32],
     out: &mut [u64],
 ) -> UnitAnswer
-    ensures { λ r. ⌜ ((x : model.Answered) × (r ≡ answerWords x) × ReplayContract (now (card .entry)) (areasOf (now (ranks .entry)) (now (pairs .entry)) (now (live .entry)) (now (down .entry)) (now (estimates .entry)) (now (elapsed .entry))) (lentOf (now (route .entry)) (now (log .entry))) (now (script .entry)) (min (length (now (script .entry)) / 3) (length (now (out .entry)) / 4)) (now (out .entry)) (now (out .exit)) x (areasOf (now (ranks .exit)) (now (pairs .exit)) (now (live .exit)) (now (down .exit)) (now (estimates .exit)) (now (elapsed .exit))) (lentOf (now (route .exit)) (now (log .exit)))) ⌝ }
+    ensures { λ r. ⌜ ((x : model.Answered) × (r ≡ answerWords x)
+        × ReplayContract (now (card .entry)) (areas ranks pairs live down estimates elapsed) (lent route log)
+        (now (script .entry)) (now (out .entry)) (now (out .exit)) x) ⌝ }
 {
     types_c::answer_of(script::replay(
         card,

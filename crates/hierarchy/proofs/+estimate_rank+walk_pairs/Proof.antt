@@ -192,7 +192,7 @@ pub +estimate-rank+walk-pairs-spec : {M : Type 1} → statement M
     let start = at-loop .before .before .before .before .before .before in
     let f = leads-facts _ _ _ _ _ (sym (after-leads-up .leads-up .ensures) ∙ then2 .if2 .taken) in
     let p = start .pre .1 in (
-      omega (arith, f .rises, f .below),
+      omega (arith, f .rises, f .below, start .pre .0),
       (f .below, p .1, p .2, p .3, at-loop .loop .inv .1, p .5, p .6),
     ))
     (λ c κs. search needs)

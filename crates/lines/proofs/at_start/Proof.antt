@@ -4,7 +4,7 @@ use Rattle.lines.proofs.at_start.Statement.{statement}
 use Rattle.lines.proofs.at_start.Tie as tie
 
 returns : tie.Need-returns
-returns c = started 0
+returns c = started _
 
 pub at-start-spec : {M : Type 1} → statement M
 at-start-spec = tie.close (tie.spec returns)

@@ -26,7 +26,8 @@ returns-2 : tie.Need-returns-2
 returns-2 c =
     let after-live = c .before .before .before .before .before .before .before .before .before .before .before .before in
     let after-call = after-live .before in
-    let after-call-arg6 = after-call .before .before in
+    let after-call-arg7 = after-call .before in
+    let after-call-arg6 = after-call-arg7 .before in
     let after-c = after-call-arg6 .before .before .before .before .before .before .before in
     let after-read-line = after-c .before .before in
     let start = after-read-line .before .before .before .before .before .before .before .before in
@@ -40,6 +41,7 @@ returns-2 c =
           (areasOf (start .args .ranks .now) (start .args .pairs .now) (g .last .1 .1 .1 .1 .0) (g .last .1 .1 .1 .1 .1 .0)
           (g .last .1 .1 .1 .1 .1 .1 .0) (g .last .1 .1 .1 .1 .1 .1 .1 .0))
           (lentOf (g .last .1 .1 .1 .1 .1 .1 .1 .1 .0) (g .last .1 .1 .1 .1 .1 .1 .1 .1 .1 .0))
+          (after-call-arg6 .call-arg6 .given .0 .1, after-call-arg7 .call-arg7 .given .0 .1)
           (at-most 200 (g .last .1 .1 .1 .1 .1 .1 .1 .1 .0) (g .kept .1 .1 .1 .1 .1 .1 .1 .1 .0 ∙ after-call-arg6 .call-arg6 .given .0 .1))
           (after-c .c .given .1) (g .ensures) (w .ensures),
       counted _ (w .result) (start .args .out .now) (w .last .1 .1 .0) (w .ensures) (w .kept .1 .1 .0),

@@ -1,4 +1,6 @@
-use Rattle.shell.proofs.Cards.{open-way}
+-- `shell::open_card`: what preparing answers and leaves is judged, for any areas; with those of `Lends` it is what document 01 says. Assumes nothing.
+use mathlib.Core.Path.{_∙_}
+use Rattle.shell.proofs.Cards.{prepared-opens, prepared-way}
 use Rattle.model.specs.Contracts.{areasOf}
 use Rattle.shell.specs.Opening.{openedIn}
 use Rattle.unit.specs.Shape.{answeredIn}
@@ -13,13 +15,12 @@ returns c =
     let start = after-slice-known .before .before in
     let a = start .args in
     let p = after-prepare .prepare in
-    let j = c .judge in (
-      open-way (a .file .now) (areasOf (a .ranks .now) (a .pairs .now) (a .live .now) (a .down .now) (a .estimates .now) (a .elapsed .now))
-          (start .pre) (answeredIn (p .result))
-          (areasOf (p .last .1 .0) (p .last .1 .1 .0) (p .last .1 .1 .1 .0) (p .last .1 .1 .1 .1 .0) (p .last .1 .1 .1 .1 .1 .0)
-          (p .last .1 .1 .1 .1 .1 .1 .0)) (openedIn (j .result) (j .last .1 .1 .0)) (p .ensures) (j .ensures .0),
-      j .ensures .1,
-    )
+    let j = c .judge in
+    let lent = areasOf (a .ranks .now) (a .pairs .now) (a .live .now) (a .down .now) (a .estimates .now) (a .elapsed .now) in
+    let is = prepared-way (a .file .now) lent (answeredIn (p .result))
+    (areasOf (p .last .1 .0) (p .last .1 .1 .0) (p .last .1 .1 .1 .0) (p .last .1 .1 .1 .1 .0) (p .last .1 .1 .1 .1 .1 .0)
+    (p .last .1 .1 .1 .1 .1 .1 .0)) (openedIn (j .result) (j .last .1 .1 .0)) (p .ensures) (j .ensures .0) in
+    record { always = is; right = λ l. is ∙ prepared-opens (a .file .now) lent l; quiet = j .ensures .1 }
 
 pub open-card-spec : {M : Type 1} → statement M
 open-card-spec =

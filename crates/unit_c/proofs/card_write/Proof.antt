@@ -1,9 +1,8 @@
-use Rattle.model.specs.Card.{Written, writeCard}
+-- The answer's number and place are handed out, and the answer is what the writer answered: so its contract holds of what is handed out.
+use mathlib.Core.Path.{subst}
+use Rattle.model.specs.Contracts.{WriteContract}
 use Rattle.card.specs.Answers.{rowsOf, writingIn}
-use mathlib.Core.Path.{_∙_, ap, sym}
-use mathlib.Core.List.{List}
 use Rattle.card.specs.declared.Writing.{Writing}
-use Prim.Native.Nat.{ℕ}
 use Rattle.unit_c.proofs.Told.{accepted-told, refused-told}
 use borrow.Author.Needs.{needs}
 use Rattle.unit_c.proofs.card_write.Statement.{statement}
@@ -13,20 +12,23 @@ returns : tie.Need-returns
 returns c =
     let after-write = c .before .before .before .before in
     let start = after-write .before .before .before .before .before in
-    accepted-told (writeCard (rowsOf (start .args .roads .now) (start .args .order .now)) (start .args .area .now))
-    (after-write .write .last .1 .1 .0) (ap (λ (x : Writing). record { answer = writingIn x; area = after-write .write .last .1 .1 .0 })
-    (sym (c .enum-told .given .1)) ∙ after-write .write .ensures)
+    let map = rowsOf (start .args .roads .now) (start .args .order .now) in
+    let area = start .args .area .now in
+    let after = after-write .write .last .1 .1 .0 in
+    accepted-told map area after
+    (subst (λ (x : Writing). WriteContract map area after (writingIn x)) (c .enum-told .given .1) (after-write .write .ensures))
 
 returns-2 : tie.Need-returns-2
 returns-2 c =
     let after-q = c .before .before .before in
     let after-write = after-q .before .before .before .before in
     let start = after-write .before .before .before .before .before in
-    refused-told (writeCard (rowsOf (start .args .roads .now) (start .args .order .now)) (start .args .area .now))
-    (after-write .write .last .1 .1 .0) _ _ _ (ap (λ (x : Writing). record {
-      answer = writingIn x;
-      area = after-write .write .last .1 .1 .0;
-    }) (sym (after-q .q .given .1)) ∙ after-write .write .ensures) (c .question-of .ensures) (c .before .place-of .ensures)
+    let map = rowsOf (start .args .roads .now) (start .args .order .now) in
+    let area = start .args .area .now in
+    let after = after-write .write .last .1 .1 .0 in
+    refused-told map area after _ _ _
+    (subst (λ (x : Writing). WriteContract map area after (writingIn x)) (after-q .q .given .1) (after-write .write .ensures))
+    (c .question-of .ensures) (c .before .place-of .ensures)
 
 pub card-write-spec : {M : Type 1} → statement M
 card-write-spec =
