@@ -157,7 +157,7 @@ impl Header {
             };
         }
         descents::down_totals(n, p, questions::order_of(card, n, m), pairs, down, j);
-        descents::fill(estimates, Time::UNASKED);
+        areas::fill(estimates, Time::UNASKED.0);
         Answered {
             header: Header {
                 n: n,
