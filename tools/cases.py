@@ -301,9 +301,9 @@ use mathlib.Core.Bool.{{Bool, false, true}}
 use mathlib.Core.List.{{List, [], _++_, _∷_, map}}
 use Prim.Native.Nat.{{ℕ}}
 use lib.ListN.{{replicate, take}}
-use Rattle.model.specs.Types.{{{', '.join(sorted(["Absent", "At", "Read", "Reading", "Unreadable", *REFUSALS]))}}}
+use Rattle.model.specs.Types.{{{', '.join(sorted(["Absent", "At", "Read", "Reading", "Refusal", "Unreadable", *REFUSALS]))}}}
 use Rattle.model.specs.Bytes.{{wordAt}}
-use Rattle.model.specs.Card.{{Written, cardRefusal, question, readCard, sizesOk}}
+use Rattle.model.specs.Card.{{Written, cardRefusal, readCard, sizesOk}}
 use Rattle.model.specs.State.{{Step, question9}}
 use Rattle.model.specs.Calls.{{Call, aimCall, estimateCall, goCall, setCall}}
 use Rattle.cases.specs.Notation.{{Agree, Calling, Case, Preparing, Writing, answers, lent, prepares, refused, same, unprepared, unwritten, writes, written}}
@@ -311,7 +311,8 @@ use Rattle.cases.specs.Notation.{{_–_–_, _⇒_, blank, bytes, card, 
 
 -- document 01's number of each refusal
 numbers :
-    map question ({listed(applied(name, 0) if number in (5, 6, 15) else name for number, name in enumerate(REFUSALS, 1))})
+    map (λ (q : Refusal). q .question)
+    ({listed(applied(name, 0) if number in (5, 6, 15) else name for number, name in enumerate(REFUSALS, 1))})
     ≡ {row(range(1, 16))}
 numbers = refl
 

@@ -9,8 +9,6 @@ use lib.ListN.{take}
 use native.Mathlib.Omega.{arith}
 use Rattle.model.specs.Types.{Refusal}
 use Rattle.model.specs.Word.{noneWord, ofWord}
-use Rattle.model.specs.Card.{question}
-use Rattle.network.specs.Refusals.{placeOf}
 use Rattle.answers.specs.declared.Answer.{Answer}
 use Rattle.answers.specs.Shape.{answerIn}
 use Rattle.texts.specs.Ascii.{ascii}
@@ -45,21 +43,22 @@ either : (b c : Bool) (l : List ℕ) → cond b l (cond c l []) ≡ cond (cond b
 either true c l = refl
 either false c l = refl
 
-module _ (q : Refusal) (n : ℕ) (b : Bool) (hn : n ≡ question q) (hb : b ≡ cond (eqb n 5) true (eqb n 6)) where
-  places : placesOf q ≡ cond b (placeOf q ∷ []) []
-  places =
-      either (eqb (question q) 5) (eqb (question q) 6) (placeOf q ∷ [])
-      ∙ ap (λ (x : Bool). cond x (placeOf q ∷ []) []) (sym (hb ∙ ap (λ (x : ℕ). cond (eqb x 5) true (eqb x 6)) hn))
+module _ (q : Refusal) (b : Bool) (hb : b ≡ cond (eqb (q .question) 5) true (eqb (q .question) 6)) where
+  places : placesOf q ≡ cond b (q .place ∷ []) []
+  places = either (eqb (q .question) 5) (eqb (q .question) 6) (q .place ∷ []) ∙ ap (λ (x : Bool). cond x (q .place ∷ []) []) (sym hb)
 
-  refused : (l : List ℕ) → placesOf q ≡ l → ascii "no" ++ spaced (n ∷ l) ≡ refusalText q
-  refused l e = ap (λ (x : List ℕ). ascii "no" ++ spaced (n ∷ x)) (sym e) ∙ ap (λ (x : ℕ). ascii "no" ++ spaced (x ∷ placesOf q)) hn
+  refused : (l : List ℕ) → placesOf q ≡ l → ascii "no" ++ spaced (q .question ∷ l) ≡ refusalText q
+  refused l e = ap (λ (x : List ℕ). ascii "no" ++ spaced (q .question ∷ x)) (sym e)
 
-  pub refused-placed : {a : List ℕ} {at : ℕ} {m : List ℕ} {j : ℕ} {z : List ℕ} {r : ℕ} (p : ℕ) → p ≡ placeOf q → b ≡ true → Puts (ascii "no" ++ spaced (n ∷ [])) a at m j → Puts (spaced (p ∷ [])) m j z r → Puts (refusalText q) a at z r
-  refused-placed p hp h x v =
-      let e : placesOf q ≡ p ∷ [] = places ∙ rw (h, hp) in
-      puts-as (ap (λ (y : List ℕ). ascii "no" ++ y) (sym (spaced-append (n ∷ []) (p ∷ []))) ∙ refused (p ∷ []) e) (puts-then x v)
+  pub refused-placed : {a : List ℕ} {at : ℕ} {m : List ℕ} {j : ℕ} {z : List ℕ} {r : ℕ} → b ≡ true
+      → Puts (ascii "no" ++ spaced (q .question ∷ [])) a at m j → Puts (spaced (q .place ∷ [])) m j z r → Puts (refusalText q) a at z r
+  refused-placed h x v =
+      let e : placesOf q ≡ q .place ∷ [] = places ∙ rw h in
+      let s = spaced-append (q .question ∷ []) (q .place ∷ []) in
+      puts-as (ap (λ (y : List ℕ). ascii "no" ++ y) (sym s) ∙ refused (q .place ∷ []) e) (puts-then x v)
 
-  pub refused-other : {a : List ℕ} {at : ℕ} {m : List ℕ} {j : ℕ} → b ≡ false → Puts (ascii "no" ++ spaced (n ∷ [])) a at m j → Puts (refusalText q) a at m j
+  pub refused-other : {a : List ℕ} {at : ℕ} {m : List ℕ} {j : ℕ} → b ≡ false
+      → Puts (ascii "no" ++ spaced (q .question ∷ [])) a at m j → Puts (refusalText q) a at m j
   refused-other h x = let e : placesOf q ≡ [] = places ∙ rw h in puts-as (refused [] e) x
 
 -- ---- a go

@@ -8,8 +8,6 @@ use lib.ListN.{take}
 use Rattle.graph.specs.Total.{Total}
 use Rattle.model.specs.Types.{Accepted, Answer, Estimated, Gone, Refusal, Refused}
 use Rattle.model.specs.Word.{ofWord}
-use Rattle.model.specs.Card.{question}
-use Rattle.network.specs.Refusals.{placeOf}
 use Rattle.texts.specs.Areas.{spaced}
 use Rattle.texts.specs.Ascii.{ascii}
 
@@ -23,11 +21,11 @@ timeText w = totalText (ofWord w)
 
 -- "with the place after 5 and 6"
 abbrev pub placesOf : Refusal → List ℕ
-placesOf q = cond (eqb (question q) 5) (placeOf q ∷ []) (cond (eqb (question q) 6) (placeOf q ∷ []) [])
+placesOf q = cond (eqb (q .question) 5) (q .place ∷ []) (cond (eqb (q .question) 6) (q .place ∷ []) [])
 
 -- "a refusal is `no` and its number"
 abbrev pub refusalText : Refusal → List ℕ
-refusalText q = ascii "no" ++ spaced (question q ∷ placesOf q)
+refusalText q = ascii "no" ++ spaced (q .question ∷ placesOf q)
 
 -- "`go` gives total, count, roads"
 abbrev pub tripText : (total count : ℕ) (roads : List ℕ) → List ℕ

@@ -40,10 +40,10 @@ fn has_place(number: u32) -> bool
 fn put_refusal(q: Refusal, out: &mut [u8]) -> usize
     ensures { λ r. ⌜ Puts (refusalText (refusalIn q)) (now (out .entry)) 0 (now (out .exit)) r ⌝ }
 {
-    let number = network::question_of(q);
+    let number = q.question;
     let end = texts::put_named(b"no", number as u64, out, 0);
     if has_place(number) {
-        return texts::put_word(network::place_of(q), out, end);
+        return texts::put_word(q.place, out, end);
     }
     end
 }

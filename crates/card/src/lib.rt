@@ -51,13 +51,13 @@ pub fn read(card: &[u8]) -> Reading
     ensures { λ r. ⌜ ReadContract (now (card .entry)) (readingIn r) ⌝ }
 {
     if card.len() < 28 {
-        return Reading::Unreadable(Refusal::Short);
+        return Reading::Unreadable(Refusal::SHORT);
     }
     if !kinds_ok(card) {
-        return Reading::Unreadable(Refusal::Kinds);
+        return Reading::Unreadable(Refusal::KINDS);
     }
     if !starts_ok(card) {
-        return Reading::Unreadable(Refusal::Starts);
+        return Reading::Unreadable(Refusal::STARTS);
     }
     match reader::check(card) {
         Verdict::Failed(q) => Reading::Unreadable(q),
@@ -78,7 +78,7 @@ pub fn write(roads: &[u32], order: &[u32], area: &mut [u8]) -> Writing
         Verdict::Failed(q) => Writing::Refused(q),
         Verdict::Passed => {
             if area.len() != 28 + 4 * roads.len() + 4 * order.len() {
-                return Writing::Refused(Refusal::AreaLengths);
+                return Writing::Refused(Refusal::AREA_LENGTHS);
             }
             writer::put_card(roads, order, area);
             Writing::Accepted

@@ -5,6 +5,7 @@ ghost use lib.ListN.{length};
 ghost use Rattle.model.specs.Bytes.{listed};
 ghost use Rattle.keys.specs.Keys.{kept};
 ghost use Rattle.keys.specs.Winners.{Chooses, Entered, Leads, Settled, blockEnd};
+use keys::BLOCK;
 use keys::Choice;
 use keys::SETTLED;
 use keys::comes_before;
@@ -18,7 +19,7 @@ pub fn reset(wins: &mut [u32])
 {
     let mut b = 0;
     while b < wins.len() {
-        wins[b] = (64 * b) as u32;
+        wins[b] = BLOCK * (b as u32);
         b += 1;
     }
 }
@@ -45,8 +46,7 @@ pub fn enter(keys: &[u64], wins: &mut [u32], v: Junction)
     requires { ⌜ (v .0 < length (now keys)) × (v .0 < 64 * length (now wins)) ⌝ }
     ensures { λ _. ⌜ Entered (now (keys .entry)) (now (wins .entry)) (now (wins .exit)) (v .0) ⌝ }
 {
-    let a = v.0 as usize;
-    let b = a / 64;
+    let b = (v.0 / BLOCK) as usize;
     let w = wins[b];
     if keys.len() <= w as usize {
         return;
@@ -63,7 +63,7 @@ pub fn choose(keys: &[u64], wins: &[u32], n: u32) -> Choice
 {
     let mut at: u32 = 0;
     let mut b: u32 = 0;
-    while 64 * b < n {
+    while BLOCK * b < n {
         let w = wins[b as usize];
         b += 1;
         if w < n {
@@ -84,7 +84,7 @@ fn block_end(n: u32, b: u32) -> u32
     requires { ⌜ b < 64 ⌝ }
     ensures { λ r. ⌜ r ≡ blockEnd n b ⌝ }
 {
-    let end = 64 * b + 64;
+    let end = BLOCK * b + BLOCK;
     if end < n { end } else { n }
 }
 
@@ -95,11 +95,11 @@ pub fn settle(keys: &mut [u64], wins: &mut [u32], log: &mut [u32], n: u32, c: u3
 {
     let a = v.0 as usize;
     let k = c as usize;
-    let b = v.0 / 64;
+    let b = v.0 / BLOCK;
     let at = b as usize;
     keys[a] = SETTLED;
     let to = block_end(n, b);
-    wins[at] = winner(keys, 64 * b, to);
+    wins[at] = winner(keys, BLOCK * b, to);
     log[k] = v.0;
 }
 

@@ -15,6 +15,7 @@ ghost use Rattle.rows.specs.Links.{Grouped, netIn};
 ghost use Rattle.contraction.specs.Contraction.{Contraction, Ready, RowDone};
 use network::Rank;
 use network::Time;
+use rows::BLOCKS;
 use storing::Stored;
 
 // Fills the area of ranks: each junction's place in the order.
@@ -59,7 +60,7 @@ fn contract_row(
     ensures { λ answer. ⌜ RowDone (direct (netIn (now (roads .entry)) (now (ranks .entry)))) (length (now (ranks .entry))) (r .0) (now (pairs .exit)) (now (cursor .exit)) (now (ahead .exit)) (now (ends .exit)) (now (soon .exit)) (now (ups .exit)) (now (downs .exit)) answer ⌝ }
 {
     let n = ranks.len() as u32;
-    let mut touched = [0u32; 128];
+    let mut touched = [0u32; BLOCKS];
     linking::relax_roads(roads, ranks, first, next, r, ups, downs, &mut touched);
     passing::pass_lower(
         pairs,
@@ -97,7 +98,7 @@ pub fn contract(roads: &[u8], order: &[u8], ranks: &[u32], pairs: &mut [u32]) ->
     let mut cursor = [0u32; 4096];
     let mut ahead = [0u32; 4096];
     let mut ends = [0u32; 4096];
-    let mut soon = [4096u32; 128];
+    let mut soon = [4096u32; BLOCKS];
     let mut ups = [Time::NONE.0; 4096];
     let mut downs = [Time::NONE.0; 4096];
     let mut count: u32 = 0;
@@ -127,6 +128,6 @@ pub fn contract(roads: &[u8], order: &[u8], ranks: &[u32], pairs: &mut [u32]) ->
             }
         }
     }
-    storing::clear_from(pairs, 4 * (count as usize));
+    storing::clear_from(pairs, count);
     Contracted::Kept(count)
 }

@@ -1,4 +1,4 @@
--- Laws of the areas that are filled, and the ways in which the pass over the records meets its contract.
+-- The ways in which the pass over the records meets its contract.
 use mathlib.Core.Path.{_∙_, _≡_, ap, ap₂, refl, subst, sym}
 use mathlib.Core.Option.{none, some}
 use mathlib.Core.List.{List, [], _++_, _∷_}
@@ -6,7 +6,7 @@ use Prim.Native.Nat.{_*_, _+_, _<_, _≤_, min, suc, zero, ℕ}
 use borrow.Author.Tests.{eq-eqb, ne-eqb}
 use lib.Dec.{eqb}
 use lib.ListN.{getD, getD-replicate, length, length-replicate, replicate, set, take}
-use lib.Seq.{ext-getD, getD-set-other, getD-set-same, set-getD, take-all}
+use lib.Seq.{getD-set-other, getD-set-same, set-getD, take-all}
 use native.Mathlib.Decide.{ℕ-discrete}
 use native.Mathlib.Nat.{not-suc-le-zero}
 use native.Mathlib.Numerals.{add-one}
@@ -27,20 +27,6 @@ use Rattle.network.specs.Bodies.{mapIn}
 use Rattle.records.specs.Holds.{Holds, Ranked, down-small, order-rank, prepared-holds, ranked}
 use Rattle.records.specs.Words.{downIn, highIn, lowIn}
 use Rattle.descents.specs.Downs.{Descended, Descending, Handed, higherIn, lowerIn}
-
--- ---- an area filled with one word
-
-pub fill-turn : (l : List ℕ) (i w : ℕ) → i < length l → ((k : ℕ) → k < i → getD l k 0 ≡ w) → (k : ℕ) → k < i + 1 → getD (set l i w) k 0 ≡ w
-fill-turn l i w h f k q = go (ℕ-discrete k i)
-  where
-    go : Dec (k ≡ i) → getD (set l i w) k 0 ≡ w
-    go (yes e) = ap (λ (x : ℕ). getD (set l i w) x 0) e ∙ getD-set-same l i w 0 h
-    go (no e) = getD-set-other l i k w 0 e ∙ f k (omega arith)
-
-pub fill-end : (l₀ l : List ℕ) (i w t : ℕ) → length l ≡ length l₀ → length l ≤ i → ((k : ℕ) → k < i → getD l k 0 ≡ w) → w ≡ t → l ≡ replicate (length l₀) t
-fill-end l₀ l i w t e h f x =
-    ext-getD 0 l (replicate (length l₀) t) (e ∙ sym (length-replicate (length l₀) t))
-    (λ k q. f k (omega arith) ∙ x ∙ sym (getD-replicate (length l₀) k t 0 (omega (arith, e, q))))
 
 -- ---- sums
 

@@ -1,25 +1,14 @@
 // The down totals of a target over the prepared pairs (document 01: aim): functions on slices.
 ghost use mathlib.Core.Path.{_≡_};
 ghost use Prim.Native.Nat.{_*_, _+_, _<_, _≤_};
-ghost use lib.ListN.{length, replicate};
+ghost use lib.ListN.{length};
 ghost use Rattle.descents.specs.Downs.{Descended, Handed};
+use areas::fill;
 use network::Junction;
 use network::Time;
 use records::down_of;
 use records::high_of;
 use records::low_of;
-
-// Every word of the area becomes that of t.
-pub fn fill(area: &mut [u32], t: Time)
-    ensures { λ _. ⌜ now (area .exit) ≡ replicate (length (now (area .entry))) (t .0) ⌝ }
-{
-    let w = t.word();
-    let mut i = 0;
-    while i < area.len() {
-        area[i] = w;
-        i += 1;
-    }
-}
 
 // Record i hands the total of its lower junction, plus its down time, to its higher one.
 fn hand_down(n: u32, order: &[u8], pairs: &[u32], down: &mut [u32], i: u32)
@@ -64,7 +53,7 @@ pub fn down_totals(
     requires { ⌜ (target .0 < n) × (n ≤ 4096) × (length (now order) ≡ 4 * n) × (length (now down) ≡ n) × (4 * count ≤ length (now pairs)) × (count ≤ 65536) ⌝ }
     ensures { λ _. ⌜ Descended (now (order .entry)) (now (pairs .entry)) count (now (down .exit)) (target .0) ⌝ }
 {
-    fill(down, Time::NONE);
+    fill(down, Time::NONE.0);
     let t = target.0 as usize;
     let here = Time::of_word(0);
     down[t] = here.word();

@@ -1,13 +1,12 @@
 -- The live times one after the other, and six areas at once. Assumes nothing.
-use mathlib.Core.Path.{_∙_, _≡_, ap, ap₂}
+use mathlib.Core.Path.{_∙_, _≡_, ap₂}
 use mathlib.Core.List.{List}
 use Prim.Native.Nat.{_*_, _+_, _<_, _≤_, ℕ}
-use lib.ListN.{getD, length, replicate, set}
+use lib.ListN.{getD, length, set}
 use lib.Seq.{getD-set-other, getD-set-same}
 use native.Mathlib.Decide.{ℕ-discrete}
 use native.Mathlib.Omega.{arith}
 use Rattle.model.specs.Bytes.{listed, wordAt}
-use Rattle.model.specs.State.{zeros}
 use Rattle.model.specs.Contracts.{areasOf}
 use Rattle.model.specs.Ends.{listed-is}
 
@@ -35,6 +34,3 @@ module _ (roads : List ℕ) where
 pub areas-same : (r₁ r₂ p₁ p₂ l₁ l₂ d₁ d₂ e₁ e₂ t₁ t₂ : List ℕ) → r₁ ≡ r₂ → p₁ ≡ p₂ → l₁ ≡ l₂ → d₁ ≡ d₂ → e₁ ≡ e₂ → t₁ ≡ t₂ → areasOf r₁ p₁ l₁ d₁ e₁ t₁ ≡ areasOf r₂ p₂ l₂ d₂ e₂ t₂
 areas-same r₁ r₂ p₁ p₂ l₁ l₂ d₁ d₂ e₁ e₂ t₁ t₂ r p l d e t =
     ap₂ (λ (x : List ℕ) (y : List ℕ). areasOf x y l₁ d₁ e₁ t₁) r p ∙ ap₂ (λ (x : List ℕ) (y : List ℕ). areasOf r₂ p₂ x y e₁ t₁) l d ∙ ap₂ (λ (x : List ℕ) (y : List ℕ). areasOf r₂ p₂ l₂ d₂ x y) e t
-
-pub zero-filled : (before x : List ℕ) (t : ℕ) → t ≡ 0 → x ≡ replicate (length before) t → x ≡ zeros before
-zero-filled before x t z e = e ∙ ap (replicate (length before)) z

@@ -5,7 +5,6 @@ ghost use lib.ListN.{length};
 ghost use Rattle.model.specs.Bytes.{listed, wordAt};
 ghost use Rattle.model.specs.State.{zeroed};
 ghost use Rattle.model.specs.Contracts.{areasOf};
-use network::Time;
 
 // Each road's live time becomes its base time.
 pub fn fill_live(roads: &[u8], live: &mut [u32])
@@ -31,11 +30,10 @@ pub fn clear(
     ensures { λ _. ⌜ areasOf (now (ranks .exit)) (now (pairs .exit)) (now (live .exit)) (now (down .exit)) (now (estimates .exit)) (now (elapsed .exit))
         ≡ zeroed (areasOf (now (ranks .entry)) (now (pairs .entry)) (now (live .entry)) (now (down .entry)) (now (estimates .entry)) (now (elapsed .entry))) ⌝ }
 {
-    let zero = Time::of_word(0);
-    descents::fill(ranks, zero);
-    descents::fill(pairs, zero);
-    descents::fill(live, zero);
-    descents::fill(down, zero);
-    descents::fill(estimates, zero);
-    descents::fill(elapsed, zero);
+    areas::fill(ranks, 0);
+    areas::fill(pairs, 0);
+    areas::fill(live, 0);
+    areas::fill(down, 0);
+    areas::fill(estimates, 0);
+    areas::fill(elapsed, 0);
 }

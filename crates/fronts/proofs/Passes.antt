@@ -21,6 +21,7 @@ use Rattle.graph.specs.Folds.{later, over-blank, over-downs, over-ups, through}
 use Rattle.model.specs.Word.{ofWord, ofWord-word, word}
 use Rattle.model.specs.Use.{RecordAt}
 use Rattle.network.specs.Width.{fit, fit-min}
+use Rattle.records.specs.Words.{downIn, highIn, upIn}
 use Rattle.rows.specs.Rows.{Marked, Row}
 use Rattle.rows.specs.Entries.{marked-set, row-same, row-set}
 use Rattle.fronts.specs.Fronts.{Front, Over, Reached, Relaxed, Stage, Times}
@@ -29,24 +30,24 @@ use Rattle.fronts.specs.Holding.{holds-at}
 -- ---- one row of records
 
 -- the records before i have relaxed the row
-pub record Relaxing (pairs : List ℕ) (from to at first i : ℕ) (row row′ : List ℕ) : Type 0 where
-  pub by : (r n : ℕ) (l : List Pair) (time : Pair → Total) (x : ℕ → Total) → Times pairs from at time l → from + length l ≡ to → Row r n row x
+pub record Relaxing (pairs : List ℕ) (from to : ℕ) (timeIn : List ℕ → ℕ → ℕ) (first i : ℕ) (row row′ : List ℕ) : Type 0 where
+  pub by : (r n : ℕ) (l : List Pair) (time : Pair → Total) (x : ℕ → Total) → Times pairs from timeIn time l → from + length l ≡ to → Row r n row x
       → Row r n row′ (λ h. x h ⊓ minOver (through (ofWord first) time h) (take (i - from) l))
 
-module _ (pairs : List ℕ) (from to at first : ℕ) (row₀ : List ℕ) where
-  pub relaxing-start : Relaxing pairs from to at first from row₀ row₀
+module _ (pairs : List ℕ) (from to : ℕ) (timeIn : List ℕ → ℕ → ℕ) (first : ℕ) (row₀ : List ℕ) where
+  pub relaxing-start : Relaxing pairs from to timeIn first from row₀ row₀
   relaxing-start = record {
     by = λ r n l time x t e w.
         let z : from - from ≡ 0 = omega arith in
         row-same (λ h. x h ⊓ minOver (through (ofWord first) time h) (take (from - from) l)) w (λ h rh hn. rw z (⊓-none (x h)));
   }
 
-  pub relaxing-turn : (i b v : ℕ) (row : List ℕ) → from ≤ i → i < to → b ≡ getD pairs (4 * i + 1) 0
-      → v ≡ min (getD row b 0) (word (fit (ofWord first ⊕ ofWord (getD pairs (4 * i + at) 0)))) → Relaxing pairs from to at first i row₀ row
-      → Relaxing pairs from to at first (i + 1) row₀ (set row b v)
+  pub relaxing-turn : (i b v : ℕ) (row : List ℕ) → from ≤ i → i < to → b ≡ highIn pairs i
+      → v ≡ min (getD row b 0) (word (fit (ofWord first ⊕ ofWord (timeIn pairs i)))) → Relaxing pairs from to timeIn first i row₀ row
+      → Relaxing pairs from to timeIn first (i + 1) row₀ (set row b v)
   relaxing-turn i b v row fi it eb ev g = record { by = one }
     where
-      one : (r n : ℕ) (l : List Pair) (time : Pair → Total) (x : ℕ → Total) → Times pairs from at time l → from + length l ≡ to → Row r n row₀ x
+      one : (r n : ℕ) (l : List Pair) (time : Pair → Total) (x : ℕ → Total) → Times pairs from timeIn time l → from + length l ≡ to → Row r n row₀ x
           → Row r n (set row b v) (λ h. x h ⊓ minOver (through (ofWord first) time h) (take (i + 1 - from) l))
       one r n l time x t e w = row-set (λ h. x h ⊓ minOver (f h) (take (i + 1 - from) l)) b v old here there
         where
@@ -63,10 +64,10 @@ module _ (pairs : List ℕ) (from to at first : ℕ) (row₀ : List ℕ) where
           old = g .by r n l time x t e w
 
           high : b ≡ p .high
-          high = let q : from + (i - from) ≡ i = omega arith in eb ∙ ap (λ (y : ℕ). getD pairs (4 * y + 1) 0) (sym q) ∙ t .high (i - from) (edge 0) (omega arith)
+          high = let q : from + (i - from) ≡ i = omega arith in eb ∙ ap (λ (y : ℕ). highIn pairs y) (sym q) ∙ t .high (i - from) (edge 0) (omega arith)
 
-          own : ofWord (getD pairs (4 * i + at) 0) ≡ time p
-          own = let q : from + (i - from) ≡ i = omega arith in ap (λ (y : ℕ). ofWord (getD pairs (4 * y + at) 0)) (sym q) ∙ t .at-word (i - from) (edge 0) (omega arith)
+          own : ofWord (timeIn pairs i) ≡ time p
+          own = let q : from + (i - from) ≡ i = omega arith in ap (λ (y : ℕ). ofWord (timeIn pairs y)) (sym q) ∙ t .time-is (i - from) (edge 0) (omega arith)
 
           more : (h : ℕ) → x h ⊓ minOver (f h) (take (i + 1 - from) l) ≡ (x h ⊓ minOver (f h) (take (i - from) l)) ⊓ f h p
           more h =
@@ -86,7 +87,7 @@ module _ (pairs : List ℕ) (from to at first : ℕ) (row₀ : List ℕ) where
               more h ∙ ap (_⊓_ (x h ⊓ minOver (f h) (take (i - from) l))) (cond-no (eqb (p .high) h) (ofWord first ⊕ time p) none (ne-eqb (p .high) h (λ q. ne (sym q ∙ sym high))))
               ∙ ⊓-none (x h ⊓ minOver (f h) (take (i - from) l))
 
-  pub relaxing-end : (i : ℕ) (row : List ℕ) → i ≤ to → to ≤ i → Relaxing pairs from to at first i row₀ row → Relaxed pairs from to at first row₀ row
+  pub relaxing-end : (i : ℕ) (row : List ℕ) → i ≤ to → to ≤ i → Relaxing pairs from to timeIn first i row₀ row → Relaxed pairs from to timeIn first row₀ row
   relaxing-end i row h k g = record {
     by = λ r n l time x t e w.
         row-same (λ h. x h ⊓ minOver (through (ofWord first) time h) l) (g .by r n l time x t e w)
@@ -97,42 +98,42 @@ module _ (pairs : List ℕ) (from to at first : ℕ) (row₀ : List ℕ) where
 
 -- the records from `from` to before j have relaxed them
 pub record Going (pairs : List ℕ) (from to down up j : ℕ) (ups₀ downs₀ touched₀ ups downs touched : List ℕ) : Type 0 where
-  pub ups-by : Relaxing pairs from to 2 down j ups₀ ups
-  pub downs-by : Relaxing pairs from to 3 up j downs₀ downs
+  pub ups-by : Relaxing pairs from to upIn down j ups₀ ups
+  pub downs-by : Relaxing pairs from to downIn up j downs₀ downs
   pub marks : (r n : ℕ) → Marked r n touched₀ ups₀ downs₀ → Marked r n touched ups downs
 
 module _ (pairs : List ℕ) (from to down up : ℕ) (ups₀ downs₀ touched₀ : List ℕ) where
   pub going-start : Going pairs from to down up from ups₀ downs₀ touched₀ ups₀ downs₀ touched₀
   going-start = record {
-    ups-by = relaxing-start pairs from to 2 down ups₀;
-    downs-by = relaxing-start pairs from to 3 up downs₀;
+    ups-by = relaxing-start pairs from to upIn down ups₀;
+    downs-by = relaxing-start pairs from to downIn up downs₀;
     marks = λ r n m. m;
   }
 
-  pub going-turn : (j h a b : ℕ) (ups downs touched ups′ downs′ touched′ : List ℕ) → from ≤ j → j < to → h ≡ getD pairs (4 * j + 1) 0
-      → a ≡ getD pairs (4 * j + 2) 0 → ups′ ≡ set ups h (min (getD ups h 0) (word (fit (ofWord down ⊕ ofWord a))))
-      → b ≡ getD pairs (4 * j + 3) 0 → downs′ ≡ set downs h (min (getD downs h 0) (word (fit (ofWord up ⊕ ofWord b))))
+  pub going-turn : (j h a b : ℕ) (ups downs touched ups′ downs′ touched′ : List ℕ) → from ≤ j → j < to → h ≡ highIn pairs j
+      → a ≡ upIn pairs j → ups′ ≡ set ups h (min (getD ups h 0) (word (fit (ofWord down ⊕ ofWord a))))
+      → b ≡ downIn pairs j → downs′ ≡ set downs h (min (getD downs h 0) (word (fit (ofWord up ⊕ ofWord b))))
       → h < 32 * length touched → touched′ ≡ set touched (h / 32) 1 → Going pairs from to down up j ups₀ downs₀ touched₀ ups downs touched
       → Going pairs from to down up (j + 1) ups₀ downs₀ touched₀ ups′ downs′ touched′
   going-turn j h a b ups downs touched ups′ downs′ touched′ fj jt eh ea eu eb ed lh et g =
       let u : ℕ = min (getD ups h 0) (word (fit (ofWord down ⊕ ofWord a))) in
       let d : ℕ = min (getD downs h 0) (word (fit (ofWord up ⊕ ofWord b))) in
       record {
-        ups-by = subst (λ (x : List ℕ). Relaxing pairs from to 2 down (j + 1) ups₀ x) (sym eu)
-            (relaxing-turn pairs from to 2 down ups₀ j h u ups fj jt eh (ap (λ (y : ℕ). min (getD ups h 0) (word (fit (ofWord down ⊕ ofWord y)))) ea) (g .ups-by));
-        downs-by = subst (λ (x : List ℕ). Relaxing pairs from to 3 up (j + 1) downs₀ x) (sym ed)
-            (relaxing-turn pairs from to 3 up downs₀ j h d downs fj jt eh (ap (λ (y : ℕ). min (getD downs h 0) (word (fit (ofWord up ⊕ ofWord y)))) eb) (g .downs-by));
+        ups-by = subst (λ (x : List ℕ). Relaxing pairs from to upIn down (j + 1) ups₀ x) (sym eu)
+            (relaxing-turn pairs from to upIn down ups₀ j h u ups fj jt eh (ap (λ (y : ℕ). min (getD ups h 0) (word (fit (ofWord down ⊕ ofWord y)))) ea) (g .ups-by));
+        downs-by = subst (λ (x : List ℕ). Relaxing pairs from to downIn up (j + 1) downs₀ x) (sym ed)
+            (relaxing-turn pairs from to downIn up downs₀ j h d downs fj jt eh (ap (λ (y : ℕ). min (getD downs h 0) (word (fit (ofWord up ⊕ ofWord y)))) eb) (g .downs-by));
         marks = λ r n m. marked-set h touched′ ups′ downs′ lh et
             (λ k ne. ap (λ (x : List ℕ). getD x k 0) eu ∙ getD-set-other ups h k u 0 ne)
             (λ k ne. ap (λ (x : List ℕ). getD x k 0) ed ∙ getD-set-other downs h k d 0 ne) (g .marks r n m);
       }
 
 pub going-end : {pairs : List ℕ} {i end down up j : ℕ} {ups₀ downs₀ touched₀ ups downs touched : List ℕ} → j ≤ end → end ≤ j
-    → down ≡ getD pairs (4 * i + 3) 0 → up ≡ getD pairs (4 * i + 2) 0 → Going pairs (i + 1) end down up j ups₀ downs₀ touched₀ ups downs touched
+    → down ≡ downIn pairs i → up ≡ upIn pairs i → Going pairs (i + 1) end down up j ups₀ downs₀ touched₀ ups downs touched
     → Over pairs i end ups₀ downs₀ touched₀ ups downs touched
 going-end {pairs} {i} {end} {down} {up} {j} {ups₀} {downs₀} {touched₀} {ups} {downs} {touched} h k ed eu g =
-    let a : Relaxed pairs (i + 1) end 2 down ups₀ ups = relaxing-end pairs (i + 1) end 2 down ups₀ j ups h k (g .ups-by) in
-    let b : Relaxed pairs (i + 1) end 3 up downs₀ downs = relaxing-end pairs (i + 1) end 3 up downs₀ j downs h k (g .downs-by) in
+    let a : Relaxed pairs (i + 1) end upIn down ups₀ ups = relaxing-end pairs (i + 1) end upIn down ups₀ j ups h k (g .ups-by) in
+    let b : Relaxed pairs (i + 1) end downIn up downs₀ downs = relaxing-end pairs (i + 1) end downIn up downs₀ j downs h k (g .downs-by) in
     record { ups-by = rw ed at a; downs-by = rw eu at b; marks = g .marks }
 
 -- ---- the row of a lower rank v, where its pair with r is kept
@@ -140,15 +141,15 @@ going-end {pairs} {i} {end} {down} {up} {j} {ups₀} {downs₀} {touched₀} {up
 pub record Meeting (w : Weights) (n r v i end : ℕ) (pairs : List ℕ) : Type 0 where
   pub next-in : i < end
   pub end-in : 4 * end ≤ length pairs
-  pub first-up : ofWord (getD pairs (4 * i + 2) 0) ≡ up w v r
-  pub first-down : ofWord (getD pairs (4 * i + 3) 0) ≡ down w v r
+  pub first-up : ofWord (upIn pairs i) ≡ up w v r
+  pub first-down : ofWord (downIn pairs i) ≡ down w v r
   pub end-is : i + 1 + length (later w n v r) ≡ end
-  pub ups : Times pairs (i + 1) 2 (λ p. p .upTime) (later w n v r)
-  pub downs : Times pairs (i + 1) 3 (λ p. p .downTime) (later w n v r)
-  pub highs : (j : ℕ) → i + 1 ≤ j → j < end → getD pairs (4 * j + 1) 0 < n
+  pub ups : Times pairs (i + 1) upIn (λ p. p .upTime) (later w n v r)
+  pub downs : Times pairs (i + 1) downIn (λ p. p .downTime) (later w n v r)
+  pub highs : (j : ℕ) → i + 1 ≤ j → j < end → highIn pairs j < n
   -- the front of v, passed up to r
   pub place-is : i + 1 ≡ length (rows w n v) + length (row w v (suc r))
-  pub ahead-is : cond (ltb (i + 1) end) (getD pairs (4 * (i + 1) + 1) 0) n ≡ getD (row w v n) (length (row w v (suc r))) (edge n) .high
+  pub ahead-is : cond (ltb (i + 1) end) (highIn pairs (i + 1)) n ≡ getD (row w v n) (length (row w v (suc r))) (edge n) .high
 
 module _ {w : Weights} {n r k : ℕ} {pairs cursor ahead ends ups downs touched : List ℕ} (s : Stage w n r k pairs cursor ahead ends ups downs touched) (v : ℕ) (kv : k ≤ v) (vr : v < r) where
   rn : r < n
@@ -237,10 +238,10 @@ module _ {w : Weights} {n r k : ℕ} {pairs cursor ahead ends ups downs touched 
         let a = record-of (length (row w v r)) (edge n) (omega (arith, size, within)) in
         rw (← i-is, row-place w v r n (edge n) rn (kept e)) at a
 
-    front-ahead : cond (ltb (i + 1) end) (getD pairs (4 * (i + 1) + 1) 0) n ≡ getD (row w v n) (length (row w v (suc r))) (edge n) .high
+    front-ahead : cond (ltb (i + 1) end) (highIn pairs (i + 1)) n ≡ getD (row w v n) (length (row w v (suc r))) (edge n) .high
     front-ahead = go (decLt (i + 1) end)
       where
-        go : Dec (i + 1 < end) → cond (ltb (i + 1) end) (getD pairs (4 * (i + 1) + 1) 0) n ≡ getD (row w v n) (length (row w v (suc r))) (edge n) .high
+        go : Dec (i + 1 < end) → cond (ltb (i + 1) end) (highIn pairs (i + 1)) n ≡ getD (row w v n) (length (row w v (suc r))) (edge n) .high
         go (yes h) =
             let a = record-of (length (row w v (suc r))) (edge n) (omega (arith, next-is, end-is′)) in
             rw (lt-ltb (i + 1) end h, next-is) (a .high)
@@ -248,13 +249,13 @@ module _ {w : Weights} {n r k : ℕ} {pairs cursor ahead ends ups downs touched 
             let q : getD (row w v n) (length (row w v (suc r))) (edge n) ≡ edge n = List·getD-eq-default (row w v n) (edge n) {n = length (row w v (suc r))} (omega (arith, next-is, end-is′)) in
             rw (le-ltb (i + 1) end (omega arith)) (sym (ap (λ (p : Pair). p .high) q))
 
-    later-below : (j : ℕ) → j < length (later w n v r) → getD pairs (4 * (i + 1 + j) + 1) 0 < n
+    later-below : (j : ℕ) → j < length (later w n v r) → highIn pairs (i + 1 + j) < n
     later-below j l =
         let a = later-pair j (edge n) l in
         let b : getD (later w n v r) j (edge n) .high ≡ a .0 = ap (λ (p : Pair). p .high) (a .1) in
         omega (arith, later-at j (edge n) l .high, b, a .2)
 
-    high-below : (j : ℕ) → i + 1 ≤ j → j < end → getD pairs (4 * j + 1) 0 < n
+    high-below : (j : ℕ) → i + 1 ≤ j → j < end → highIn pairs j < n
     high-below j ij je =
         let q : i + 1 + (j - (i + 1)) ≡ j = omega arith in
         rw q at (later-below (j - (i + 1)) (omega (arith, next-is, end-is′, later-length)))
@@ -268,11 +269,11 @@ module _ {w : Weights} {n r k : ℕ} {pairs cursor ahead ends ups downs touched 
       end-is = omega (arith, next-is, end-is′, later-length, within);
       ups = record {
         high = λ j d l. later-at j d l .high;
-        at-word = λ j d l. let a = later-pair j d l in up-word (getD (later w n v r) j d) (a .0) (getD pairs (4 * (i + 1 + j) + 2) 0) (a .1) (a .2) (later-at j d l .ups);
+        time-is = λ j d l. let a = later-pair j d l in up-word (getD (later w n v r) j d) (a .0) (upIn pairs (i + 1 + j)) (a .1) (a .2) (later-at j d l .ups);
       };
       downs = record {
         high = λ j d l. later-at j d l .high;
-        at-word = λ j d l. let a = later-pair j d l in down-word (getD (later w n v r) j d) (a .0) (getD pairs (4 * (i + 1 + j) + 3) 0) (a .1) (a .2) (later-at j d l .downs);
+        time-is = λ j d l. let a = later-pair j d l in down-word (getD (later w n v r) j d) (a .0) (downIn pairs (i + 1 + j)) (a .1) (a .2) (later-at j d l .downs);
       };
       highs = high-below;
       place-is = next-is;
@@ -320,7 +321,7 @@ module _ {w : Weights} {n r v : ℕ} {pairs cursor ahead ends ups downs touched 
 
   -- it is kept, and v's row is passed
   pub stage-pass : (i end x : ℕ) (ups′ downs′ touched′ : List ℕ) → Meeting w n r v i end pairs → Over pairs i end ups downs touched ups′ downs′ touched′
-      → x ≡ cond (ltb (i + 1) end) (getD pairs (4 * (i + 1) + 1) 0) n
+      → x ≡ cond (ltb (i + 1) end) (highIn pairs (i + 1)) n
       → Stage w n r (v + 1) pairs (set cursor v (i + 1)) (set ahead v x) ends ups′ downs′ touched′
   stage-pass i end x ups′ downs′ touched′ m o ex =
       rw (add-one v) (record {

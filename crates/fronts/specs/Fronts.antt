@@ -13,6 +13,7 @@ use Rattle.graph.specs.Records.{Pair, edge, minOver, row, rows}
 use Rattle.graph.specs.Folds.{through}
 use Rattle.model.specs.Word.{ofWord, unasked}
 use Rattle.model.specs.State.{words}
+use Rattle.records.specs.Words.{downIn, highIn, upIn}
 use Rattle.rows.specs.Rows.{Marked, Row}
 
 -- every time of a pair fits
@@ -30,24 +31,24 @@ pub record Holds (l : List Pair) (count : ℕ) (pairs : List ℕ) : Type 0 where
 
 -- the highs of the records from `from` to before `to` have entries and marks
 pub record Reached (pairs : List ℕ) (from to : ℕ) (ups downs touched : List ℕ) : Type 0 where
-  pub ups-in : (j : ℕ) → from ≤ j → j < to → getD pairs (4 * j + 1) 0 < length ups
-  pub downs-in : (j : ℕ) → from ≤ j → j < to → getD pairs (4 * j + 1) 0 < length downs
-  pub marks-in : (j : ℕ) → from ≤ j → j < to → getD pairs (4 * j + 1) 0 < 32 * length touched
+  pub ups-in : (j : ℕ) → from ≤ j → j < to → highIn pairs j < length ups
+  pub downs-in : (j : ℕ) → from ≤ j → j < to → highIn pairs j < length downs
+  pub marks-in : (j : ℕ) → from ≤ j → j < to → highIn pairs j < 32 * length touched
 
--- from record `from` on stand the pairs of l, with one of their two times at word `at`
-pub record Times (pairs : List ℕ) (from at : ℕ) (time : Pair → Total) (l : List Pair) : Type 0 where
-  pub high : (i : ℕ) (d : Pair) → i < length l → getD pairs (4 * (from + i) + 1) 0 ≡ getD l i d .high
-  pub at-word : (i : ℕ) (d : Pair) → i < length l → ofWord (getD pairs (4 * (from + i) + at) 0) ≡ time (getD l i d)
+-- from record `from` on stand the pairs of l, with one of their two times where `timeIn` finds it (upIn or downIn)
+pub record Times (pairs : List ℕ) (from : ℕ) (timeIn : List ℕ → ℕ → ℕ) (time : Pair → Total) (l : List Pair) : Type 0 where
+  pub high : (i : ℕ) (d : Pair) → i < length l → highIn pairs (from + i) ≡ getD l i d .high
+  pub time-is : (i : ℕ) (d : Pair) → i < length l → ofWord (timeIn pairs (from + i)) ≡ time (getD l i d)
 
 -- each of these pairs relaxes the entry of its high by `first` and its time
-pub record Relaxed (pairs : List ℕ) (from to at first : ℕ) (row row′ : List ℕ) : Type 0 where
-  pub by : (r n : ℕ) (l : List Pair) (time : Pair → Total) (x : ℕ → Total) → Times pairs from at time l → from + length l ≡ to → Row r n row x
+pub record Relaxed (pairs : List ℕ) (from to : ℕ) (timeIn : List ℕ → ℕ → ℕ) (first : ℕ) (row row′ : List ℕ) : Type 0 where
+  pub by : (r n : ℕ) (l : List Pair) (time : Pair → Total) (x : ℕ → Total) → Times pairs from timeIn time l → from + length l ≡ to → Row r n row x
       → Row r n row′ (λ h. x h ⊓ minOver (through (ofWord first) time h) l)
 
 -- both rows by the records after i, up to before `end`: the up times over i's down time, and the down times over i's up time
 pub record Over (pairs : List ℕ) (i end : ℕ) (ups downs touched ups′ downs′ touched′ : List ℕ) : Type 0 where
-  pub ups-by : Relaxed pairs (i + 1) end 2 (getD pairs (4 * i + 3) 0) ups ups′
-  pub downs-by : Relaxed pairs (i + 1) end 3 (getD pairs (4 * i + 2) 0) downs downs′
+  pub ups-by : Relaxed pairs (i + 1) end upIn (downIn pairs i) ups ups′
+  pub downs-by : Relaxed pairs (i + 1) end downIn (upIn pairs i) downs downs′
   pub marks : (r n : ℕ) → Marked r n touched ups downs → Marked r n touched′ ups′ downs′
 
 -- ---- the rows of the lower ranks

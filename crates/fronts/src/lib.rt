@@ -9,19 +9,13 @@ ghost use Prim.Native.Nat.{_*_, _+_, _<_, _≤_, ℕ};
 ghost use lib.Dec.{ltb};
 ghost use lib.ListN.{getD, length};
 ghost use Rattle.graph.specs.Path.{Weights};
+ghost use Rattle.records.specs.Words.{highIn};
 ghost use Rattle.fronts.specs.Fronts.{Begun, Over, Reached, Stage};
 use network::Rank;
-use network::Time;
-
-// The number of ranks in a block.
-const BLOCK: u32 = 32;
-
-// The words of a record: the rank of its low, of its high, its up time and its down time.
-const HIGH: usize = 1;
-
-const UP: usize = 2;
-
-const DOWN: usize = 3;
+use records::down_of;
+use records::high_of;
+use records::up_of;
+use rows::BLOCK;
 
 // The paths over the low of record i, between its high and those of the records after it, relax both rows.
 fn relax_over(
@@ -35,15 +29,13 @@ fn relax_over(
     requires { ⌜ (i < end) × (4 * end ≤ length (now pairs)) × Reached (now pairs) (i + 1) end (now ups) (now downs) (now touched) ⌝ }
     ensures { λ _. ⌜ Over (now (pairs .entry)) i end (now (ups .entry)) (now (downs .entry)) (now (touched .entry)) (now (ups .exit)) (now (downs .exit)) (now (touched .exit)) ⌝ }
 {
-    let k = 4 * (i as usize);
-    let down = Time::of_word(pairs[k + DOWN]);
-    let up = Time::of_word(pairs[k + UP]);
+    let down = down_of(pairs, i);
+    let up = up_of(pairs, i);
     let mut j = i + 1;
     while j < end {
-        let q = 4 * (j as usize);
-        let h = pairs[q + HIGH] as usize;
-        rows::relax_entry(ups, h, down, Time::of_word(pairs[q + UP]));
-        rows::relax_entry(downs, h, up, Time::of_word(pairs[q + DOWN]));
+        let h = high_of(pairs, j).0 as usize;
+        rows::relax_entry(ups, h, down, up_of(pairs, j));
+        rows::relax_entry(downs, h, up, down_of(pairs, j));
         rows::mark(touched, h);
         j += 1;
     }
@@ -52,13 +44,9 @@ fn relax_over(
 // The high of record i; n where it is past the last of its row.
 pub fn ahead_at(pairs: &[u32], i: u32, end: u32, n: u32) -> u32
     requires { ⌜ 4 * end ≤ length (now pairs) ⌝ }
-    ensures { λ r. ⌜ r ≡ cond (ltb i end) (getD (now (pairs .entry)) (4 * i + 1) 0) n ⌝ }
+    ensures { λ r. ⌜ r ≡ cond (ltb i end) (highIn (now (pairs .entry)) i) n ⌝ }
 {
-    if i < end {
-        pairs[4 * (i as usize) + HIGH]
-    } else {
-        n
-    }
+    if i < end { high_of(pairs, i).0 } else { n }
 }
 
 // The lower rank v has a pair with r: the row of r is relaxed over v, and v's row is passed up to r. The answer is the high ahead then.

@@ -12,6 +12,11 @@ pub const NO_KEY: u64 = 18446744073709551615;
 
 pub const SETTLED: u64 = 18446744073709551614;
 
+// Junctions are chosen from in blocks: the number of junctions in a block, and the number of blocks of 4,096 junctions.
+pub const BLOCK: u32 = 64;
+
+pub const BLOCKS: usize = 64;
+
 // A candidate's key: its time plus its estimate. The sum may pass 32 bits.
 pub fn key_of(time: Time, estimate: Time) -> u64
     ensures { λ r. ⌜ r ≡ time .0 + estimate .0 ⌝ }

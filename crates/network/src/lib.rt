@@ -6,11 +6,11 @@ ghost use Prim.Native.Nat.{_*_, _+_, _<_, _≤_, min};
 ghost use lib.Dec.{eqb};
 ghost use lib.ListN.{drop, getD, length, take};
 ghost use Rattle.graph.specs.Total.{_⊕_};
+ghost use Rattle.model.specs.Types as model;
 ghost use Rattle.model.specs.Word.{closedWord, noneWord, ofWord, unasked, word};
 ghost use Rattle.model.specs.Bytes.{bytesOf, wordAt};
-ghost use Rattle.model.specs.Card.{question};
 ghost use Rattle.network.specs.Width.{fit};
-ghost use Rattle.network.specs.Refusals.{countOf, placeOf, refusalIn};
+ghost use Rattle.network.specs.Refusals.{refusalIn};
 
 // The number of a junction (a vertex).
 pub struct Junction(pub u32);
@@ -90,91 +90,117 @@ impl Time {
     }
 }
 
-// Why something is refused: one variant for each question of document 01, in its order.
-pub enum Refusal {
-    Short,
-    Kinds,
-    Starts,
-    Sizes,
-    Road(u32),
-    Place(u32),
-    AreaLengths,
-    Room,
-    Lengths,
-    NoRoad,
-    NotAllowed,
-    NoJunction,
-    NoTarget,
-    LentLengths,
-    NoPath(u32),
+// Why something is refused: the number of document 01's question; the road or place that 5 and 6 name and the count that 15 gives, else 0.
+pub struct Refusal {
+    pub question: u32,
+    pub place: u32,
+    pub count: u32,
 }
 
-// Document 01's number of a refusal.
-pub fn question_of(q: Refusal) -> u32
-    ensures { λ r. ⌜ r ≡ question (refusalIn q) ⌝ }
-{
-    match q {
-        Refusal::Short => 1,
-        Refusal::Kinds => 2,
-        Refusal::Starts => 3,
-        Refusal::Sizes => 4,
-        Refusal::Road(_) => 5,
-        Refusal::Place(_) => 6,
-        Refusal::AreaLengths => 7,
-        Refusal::Room => 8,
-        Refusal::Lengths => 9,
-        Refusal::NoRoad => 10,
-        Refusal::NotAllowed => 11,
-        Refusal::NoJunction => 12,
-        Refusal::NoTarget => 13,
-        Refusal::LentLengths => 14,
-        Refusal::NoPath(_) => 15,
+impl Refusal {
+    pub const SHORT: Refusal = Refusal {
+        question: 1,
+        place: 0,
+        count: 0,
+    };
+
+    pub const KINDS: Refusal = Refusal {
+        question: 2,
+        place: 0,
+        count: 0,
+    };
+
+    pub const STARTS: Refusal = Refusal {
+        question: 3,
+        place: 0,
+        count: 0,
+    };
+
+    pub const SIZES: Refusal = Refusal {
+        question: 4,
+        place: 0,
+        count: 0,
+    };
+
+    // By 5, with the first failing road.
+    pub fn road(i: u32) -> Self
+        ensures { λ r. ⌜ refusalIn r ≡ model.Road i ⌝ }
+    {
+        Refusal {
+            question: 5,
+            place: i,
+            count: 0,
+        }
     }
-}
 
-// The road or the place that a refusal by question 5 or 6 names; 0 for any other.
-pub fn place_of(q: Refusal) -> u32
-    ensures { λ r. ⌜ r ≡ placeOf (refusalIn q) ⌝ }
-{
-    match q {
-        Refusal::Short => 0,
-        Refusal::Kinds => 0,
-        Refusal::Starts => 0,
-        Refusal::Sizes => 0,
-        Refusal::Road(i) => i,
-        Refusal::Place(i) => i,
-        Refusal::AreaLengths => 0,
-        Refusal::Room => 0,
-        Refusal::Lengths => 0,
-        Refusal::NoRoad => 0,
-        Refusal::NotAllowed => 0,
-        Refusal::NoJunction => 0,
-        Refusal::NoTarget => 0,
-        Refusal::LentLengths => 0,
-        Refusal::NoPath(_) => 0,
+    // By 6, with the first failing place.
+    pub fn place(i: u32) -> Self
+        ensures { λ r. ⌜ refusalIn r ≡ model.Place i ⌝ }
+    {
+        Refusal {
+            question: 6,
+            place: i,
+            count: 0,
+        }
     }
-}
 
-// The count that refusal 15 carries; 0 for any other.
-pub fn count_of(q: Refusal) -> u32
-    ensures { λ r. ⌜ r ≡ countOf (refusalIn q) ⌝ }
-{
-    match q {
-        Refusal::Short => 0,
-        Refusal::Kinds => 0,
-        Refusal::Starts => 0,
-        Refusal::Sizes => 0,
-        Refusal::Road(_) => 0,
-        Refusal::Place(_) => 0,
-        Refusal::AreaLengths => 0,
-        Refusal::Room => 0,
-        Refusal::Lengths => 0,
-        Refusal::NoRoad => 0,
-        Refusal::NotAllowed => 0,
-        Refusal::NoJunction => 0,
-        Refusal::NoTarget => 0,
-        Refusal::LentLengths => 0,
-        Refusal::NoPath(c) => c,
+    pub const AREA_LENGTHS: Refusal = Refusal {
+        question: 7,
+        place: 0,
+        count: 0,
+    };
+
+    pub const ROOM: Refusal = Refusal {
+        question: 8,
+        place: 0,
+        count: 0,
+    };
+
+    pub const LENGTHS: Refusal = Refusal {
+        question: 9,
+        place: 0,
+        count: 0,
+    };
+
+    pub const NO_ROAD: Refusal = Refusal {
+        question: 10,
+        place: 0,
+        count: 0,
+    };
+
+    pub const NOT_ALLOWED: Refusal = Refusal {
+        question: 11,
+        place: 0,
+        count: 0,
+    };
+
+    pub const NO_JUNCTION: Refusal = Refusal {
+        question: 12,
+        place: 0,
+        count: 0,
+    };
+
+    pub const NO_TARGET: Refusal = Refusal {
+        question: 13,
+        place: 0,
+        count: 0,
+    };
+
+    pub const LENT_LENGTHS: Refusal = Refusal {
+        question: 14,
+        place: 0,
+        count: 0,
+    };
+
+    // By 15, with the count.
+    pub fn no_path(count: u32) -> Self
+        ensures { λ r. ⌜ refusalIn r ≡ model.NoPath count ⌝ }
+    {
+        Refusal {
+            question: 15,
+            place: 0,
+            count: count,
+        }
     }
 }
 

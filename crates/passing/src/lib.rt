@@ -4,9 +4,7 @@ ghost use Prim.Native.Nat.{_<_, _≤_};
 ghost use Rattle.graph.specs.Path.{Weights};
 ghost use Rattle.fronts.specs.Fronts.{Lower, Scanned, Stage};
 use network::Rank;
-
-// The number of ranks in a block.
-const BLOCK: u32 = 32;
+use rows::BLOCK;
 
 // The row of r is relaxed over the ranks from `from` to before `to`. The answer is the least of the highs ahead of them then, or n.
 fn pass_block(

@@ -32,9 +32,9 @@ pub fn prepare_areas(
         }
         Contracted::Kept(count) => {
             filling::fill_live(roads, live);
-            descents::fill(down, Time::NONE);
-            descents::fill(estimates, Time::UNASKED);
-            descents::fill(elapsed, Time::NONE);
+            areas::fill(down, Time::NONE.0);
+            areas::fill(estimates, Time::UNASKED.0);
+            areas::fill(elapsed, Time::NONE.0);
             Contracted::Kept(count)
         }
     }

@@ -1,12 +1,12 @@
 -- The records by their words, what leads up, and the first record of a rank. Definitions only.
 use mathlib.Core.Bool.{Bool, _&&_, cond, not}
-use mathlib.Core.List.{List}
+use mathlib.Core.List.{List, [], _++_, _∷_}
 use Prim.Native.Nat.{_*_, _+_, _<_, _≤_, ℕ}
 use lib.Dec.{eqb, ltb}
-use lib.ListN.{getD}
+use lib.ListN.{drop, getD, take}
 use Rattle.model.specs.Word.{noneWord, unasked}
 
--- ---- the four words of record i
+-- ---- the four words of record i (document 01: low, high, up time, down time): where they stand is said here
 
 abbrev pub lowIn : List ℕ → ℕ → ℕ
 lowIn pairs i = getD pairs (4 * i) 0
@@ -19,6 +19,10 @@ upIn pairs i = getD pairs (4 * i + 2) 0
 
 abbrev pub downIn : List ℕ → ℕ → ℕ
 downIn pairs i = getD pairs (4 * i + 3) 0
+
+-- the area with record i written
+abbrev pub withRecord : (pairs : List ℕ) (i low high up down : ℕ) → List ℕ
+withRecord pairs i low high up down = take (4 * i) pairs ++ (low ∷ high ∷ up ∷ down ∷ []) ++ drop (4 * i + 4) pairs
 
 -- a record leads up from rank r to a higher one of the n ranks
 unfoldable pub leads : (n r low high up : ℕ) → Bool

@@ -1,12 +1,28 @@
-// The records of the pairs: their four words, the first one of a rank, and which lead up.
+// The records of the pairs: their four words, read and written here and nowhere else; the first one of a rank, and which lead up.
 ghost use mathlib.Core.Path.{_≡_};
 ghost use Prim.Native.Nat.{_*_, _+_, _<_, _≤_};
 ghost use lib.ListN.{length};
-ghost use Rattle.records.specs.Words.{Starts, answer, belowIn, downIn, highIn, leads, lowIn, upIn};
+ghost use Rattle.records.specs.Words.{Starts, answer, belowIn, downIn, highIn, leads, lowIn, upIn, withRecord};
 use network::Rank;
 use network::Time;
 
 // ---- the four words of record i
+
+// The number of words of a record: the rank of its low, of its high, its up time and its down time.
+const WORDS: usize = 4;
+
+const HIGH: usize = 1;
+
+const UP: usize = 2;
+
+const DOWN: usize = 3;
+
+// The number of words that `count` records take.
+pub fn words_of(count: u32) -> usize
+    ensures { λ r. ⌜ r ≡ 4 * count ⌝ }
+{
+    WORDS * (count as usize)
+}
 
 // The rank of its lower junction.
 pub fn low_of(pairs: &[u32], i: u32) -> Rank
@@ -14,7 +30,7 @@ pub fn low_of(pairs: &[u32], i: u32) -> Rank
     ensures { λ r. ⌜ r .0 ≡ lowIn (now (pairs .entry)) i ⌝ }
 {
     let k = i as usize;
-    Rank(pairs[4 * k])
+    Rank(pairs[WORDS * k])
 }
 
 // The rank of its higher junction.
@@ -23,7 +39,7 @@ pub fn high_of(pairs: &[u32], i: u32) -> Rank
     ensures { λ r. ⌜ r .0 ≡ highIn (now (pairs .entry)) i ⌝ }
 {
     let k = i as usize;
-    Rank(pairs[4 * k + 1])
+    Rank(pairs[WORDS * k + HIGH])
 }
 
 // The time from the lower to the higher.
@@ -32,7 +48,7 @@ pub fn up_of(pairs: &[u32], i: u32) -> Time
     ensures { λ t. ⌜ t .0 ≡ upIn (now (pairs .entry)) i ⌝ }
 {
     let k = i as usize;
-    Time::of_word(pairs[4 * k + 2])
+    Time::of_word(pairs[WORDS * k + UP])
 }
 
 // The time from the higher to the lower.
@@ -41,7 +57,19 @@ pub fn down_of(pairs: &[u32], i: u32) -> Time
     ensures { λ t. ⌜ t .0 ≡ downIn (now (pairs .entry)) i ⌝ }
 {
     let k = i as usize;
-    Time::of_word(pairs[4 * k + 3])
+    Time::of_word(pairs[WORDS * k + DOWN])
+}
+
+// Writes record i.
+pub fn put_record(pairs: &mut [u32], i: u32, low: Rank, high: Rank, up: Time, down: Time)
+    requires { ⌜ 4 * i + 4 ≤ length (now pairs) ⌝ }
+    ensures { λ _. ⌜ now (pairs .exit) ≡ withRecord (now (pairs .entry)) i (low .0) (high .0) (up .0) (down .0) ⌝ }
+{
+    let k = WORDS * (i as usize);
+    pairs[k] = low.0;
+    pairs[k + HIGH] = high.0;
+    pairs[k + UP] = up.0;
+    pairs[k + DOWN] = down.0;
 }
 
 // ---- the records of a rank

@@ -50,8 +50,14 @@ le-same v = omega arith
 pub next-fits : (i end l : ℕ) → i < end → 4 * end ≤ l → l ≤ 262144 → i + 1 < 4294967296
 next-fits i end l h k a = omega arith
 
-pub room-fits : (k l l₀ : ℕ) → 4 * k + 4 ≤ l → l ≡ l₀ → l₀ ≤ 262144 → k + 1 < 4294967296
-room-fits k l l₀ h e a = omega arith
+pub count-fits : (k l : ℕ) → 4 * k ≤ l → l ≤ 262144 → k + 1 < 4294967296
+count-fits k l h a = omega arith
+
+pub room-in : (k e l : ℕ) → e ≡ 4 * (k + 1) → e ≤ l → 4 * k + 4 ≤ l
+room-in k e l h a = omega arith
+
+pub room-out : (k e l : ℕ) → e ≡ 4 * (k + 1) → l < e → l < 4 * k + 4
+room-out k e l h a = omega arith
 
 pub room-next : (k l l₀ : ℕ) → 4 * k + 4 ≤ l → l ≡ l₀ → 4 * (k + 1) ≤ l₀
 room-next k l l₀ h e = omega arith

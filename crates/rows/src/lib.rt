@@ -1,25 +1,17 @@
-// The row of a rank r: its times with the ranks above it, in two areas by rank, and marks at the blocks of 32 ranks where they are relaxed. It ends as
-// records.
+// The row of a rank r: its times with the ranks above it, in two areas by rank, and marks at the blocks of 32 ranks where they are relaxed.
 ghost use mathlib.Core.Path.{_≡_};
-ghost use mathlib.Core.List.{[], _++_, _∷_};
-ghost use Prim.Native.Nat.{_*_, _+_, _<_, _≤_, _/_, min};
-ghost use lib.ListN.{drop, getD, length, set, take};
+ghost use Prim.Native.Nat.{_*_, _<_, _/_, min};
+ghost use lib.ListN.{getD, length, set};
 ghost use Rattle.graph.specs.Total.{_⊕_};
 ghost use Rattle.graph.specs.Records.{exists};
 ghost use Rattle.model.specs.Word.{noneWord, ofWord, word};
 ghost use Rattle.network.specs.Width.{fit};
-use network::Rank;
 use network::Time;
 
-// The number of ranks in a block.
-const BLOCK: usize = 32;
+// The number of ranks in a block, and the number of blocks of 4,096 ranks.
+pub const BLOCK: u32 = 32;
 
-// The words of a record: the rank of its low, of its high, its up time and its down time.
-const HIGH: usize = 1;
-
-const UP: usize = 2;
-
-const DOWN: usize = 3;
+pub const BLOCKS: usize = 128;
 
 pub fn least(a: u32, b: u32) -> u32
     ensures { λ r. ⌜ r ≡ min a b ⌝ }
@@ -32,7 +24,7 @@ pub fn mark(touched: &mut [u32], h: usize)
     requires { ⌜ h < 32 * length (now touched) ⌝ }
     ensures { λ _. ⌜ now (touched .exit) ≡ set (now (touched .entry)) (h / 32) 1 ⌝ }
 {
-    touched[h / BLOCK] = 1;
+    touched[h / (BLOCK as usize)] = 1;
 }
 
 // The entry of rank h is relaxed by a sum of two times.
@@ -53,8 +45,6 @@ pub fn take_time(row: &mut [u32], h: usize) -> Time
     Time::of_word(t)
 }
 
-// ---- the records of a row
-
 // A pair is kept when either time exists.
 pub fn is_kept(up: Time, down: Time) -> bool
     ensures { λ r. ⌜ r ≡ exists (ofWord (up .0)) (ofWord (down .0)) ⌝ }
@@ -63,16 +53,4 @@ pub fn is_kept(up: Time, down: Time) -> bool
         return !down.is_none();
     }
     true
-}
-
-// Writes record k.
-pub fn put_record(pairs: &mut [u32], k: u32, low: Rank, high: Rank, up: Time, down: Time)
-    requires { ⌜ 4 * k + 4 ≤ length (now pairs) ⌝ }
-    ensures { λ _. ⌜ now (pairs .exit) ≡ take (4 * k) (now (pairs .entry)) ++ (low .0 ∷ high .0 ∷ up .0 ∷ down .0 ∷ []) ++ drop (4 * k + 4) (now (pairs .entry)) ⌝ }
-{
-    let i = 4 * (k as usize);
-    pairs[i] = low.0;
-    pairs[i + HIGH] = high.0;
-    pairs[i + UP] = up.0;
-    pairs[i + DOWN] = down.0;
 }

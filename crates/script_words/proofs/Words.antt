@@ -1,15 +1,13 @@
 -- The words of a call and of an answer. Assumes nothing.
-use mathlib.Core.Path.{_∙_, _≡_, ap, ap₂, refl, sym}
+use mathlib.Core.Path.{_∙_, _≡_, ap, refl, sym}
 use mathlib.Core.Logic.{_≢_}
 use mathlib.Core.List.{List, [], _++_, _∷_}
 use Prim.Native.Nat.{_*_, _+_, _≤_, suc, zero, ℕ}
 use lib.ListN.{drop, length, set, take}
 use lib.Seq.{sets-eq}
 use native.Mathlib.Omega.{arith}
-use Rattle.model.specs.Types.{Answer, Estimated, Refusal, Refused}
-use Rattle.model.specs.Card.{question}
+use Rattle.model.specs.Types.{Answer, Estimated}
 use Rattle.model.specs.Machine.{plainAim, plainEstimate, plainGo, plainSet}
-use Rattle.network.specs.Refusals.{countOf}
 use Rattle.script_words.specs.Words.{answerWords, spelled}
 
 -- ---- the words of a call
@@ -45,9 +43,6 @@ four-stored s k a b c d h =
 -- four words stored are those of an answer
 pub put-told : (out after w v : List ℕ) (k : ℕ) → after ≡ take (4 * k) out ++ w ++ drop (4 * k + 4) out → w ≡ v → after ≡ take (4 * k) out ++ v ++ drop (4 * k + 4) out
 put-told out after w v k e f = e ∙ ap (λ (x : List ℕ). take (4 * k) out ++ x ++ drop (4 * k + 4) out) f
-
-pub refused-words : (a c : ℕ) (q : Refusal) (x : Answer) → a ≡ question q → c ≡ countOf q → x ≡ Refused q → a ∷ 0 ∷ c ∷ 0 ∷ [] ≡ answerWords x
-refused-words a c q x ea ec e = ap₂ (λ (u : ℕ) (v : ℕ). u ∷ 0 ∷ v ∷ 0 ∷ []) ea ec ∙ ap answerWords (sym e)
 
 pub estimated-words : (t u : ℕ) (x : Answer) → t ≡ u → x ≡ Estimated u → 0 ∷ t ∷ 0 ∷ 0 ∷ [] ≡ answerWords x
 estimated-words t u x et e = ap (λ (y : ℕ). 0 ∷ y ∷ 0 ∷ 0 ∷ []) et ∙ ap answerWords (sym e)

@@ -3,10 +3,8 @@ use mathlib.Core.List.{List, [], _∷_}
 use Prim.Native.Nat.{_*_, _+_, _/_, min, suc, zero, ℕ}
 use lib.ListN.{getD, length}
 use Rattle.model.specs.Types.{Accepted, Answer, Estimated, Gone, Refused}
-use Rattle.model.specs.Card.{question}
 use Rattle.model.specs.State.{Lent}
 use Rattle.model.specs.Machine.{Plain, plainAim, plainEstimate, plainGo, plainSet}
-use Rattle.network.specs.Refusals.{countOf}
 
 -- the call that a record's words spell: its kind, 0 set, 1 aim, 2 estimate, any other go; two arguments; the lengths r and l of go's areas
 abbrev pub spelled : (kind one two r l : ℕ) → Plain
@@ -33,7 +31,7 @@ turnsOf script out = min (script / 4) (out / 4)
 
 -- an answer as four words: the number of the question that refuses, or 0; estimate or total; count; number of roads
 abbrev pub answerWords : Answer → List ℕ
-answerWords (Refused q) = question q ∷ 0 ∷ countOf q ∷ 0 ∷ []
+answerWords (Refused q) = q .question ∷ 0 ∷ q .count ∷ 0 ∷ []
 answerWords Accepted = 0 ∷ 0 ∷ 0 ∷ 0 ∷ []
 answerWords (Estimated t) = 0 ∷ t ∷ 0 ∷ 0 ∷ []
 answerWords (Gone t c k) = 0 ∷ t ∷ c ∷ k ∷ []

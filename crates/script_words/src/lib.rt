@@ -74,14 +74,7 @@ pub fn put_answer(out: &mut [u64], k: usize, x: Answer)
         ≡ take (4 * k) (now (out .entry)) ++ answerWords (answerIn x) ++ drop (4 * k + 4) (now (out .entry)) ⌝ }
 {
     match x {
-        Answer::Refused(q) => put_four(
-            out,
-            k,
-            network::question_of(q) as u64,
-            0,
-            network::count_of(q) as u64,
-            0,
-        ),
+        Answer::Refused(q) => put_four(out, k, q.question as u64, 0, q.count as u64, 0),
         Answer::Accepted => put_four(out, k, 0, 0, 0, 0),
         Answer::Estimated(t) => put_four(out, k, 0, t.word() as u64, 0, 0),
         Answer::Gone(t, c, r) => put_four(out, k, 0, t, c as u64, r as u64),

@@ -6,12 +6,13 @@ ghost use Rattle.keys.specs.Keys.{noKey};
 ghost use Rattle.relaxing.specs.State.{Begun, Sized};
 ghost use Rattle.search.specs.Logs.{Logs};
 ghost use Rattle.search.specs.Searches.{Searches};
+use areas::fill;
 use choosing::enter;
 use choosing::finish;
 use choosing::reset;
-use descents::fill;
 use exploring::explore;
 use hierarchy::estimate;
+use keys::BLOCKS;
 use keys::NO_KEY;
 use keys::key_of;
 use network::Junction;
@@ -36,7 +37,7 @@ fn begin(
     requires { ⌜ (start .0 < n) × (n ≤ 4096) × (length (now order) ≡ 4 * n) × (length (now ranks) ≡ n) × (length (now down) ≡ n) × (length (now estimates) ≡ n) × (length (now elapsed) ≡ n) × (n ≤ length (now keys)) × (n ≤ 64 * length (now wins)) × (length (now wins) ≤ 64) × (4 * count ≤ length (now pairs)) × (count ≤ 65536) × ((v : ℕ) → v < n → getD (now keys) v 0 ≡ noKey) ⌝ }
     ensures { λ _. ⌜ Begun n count (now (order .entry)) (now (ranks .entry)) (now (pairs .entry)) (now (down .entry)) (start .0) (now (estimates .entry)) (now (estimates .exit)) (now (elapsed .exit)) (now (keys .exit)) (now (wins .exit)) ⌝ }
 {
-    fill(elapsed, Time::NONE);
+    fill(elapsed, Time::NONE.0);
     reset(wins);
     let to_go = estimate(n, count, order, ranks, pairs, down, estimates, start);
     if to_go.is_none() {
@@ -71,7 +72,7 @@ fn log_all(
     ensures { λ c. ⌜ Logs (now (roads .entry)) (now (order .entry)) (now (ranks .entry)) (now (pairs .entry)) (now (live .entry)) (now (down .entry)) n m count (start .0) (target .0) (now (estimates .entry)) (now (log .entry)) (now (estimates .exit)) (now (elapsed .exit)) (now (vias .exit)) (now (log .exit)) c ⌝ }
 {
     let mut keys = [NO_KEY; 4096];
-    let mut wins = [0u32; 64];
+    let mut wins = [0u32; BLOCKS];
     let mut firsts = [m; 4096];
     let mut nexts = [0u32; 16384];
     group(roads, n, m, &mut firsts, &mut nexts);

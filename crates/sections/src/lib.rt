@@ -66,13 +66,13 @@ pub fn check<'a>(roads: &'a [u8], order: &'a [u8]) -> Verdict
     ensures { λ r. ⌜ verdictIn r ≡ rowsRefusal (length (now (roads .entry))) (length (now (order .entry))) (rowsIn (now (roads .entry)) (now (order .entry))) ⌝ }
 {
     if !checks::sizes_ok(roads.len(), order.len()) {
-        return Verdict::Failed(Refusal::Sizes);
+        return Verdict::Failed(Refusal::SIZES);
     }
     if let Failing::At(i) = failing_road(roads, order) {
-        return Verdict::Failed(Refusal::Road(i));
+        return Verdict::Failed(Refusal::road(i));
     }
     if let Failing::At(k) = failing_place(order) {
-        return Verdict::Failed(Refusal::Place(k));
+        return Verdict::Failed(Refusal::place(k));
     }
     Verdict::Passed
 }

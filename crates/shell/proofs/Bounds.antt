@@ -12,7 +12,6 @@ use native.Mathlib.Omega.{arith}
 use Rattle.graph.specs.Total.{Tested, Total, decide}
 use Rattle.model.specs.Types.{Accepted, Answer, Estimated, Gone, Refusal, Refused}
 use Rattle.model.specs.Word.{ofWord}
-use Rattle.model.specs.Card.{question}
 use Rattle.texts.specs.Areas.{Written, decimal, digitsIn, shown, spaced}
 use Rattle.answer_texts.specs.Texts.{placesOf, refusalText, totalText, worded}
 use Rattle.console.specs.Texts.{answerText, newline, unreadableText}
@@ -36,9 +35,9 @@ spaced-length [] = omega arith
 spaced-length (n ∷ l) = let h = spaced-length l in omega (arith, h, decimal-length n, length-append (decimal n) (spaced l))
 
 places-length : (q : Refusal) → length (placesOf q) ≤ 1
-places-length q = go (decide (eqb (question q) 5)) (decide (eqb (question q) 6))
+places-length q = go (decide (eqb (q .question) 5)) (decide (eqb (q .question) 6))
   where
-    go : Tested (eqb (question q) 5) → Tested (eqb (question q) 6) → length (placesOf q) ≤ 1
+    go : Tested (eqb (q .question) 5) → Tested (eqb (q .question) 6) → length (placesOf q) ≤ 1
     go (inl a) b = rw a (omega arith)
     go (inr a) (inl b) = rw (a, b) (omega arith)
     go (inr a) (inr b) = rw (a, b) (omega arith)
@@ -49,7 +48,7 @@ total-length (some t) = spaced-length (t ∷ [])
 
 -- 2 bytes of a word, 21 for each number
 worded-length : (x : Answer) (route : List ℕ) → length route ≤ 200 → length (worded x route) ≤ 8000
-worded-length (Refused q) route h = omega (arith, spaced-length (question q ∷ placesOf q), places-length q)
+worded-length (Refused q) route h = omega (arith, spaced-length (q .question ∷ placesOf q), places-length q)
 worded-length Accepted route h = omega arith
 worded-length (Estimated w) route h = omega (arith, total-length (ofWord w))
 worded-length (Gone t c k) route h = omega (arith, spaced-length (t ∷ c ∷ take k route), length-take k route)

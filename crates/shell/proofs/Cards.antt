@@ -16,7 +16,7 @@ use Rattle.graph.specs.Map.{Map, pairsOf}
 use Rattle.model.specs.Types.{Accepted, Answer, Answered, AreaLengths, Header, Kinds, Place, Read}
 use Rattle.model.specs.Types.{Reading, Refusal, Refused, Road, Room, Short, Sizes, Starts, Unreadable}
 use Rattle.model.specs.Card.{andThen, ask, askEach, cardRefusal, kindsOk, mapOn, orderBytes, placeOk}
-use Rattle.model.specs.Card.{question, readCard, reading, roadBytes, roadOk, rowsOf, rowsRefusal, sizesOk, startsOk}
+use Rattle.model.specs.Card.{readCard, reading, roadBytes, roadOk, rowsOf, rowsRefusal, sizesOk, startsOk}
 use Rattle.model.specs.State.{Areas, State, Step, areasRefusal, fresh, lengthsOk, noneLent, prepare, roomRefusal, answering, unless, zeroHeader, zeroed}
 use Rattle.model.specs.Contracts.{after}
 use Rattle.model.specs.Good.{facts-lengths, lengths-facts}
@@ -28,18 +28,18 @@ use Rattle.shell.proofs.Bounds.{answer-length, shown-text, unreadable-l
 
 -- ---- which questions refuse
 
-ask-low : (b : Bool) (q : Refusal) (rest : Option Refusal) (p : Refusal) → question q < 7 → (rest ≡ some p → question p < 7) → ask b q rest ≡ some p
-    → question p < 7
+ask-low : (b : Bool) (q : Refusal) (rest : Option Refusal) (p : Refusal) → q .question < 7 → (rest ≡ some p → p .question < 7) → ask b q rest ≡ some p
+    → p .question < 7
 ask-low true q rest p h g e = g e
-ask-low false q rest p h g e = rw (ap question (some-some refl e)) at h
+ask-low false q rest p h g e = subst (λ (r : Refusal). r .question < 7) (some-some refl e) h
 
-each-low : (x : Total) (f : ℕ → Refusal) (rest : Option Refusal) (p : Refusal) → ((i : ℕ) → question (f i) < 7) → (rest ≡ some p → question p < 7)
-    → askEach x f rest ≡ some p → question p < 7
+each-low : (x : Total) (f : ℕ → Refusal) (rest : Option Refusal) (p : Refusal) → ((i : ℕ) → f i .question < 7) → (rest ≡ some p → p .question < 7)
+    → askEach x f rest ≡ some p → p .question < 7
 each-low none f rest p h g e = g e
-each-low (some i) f rest p h g e = rw (ap question (some-some refl e)) at (h i)
+each-low (some i) f rest p h g e = subst (λ (r : Refusal). r .question < 7) (some-some refl e) (h i)
 
 -- those on a card are 1 to 6
-card-low : (card : List ℕ) (p : Refusal) → cardRefusal card ≡ some p → question p < 7
+card-low : (card : List ℕ) (p : Refusal) → cardRefusal card ≡ some p → p .question < 7
 unfolding cardRefusal rowsRefusal
 card-low card p =
     let r = rowsOf card in
@@ -50,38 +50,38 @@ card-low card p =
     (each-low (firstBelow (length (r .roads) / 3) (λ i. not (roadOk r i))) Road _ p (λ i. omega arith)
     (each-low (firstBelow (length (r .order)) (λ k. not (placeOk r k))) Place _ p (λ i. omega arith) (λ e. absurd (none-some refl e)))))))
 
-room-low : (M : Map) (a : Areas) (p : Refusal) → roomRefusal M a ≡ some p → question p ≢ 7
+room-low : (M : Map) (a : Areas) (p : Refusal) → roomRefusal M a ≡ some p → p .question ≢ 7
 unfolding roomRefusal
 room-low M a p e h = ask-room (leb (4 * length (pairsOf M)) (length (a .pairs))) p e h
   where
-    ask-room : (b : Bool) (p : Refusal) → ask b Room none ≡ some p → question p ≡ 7 → ⊥
+    ask-room : (b : Bool) (p : Refusal) → ask b Room none ≡ some p → p .question ≡ 7 → ⊥
     ask-room true p e h = none-some refl e
-    ask-room false p e h = let k : question Room ≡ question p = ap question (some-some refl e) in omega (arith, k, h)
+    ask-room false p e h = let k : Room .question ≡ p .question = ap (λ (r : Refusal). r .question) (some-some refl e) in omega (arith, k, h)
 
 -- their lines
-line-plain : (q : Refusal) → question q ≢ 7 → refusalLine q ≡ noLine q
+line-plain : (q : Refusal) → q .question ≢ 7 → refusalLine q ≡ noLine q
 unfolding refusalLine
-line-plain q h = rw (ne-eqb (question q) 7 h)
+line-plain q h = rw (ne-eqb (q .question) 7 h)
 
-line-seven : (q : Refusal) → question q ≡ 7 → refusalLine q ≡ unreadableText
+line-seven : (q : Refusal) → q .question ≡ 7 → refusalLine q ≡ unreadableText
 unfolding refusalLine
-line-seven q h = rw (eq-eqb (question q) 7 h)
+line-seven q h = rw (eq-eqb (q .question) 7 h)
 
 refusal-length : (q : Refusal) → length (refusalLine q) ≤ 8192
-refusal-length q = go (ℕ-discrete (question q) 7)
+refusal-length q = go (ℕ-discrete (q .question) 7)
   where
-    go : Dec (question q ≡ 7) → length (refusalLine q) ≤ 8192
+    go : Dec (q .question ≡ 7) → length (refusalLine q) ≤ 8192
     go (yes h) = rw (line-seven q h) unreadable-length
     go (no h) = rw (line-plain q h) (answer-length (Refused q) [] (omega arith))
 
 -- ---- the ways
 
-module _ (q : Refusal) (n k : ℕ) (out₀ out : List ℕ) (asked : n ≡ question q) where
-  pub larger-line : n ≡ 7 → Written out₀ unreadableText out k → Written out₀ (refusalLine q) out k
-  larger-line h = subst (λ (t : List ℕ). Written out₀ t out k) (sym (line-seven q (sym asked ∙ h)))
+module _ (q : Refusal) (k : ℕ) (out₀ out : List ℕ) where
+  pub larger-line : q .question ≡ 7 → Written out₀ unreadableText out k → Written out₀ (refusalLine q) out k
+  larger-line h = subst (λ (t : List ℕ). Written out₀ t out k) (sym (line-seven q h))
 
-  pub refused-line : n ≢ 7 → Written out₀ (noLine q) out k → Written out₀ (refusalLine q) out k
-  refused-line h = subst (λ (t : List ℕ). Written out₀ t out k) (sym (line-plain q (λ e. h (asked ∙ e))))
+  pub refused-line : q .question ≢ 7 → Written out₀ (noLine q) out k → Written out₀ (refusalLine q) out k
+  refused-line h = subst (λ (t : List ℕ). Written out₀ t out k) (sym (line-plain q h))
 
 pub over-way : (bytes k : ℕ) (out₀ out : List ℕ) (o : Opening) → 32768 < bytes → 8192 ≤ length out₀ → Written out₀ unreadableText out k
     → Ends (take k out) ≡ unlessOver bytes o

@@ -9,7 +9,7 @@ use lib.Dec.{eqb, ltb}
 use lib.ListN.{length, take}
 use Rattle.graph.specs.Map.{Map}
 use Rattle.model.specs.Types as model
-use Rattle.model.specs.Card.{cardRefusal, mapOn, question, readCard}
+use Rattle.model.specs.Card.{cardRefusal, mapOn, readCard}
 use Rattle.model.specs.State.{Areas, State, fresh, prepare, roomRefusal}
 use Rattle.model.specs.Contracts.{before}
 use Rattle.unit.specs.Shape.{headerIn}
@@ -71,7 +71,7 @@ openedIn r out a = cond (r .prepared) (Opens (before (headerIn (r .header)) a)) 
 
 -- the line of a refused preparing: by 7 the map is larger than the areas
 unfoldable pub refusalLine : model.Refusal → List ℕ
-refusalLine q = cond (eqb (question q) 7) unreadableText (noLine q)
+refusalLine q = cond (eqb (q .question) 7) unreadableText (noLine q)
 
 -- what preparing's answer and header come to
 abbrev pub judged : model.Header → model.Answer → Areas → Opening

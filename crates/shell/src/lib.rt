@@ -71,7 +71,7 @@ pub fn room_for(file: &[u8]) -> Sizes
 fn write_refusal(q: Refusal, out: &mut [u8]) -> usize
     ensures { λ r. ⌜ Written (now (out .entry)) (refusalLine (refusalIn q)) (now (out .exit)) r ⌝ }
 {
-    if network::question_of(q) == 7 {
+    if q.question == 7 {
         return console::write_unreadable(out);
     }
     let route = [0u32; 1];

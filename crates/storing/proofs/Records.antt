@@ -3,8 +3,8 @@ use mathlib.Core.Path.{_∙_, _≡_, ap, ap₂, refl, sym}
 use mathlib.Core.Bool.{Bool, false, true}
 use mathlib.Core.List.{List, [], _++_, _∷_, append-assoc, append-nil}
 use Prim.Native.Nat.{_*_, _+_, _-_, _/_, _<_, _≤_, min, suc, zero, ℕ}
-use lib.ListN.{getD, length, length-append, replicate, replicate-append-replicate, set, take}
-use lib.Seq.{getD-set-other, getD-set-same, length-take-le, take-at, take-length, take-suc-set}
+use lib.ListN.{drop, drop-of-length-le, getD, length, length-append, length-drop, replicate, set, take}
+use lib.Seq.{getD-set-other, getD-set-same, length-take-le, take-at}
 use native.Mathlib.Decide.{decLt, ℕ-discrete}
 use native.Mathlib.Numerals.{add-one}
 use native.Mathlib.Omega.{arith}
@@ -188,19 +188,14 @@ module _ {w : Weights} {n r count : ℕ} {touched ups₀ downs₀ pairs₀ : Lis
         downs-none = λ j q. record { wide = omega (arith, g .downs-are .wide); at = λ a ra an. inv .downs-left .done a ra (omega arith) };
       }
 
--- ---- zeros
+-- ---- zeros after the last
 
-pub zeros-start : (k : ℕ) (s : List ℕ) → take k s ≡ take k s ++ replicate (k - k) 0
-zeros-start k s = let e : k - k ≡ 0 = omega arith in rw e (sym (append-nil (take k s)))
-
-pub zeros-turn : (k i : ℕ) (s₀ s : List ℕ) → k ≤ i → i < length s → take i s ≡ take k s₀ ++ replicate (i - k) 0 → take (i + 1) (set s i 0) ≡ take k s₀ ++ replicate (i + 1 - k) 0
-zeros-turn k i s₀ s h l e =
-    let j : i - k + 1 ≡ i + 1 - k = omega arith in
-    ap (λ (x : ℕ). take x (set s i 0)) (add-one i) ∙ take-suc-set s i 0 l ∙ ap (λ (x : List ℕ). x ++ (0 ∷ [])) e
-    ∙ append-assoc (take k s₀) (replicate (i - k) 0) (0 ∷ []) ∙ ap (_++_ (take k s₀)) (replicate-append-replicate (i - k) 1 0 ∙ ap (λ (x : ℕ). replicate x 0) j)
-
-pub zeros-end : (k i : ℕ) (s₀ s : List ℕ) → length s ≤ i → i ≤ length s → length s ≡ length s₀ → take i s ≡ take k s₀ ++ replicate (i - k) 0 → s ≡ take k s₀ ++ replicate (length s₀ - k) 0
-zeros-end k i s₀ s h l n e =
-    let j : length s ≡ i = omega arith in
-    let m : i - k ≡ length s₀ - k = omega arith in
-    sym (take-length s) ∙ ap (λ (x : ℕ). take x s) j ∙ e ∙ ap (λ (x : ℕ). take k s₀ ++ replicate x 0) m
+-- the rest of the area from k on, filled as a part of it
+pub rest-filled : (m k : ℕ) (s y : List ℕ) → k ≡ m → y ≡ replicate (length (take (length s - k) (drop k s))) 0
+    → take k s ++ (y ++ drop (length s - k) (drop k s)) ≡ take m s ++ replicate (length s - m) 0
+rest-filled m k s y e f =
+    let n : length (drop k s) ≡ length s - k = length-drop k s in
+    let t : length (take (length s - k) (drop k s)) ≡ length s - k = length-take-le (length s - k) (drop k s) (omega arith) in
+    let z : drop (length s - k) (drop k s) ≡ [] = drop-of-length-le (drop k s) {i = length s - k} (omega arith) in
+    ap (λ (x : List ℕ). take k s ++ (y ++ x)) z ∙ ap (_++_ (take k s)) (append-nil y ∙ f ∙ ap (λ (j : ℕ). replicate j 0) t)
+    ∙ ap (λ (j : ℕ). take j s ++ replicate (length s - j) 0) e

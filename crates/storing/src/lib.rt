@@ -6,9 +6,7 @@ ghost use lib.ListN.{length, replicate, take};
 ghost use Rattle.graph.specs.Path.{Weights};
 ghost use Rattle.storing.specs.Storing.{RowAppended, RowTimes};
 use network::Rank;
-
-// The number of ranks in a block.
-const BLOCK: u32 = 32;
+use rows::BLOCK;
 
 // The number of records in the area, if all fit.
 pub enum Stored {
@@ -46,10 +44,10 @@ pub fn append_row(
             let u = rows::take_time(ups, at);
             let d = rows::take_time(downs, at);
             if rows::is_kept(u, d) {
-                if 4 * (k as usize) + 4 > pairs.len() {
+                if records::words_of(k + 1) > pairs.len() {
                     return Stored::Full;
                 }
-                rows::put_record(pairs, k, r, high, u, d);
+                records::put_record(pairs, k, r, high, u, d);
                 k += 1;
             }
         }
@@ -57,14 +55,11 @@ pub fn append_row(
     Stored::All(k)
 }
 
-// Fills the area with 0 from word k on.
-pub fn clear_from(pairs: &mut [u32], k: usize)
-    requires { ⌜ k ≤ length (now pairs) ⌝ }
-    ensures { λ _. ⌜ now (pairs .exit) ≡ take k (now (pairs .entry)) ++ replicate (length (now (pairs .entry)) - k) 0 ⌝ }
+// Fills the area with 0 after the first `count` records.
+pub fn clear_from(pairs: &mut [u32], count: u32)
+    requires { ⌜ 4 * count ≤ length (now pairs) ⌝ }
+    ensures { λ _. ⌜ now (pairs .exit) ≡ take (4 * count) (now (pairs .entry)) ++ replicate (length (now (pairs .entry)) - 4 * count) 0 ⌝ }
 {
-    let mut i = k;
-    while i < pairs.len() {
-        pairs[i] = 0;
-        i += 1;
-    }
+    let k = records::words_of(count);
+    areas::fill(&mut pairs[k..], 0);
 }

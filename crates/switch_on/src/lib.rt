@@ -34,7 +34,7 @@ fn prepared(n: u32, m: u32, z: Contracted) -> Answered
     ensures { λ r. ⌜ ((a : Areas) → after (answeredIn r) a noneLent ≡ outcome n m z a) ⌝ }
 {
     match z {
-        Contracted::Overflow => unprepared(Refusal::Room),
+        Contracted::Overflow => unprepared(Refusal::ROOM),
         Contracted::Kept(count) => Answered {
             header: Header {
                 n: n,
@@ -75,7 +75,7 @@ pub fn prepare(
                 estimates.len(),
                 elapsed.len(),
             ) {
-                return unprepared(Refusal::AreaLengths);
+                return unprepared(Refusal::AREA_LENGTHS);
             }
             let z = preparing::prepare_areas(
                 n,

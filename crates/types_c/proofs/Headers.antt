@@ -5,11 +5,8 @@ use mathlib.Core.Bool.{cond}
 use Prim.Native.Nat.{ℕ}
 use borrow.Author.Tests.{eq-eqb, ne-eqb}
 use lib.Dec.{eqb}
-use Rattle.model.specs.Types.{Absent, Answer, At, Header, Refusal, Refused, Target}
-use Rattle.model.specs.Card.{question}
-use Rattle.network.specs.Refusals.{countOf, placeOf}
+use Rattle.model.specs.Types.{Absent, Answer, At, Header, Target}
 use Rattle.types_c.specs.declared.UnitHeader.{UnitHeader}
-use Rattle.types_c.specs.declared.UnitAnswer.{UnitAnswer}
 use Rattle.types_c.specs.Answers.{answerTo, headerTo}
 
 pub target-absent : (n m p a t : ℕ) → a ≡ 0 → _≡_ {A = Header} (record { n = n; m = m; pairs = p; target = Absent }) (record { n = n; m = m; pairs = p; target = cond (eqb a 0) Absent (At t) })
@@ -23,7 +20,3 @@ header-told n m p t z e = ap (headerTo n m p) (sym e)
 
 pub answer-told : (h k : UnitHeader) (x y : Answer) → h ≡ k → y ≡ x → answerTo h x ≡ answerTo k y
 answer-told h k x y p q = ap₂ answerTo p (sym q)
-
-pub refusal-told : (h k : UnitHeader) (a b c : ℕ) (q : Refusal) (y : Answer) → h ≡ k → a ≡ question q → b ≡ placeOf q → c ≡ countOf q → y ≡ Refused q
-    → record { header = h; question = a; place = b; total = 0; count = c; roads = 0 } ≡ answerTo k y
-refusal-told h k a b c q y p ea eb ec e = rw (ea, eb, ec) (answer-told h k (Refused q) y p e)

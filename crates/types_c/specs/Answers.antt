@@ -4,8 +4,6 @@ use mathlib.Core.Bool.{cond}
 use Prim.Native.Nat.{ℕ}
 use lib.Dec.{eqb}
 use Rattle.model.specs.Types.{Absent, Accepted, Answer, Answered, At, Estimated, Gone, Header, Refused, Target}
-use Rattle.model.specs.Card.{question}
-use Rattle.network.specs.Refusals.{countOf, placeOf}
 use Rattle.types_c.specs.declared.UnitHeader.{UnitHeader}
 use Rattle.types_c.specs.declared.UnitAnswer.{UnitAnswer}
 
@@ -30,7 +28,7 @@ pub header-back : (h : Header) → headerOf (headerWords h) ≡ h
 header-back h = header-to (h .n) (h .m) (h .pairs) (h .target)
 
 abbrev pub answerTo : UnitHeader → Answer → UnitAnswer
-answerTo h (Refused q) = record { header = h; question = question q; place = placeOf q; total = 0; count = countOf q; roads = 0 }
+answerTo h (Refused q) = record { header = h; question = q .question; place = q .place; total = 0; count = q .count; roads = 0 }
 answerTo h Accepted = record { header = h; question = 0; place = 0; total = 0; count = 0; roads = 0 }
 answerTo h (Estimated t) = record { header = h; question = 0; place = 0; total = t; count = 0; roads = 0 }
 answerTo h (Gone t c k) = record { header = h; question = 0; place = 0; total = t; count = c; roads = k }

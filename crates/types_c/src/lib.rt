@@ -83,10 +83,10 @@ pub fn answer_of(r: Answered) -> UnitAnswer
     match answer {
         Answer::Refused(q) => UnitAnswer {
             header: header,
-            question: network::question_of(q),
-            place: network::place_of(q),
+            question: q.question,
+            place: q.place,
             total: 0,
-            count: network::count_of(q),
+            count: q.count,
             roads: 0,
         },
         Answer::Accepted => UnitAnswer {

@@ -40,7 +40,7 @@ fn gone(h: Header, total: Time, count: u32, roads: u32) -> Answered
     if total.is_none() {
         return Answered {
             header: h,
-            answer: Answer::Refused(Refusal::NoPath(count)),
+            answer: Answer::Refused(Refusal::no_path(count)),
         };
     }
     Answered {
@@ -101,13 +101,13 @@ impl Header {
         if !self.fits(card, ranks, pairs, live, down, estimates, elapsed) {
             return Answered {
                 header: self,
-                answer: Answer::Refused(Refusal::Lengths),
+                answer: Answer::Refused(Refusal::LENGTHS),
             };
         }
         if m <= road {
             return Answered {
                 header: self,
-                answer: Answer::Refused(Refusal::NoRoad),
+                answer: Answer::Refused(Refusal::NO_ROAD),
             };
         }
         let i = road as usize;
@@ -115,7 +115,7 @@ impl Header {
         if !questions::allowed(base, time) {
             return Answered {
                 header: self,
-                answer: Answer::Refused(Refusal::NotAllowed),
+                answer: Answer::Refused(Refusal::NOT_ALLOWED),
             };
         }
         live[i] = time.word();
@@ -147,17 +147,17 @@ impl Header {
         if !self.fits(card, ranks, pairs, live, down, estimates, elapsed) {
             return Answered {
                 header: self,
-                answer: Answer::Refused(Refusal::Lengths),
+                answer: Answer::Refused(Refusal::LENGTHS),
             };
         }
         if n <= j.0 {
             return Answered {
                 header: self,
-                answer: Answer::Refused(Refusal::NoJunction),
+                answer: Answer::Refused(Refusal::NO_JUNCTION),
             };
         }
         descents::down_totals(n, p, questions::order_of(card, n, m), pairs, down, j);
-        descents::fill(estimates, Time::UNASKED);
+        areas::fill(estimates, Time::UNASKED.0);
         Answered {
             header: Header {
                 n: n,
@@ -192,20 +192,20 @@ impl Header {
         if !self.fits(card, ranks, pairs, live, down, estimates, elapsed) {
             return Answered {
                 header: self,
-                answer: Answer::Refused(Refusal::Lengths),
+                answer: Answer::Refused(Refusal::LENGTHS),
             };
         }
         if n <= v {
             return Answered {
                 header: self,
-                answer: Answer::Refused(Refusal::NoJunction),
+                answer: Answer::Refused(Refusal::NO_JUNCTION),
             };
         }
         let target = self.target;
         match target {
             Target::Absent => Answered {
                 header: self,
-                answer: Answer::Refused(Refusal::NoTarget),
+                answer: Answer::Refused(Refusal::NO_TARGET),
             },
             Target::At(_) => {
                 let t = hierarchy::estimate(
@@ -250,33 +250,33 @@ impl Header {
         if !self.fits(card, ranks, pairs, live, down, estimates, elapsed) {
             return Answered {
                 header: self,
-                answer: Answer::Refused(Refusal::Lengths),
+                answer: Answer::Refused(Refusal::LENGTHS),
             };
         }
         if n <= start.0 {
             return Answered {
                 header: self,
-                answer: Answer::Refused(Refusal::NoJunction),
+                answer: Answer::Refused(Refusal::NO_JUNCTION),
             };
         }
         let target = self.target;
         match target {
             Target::Absent => Answered {
                 header: self,
-                answer: Answer::Refused(Refusal::NoTarget),
+                answer: Answer::Refused(Refusal::NO_TARGET),
             },
             Target::At(z) => {
                 if !questions::lent_fit(n, route.len(), log.len()) {
                     return Answered {
                         header: self,
-                        answer: Answer::Refused(Refusal::LentLengths),
+                        answer: Answer::Refused(Refusal::LENT_LENGTHS),
                     };
                 }
                 // no list of calls leaves such a target
                 if n <= z.0 {
                     return Answered {
                         header: self,
-                        answer: Answer::Refused(Refusal::Lengths),
+                        answer: Answer::Refused(Refusal::LENGTHS),
                     };
                 }
                 let roads = questions::roads_of(card, m);

@@ -3,28 +3,27 @@ use mathlib.Core.Path.{_≡_}
 use mathlib.Core.List.{List, [], _∷_}
 use Prim.Native.Nat.{ℕ}
 use Rattle.model.specs.Types.{Accepted, Answer, Estimated, Gone, Read, Reading, Refused, Unreadable}
-use Rattle.model.specs.Card.{Rows, question}
+use Rattle.model.specs.Card.{Rows}
 use Rattle.model.specs.Contracts.{WriteContract}
-use Rattle.network.specs.Refusals.{placeOf}
 
 -- 0, or the number of the question that refuses
 abbrev pub readingNumber : Reading → ℕ
-readingNumber (Unreadable q) = question q
+readingNumber (Unreadable q) = q .question
 readingNumber (Read n m) = 0
 
 -- n and m, or the place that is named
 abbrev pub readingWords : Reading → List ℕ
-readingWords (Unreadable q) = placeOf q ∷ 0 ∷ []
+readingWords (Unreadable q) = q .place ∷ 0 ∷ []
 readingWords (Read n m) = n ∷ m ∷ []
 
 abbrev pub answerNumber : Answer → ℕ
-answerNumber (Refused q) = question q
+answerNumber (Refused q) = q .question
 answerNumber Accepted = 0
 answerNumber (Estimated t) = 0
 answerNumber (Gone t c k) = 0
 
 abbrev pub answerPlace : Answer → ℕ
-answerPlace (Refused q) = placeOf q
+answerPlace (Refused q) = q .place
 answerPlace Accepted = 0
 answerPlace (Estimated t) = 0
 answerPlace (Gone t c k) = 0

@@ -30,9 +30,9 @@ pub extern "C" fn card_read(card: &[u8], first: &mut u32, second: &mut u32) -> u
             0
         }
         Reading::Unreadable(q) => {
-            *first = network::place_of(q);
+            *first = q.place;
             *second = 0;
-            network::question_of(q)
+            q.question
         }
     }
 }
@@ -49,8 +49,8 @@ pub extern "C" fn card_write(roads: &[u32], order: &[u32], area: &mut [u8], plac
             0
         }
         Writing::Refused(q) => {
-            *place = network::place_of(q);
-            network::question_of(q)
+            *place = q.place;
+            q.question
         }
     }
 }

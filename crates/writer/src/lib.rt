@@ -66,13 +66,13 @@ pub fn check(roads: &[u32], order: &[u32]) -> Verdict
     ensures { λ r. ⌜ verdictIn r ≡ rowsRefusal (4 * length (now (roads .entry))) (4 * length (now (order .entry))) (rowsOf (now (roads .entry)) (now (order .entry))) ⌝ }
 {
     if !sizes_ok(roads.len(), order.len()) {
-        return Verdict::Failed(Refusal::Sizes);
+        return Verdict::Failed(Refusal::SIZES);
     }
     if let Failing::At(i) = failing_road(roads, order) {
-        return Verdict::Failed(Refusal::Road(i));
+        return Verdict::Failed(Refusal::road(i));
     }
     if let Failing::At(k) = failing_place(order) {
-        return Verdict::Failed(Refusal::Place(k));
+        return Verdict::Failed(Refusal::place(k));
     }
     Verdict::Passed
 }

@@ -120,16 +120,6 @@ loop-again c =
       next-ready (after-contract-row .contract-row .ensures .kept _ (c .before .k .given .1)),
     )
 
-cast-clear-from : tie.Need-cast-clear-from Inv-loop μ-loop
-cast-clear-from c =
-    let q = (let at-loop = c .before .before in
-    at-loop .loop .inv .8 .holds .room) in search needs
-
-mul-clear-from : tie.Need-mul-clear-from Inv-loop μ-loop
-mul-clear-from c =
-    let q = (let at-loop = c .before .before in
-    at-loop .loop .inv .8 .holds .room) in search needs
-
 clear-from-requires : tie.Need-clear-from-requires Inv-loop μ-loop
 clear-from-requires c κs =
     let at-loop = c .before .before in
@@ -197,8 +187,6 @@ contract-spec =
     add-r
     loop-less
     loop-again
-    cast-clear-from
-    mul-clear-from
     clear-from-requires
     same-length-2
     returns-2)

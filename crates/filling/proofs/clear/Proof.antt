@@ -1,4 +1,4 @@
-use Rattle.filling.proofs.Areas.{areas-same, zero-filled}
+use Rattle.filling.proofs.Areas.{areas-same}
 use borrow.Author.Needs.{needs}
 use Rattle.filling.proofs.clear.Statement.{statement}
 use Rattle.filling.proofs.clear.Tie as tie
@@ -11,20 +11,13 @@ returns c =
     let after-fill3 = after-fill4 .before .before .before .before in
     let after-fill2 = after-fill3 .before .before .before .before in
     let after-fill = after-fill2 .before .before .before .before in
-    let after-of-word = after-fill .before .before in
-    let start = after-of-word .before .before .before .before .before .before .before in
-    areas-same _ _ _ _ _ _ _ _ _ _ _ _ (zero-filled (start .args .ranks .now) _ _ (after-of-word .of-word .ensures)
-    (after-fill .fill .ensures)) (zero-filled (start .args .pairs .now) _ _ (after-of-word .of-word .ensures) (after-fill2 .fill2 .ensures))
-    (zero-filled (start .args .live .now) _ _ (after-of-word .of-word .ensures) (after-fill3 .fill3 .ensures))
-    (zero-filled (start .args .down .now) _ _ (after-of-word .of-word .ensures) (after-fill4 .fill4 .ensures))
-    (zero-filled (start .args .estimates .now) _ _ (after-of-word .of-word .ensures) (after-fill5 .fill5 .ensures))
-    (zero-filled (start .args .elapsed .now) _ _ (after-of-word .of-word .ensures) (after-fill6 .fill6 .ensures))
+    areas-same _ _ _ _ _ _ _ _ _ _ _ _ (after-fill .fill .ensures) (after-fill2 .fill2 .ensures) (after-fill3 .fill3 .ensures)
+    (after-fill4 .fill4 .ensures) (after-fill5 .fill5 .ensures) (after-fill6 .fill6 .ensures)
 
 pub clear-spec : {M : Type 1} → statement M
 clear-spec =
     tie.close
     (tie.spec
-    (λ c κs. search needs)
     (λ c κs. search needs)
     (λ c κs. search needs)
     (λ c κs. search needs)

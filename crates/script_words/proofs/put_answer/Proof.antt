@@ -2,7 +2,7 @@ use mathlib.Core.Path.{ap, sym}
 use Rattle.model.specs.Types as model
 use Rattle.answers.specs.Shape.{answerIn}
 use Rattle.script_words.specs.Words.{answerWords}
-use Rattle.script_words.proofs.Words.{estimated-words, put-told, refused-words}
+use Rattle.script_words.proofs.Words.{estimated-words, put-told}
 use borrow.Author.Needs.{needs}
 use Rattle.script_words.proofs.put_answer.Statement.{statement}
 use Rattle.script_words.proofs.put_answer.Tie as tie
@@ -10,13 +10,10 @@ use Rattle.script_words.proofs.put_answer.Tie as tie
 returns : tie.Need-returns
 returns c =
     let after-put-four = c .before .before in
-    let after-count-of = after-put-four .before in
-    let after-question-of = after-count-of .before in
-    let after-x = after-question-of .before .before .before in
+    let after-x = after-put-four .before .before .before .before .before in
     let start = after-x .before .before .before in
     put-told (start .args .out .now) _ _ _ (start .args .k) (after-put-four .put-four .ensures)
-    (refused-words _ _ _ (answerIn (start .args .x)) (after-question-of .question-of .ensures) (after-count-of .count-of .ensures)
-    (ap answerIn (after-x .x .given .1)))
+    (ap answerWords (ap answerIn (sym (after-x .x .given .1))))
 
 returns-2 : tie.Need-returns-2
 returns-2 c =
@@ -48,9 +45,7 @@ put-answer-spec =
     tie.close
     (tie.spec
     (λ c. search needs)
-    (λ c κs. search needs)
     (λ c. search needs)
-    (λ c κs. search needs)
     (λ c. search needs)
     (λ c κs. search needs)
     (λ c. search needs)

@@ -1,4 +1,5 @@
 use mathlib.Core.Path.{_∙_, ap, sym}
+use mathlib.Core.Option.{some}
 use borrow.Author.Tests.{not-false, not-true}
 use native.Mathlib.Omega.{arith}
 use Rattle.model.specs.Accept.{sizes-facts}
@@ -20,13 +21,15 @@ failing-road-requires c κs = (let z = sizes-facts _ _ (sym (c .before .sizes-ok
 
 returns-2 : tie.Need-returns-2
 returns-2 c =
-    let after-failing-road = c .before .before .before in
+    let after-i = c .before .before in
+    let after-failing-road = after-i .before .before in
     let else1 = after-failing-road .before in
     let after-sizes-ok = else1 .before in
     let start = after-sizes-ok .before .before .before in
-    by-5 _ _ (rowsIn (start .args .roads .now) (start .args .order .now))
+    ap some (c .road .ensures)
+    ∙ by-5 _ _ (rowsIn (start .args .roads .now) (start .args .order .now))
     (sym (after-sizes-ok .sizes-ok .ensures) ∙ not-false _ (else1 .if1 .left))
-    _ (sym (after-failing-road .failing-road .ensures) ∙ ap failingIn (c .before .i .given .1))
+    _ (sym (after-failing-road .failing-road .ensures) ∙ ap failingIn (after-i .i .given .1))
 
 failing-place-requires : tie.Need-failing-place-requires
 failing-place-requires c κs =
@@ -36,16 +39,18 @@ failing-place-requires c κs =
 
 returns-3 : tie.Need-returns-3
 returns-3 c =
-    let after-failing-place = c .before .before .before in
+    let after-k = c .before .before in
+    let after-failing-place = after-k .before .before in
     let after-enum-told = after-failing-place .before in
     let after-failing-road = after-enum-told .before .before in
     let else1 = after-failing-road .before in
     let after-sizes-ok = else1 .before in
     let start = after-sizes-ok .before .before .before in
-    by-6 _ _ (rowsIn (start .args .roads .now) (start .args .order .now))
+    ap some (c .place .ensures)
+    ∙ by-6 _ _ (rowsIn (start .args .roads .now) (start .args .order .now))
     (sym (after-sizes-ok .sizes-ok .ensures) ∙ not-false _ (else1 .if1 .left))
     (sym (after-failing-road .failing-road .ensures) ∙ ap failingIn (after-enum-told .enum-told .given .1))
-    _ (any-roads _ _ _ _ ∙ sym (after-failing-place .failing-place .ensures) ∙ ap failingIn (c .before .k .given .1))
+    _ (any-roads _ _ _ _ ∙ sym (after-failing-place .failing-place .ensures) ∙ ap failingIn (after-k .k .given .1))
 
 returns-4 : tie.Need-returns-4
 returns-4 c =
@@ -68,10 +73,12 @@ check-spec =
     returns
     failing-road-requires
     (λ c. search needs)
+    (λ c κs. search needs)
     returns-2
     (λ c. search needs)
     failing-place-requires
     (λ c. search needs)
+    (λ c κs. search needs)
     returns-3
     (λ c. search needs)
     returns-4)

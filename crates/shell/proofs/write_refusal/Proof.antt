@@ -7,21 +7,18 @@ returns : tie.Need-returns
 returns c =
     let after-write-unreadable = c .before .before in
     let then1 = after-write-unreadable .before .before in
-    let after-question-of = then1 .before in
-    larger-line _ _ _ _ _ (after-question-of .question-of .ensures) (then1 .if1 .taken) (after-write-unreadable .write-unreadable .ensures)
+    larger-line _ _ _ _ (then1 .if1 .taken) (after-write-unreadable .write-unreadable .ensures)
 
 returns-2 : tie.Need-returns-2
 returns-2 c =
     let after-write-answer = c .before .before in
     let else1 = after-write-answer .before .before .before in
-    let after-question-of = else1 .before in
-    refused-line _ _ _ _ _ (after-question-of .question-of .ensures) (else1 .if1 .left) (after-write-answer .write-answer .ensures)
+    refused-line _ _ _ _ (else1 .if1 .left) (after-write-answer .write-answer .ensures)
 
 pub write-refusal-spec : {M : Type 1} → statement M
 write-refusal-spec =
     tie.close
     (tie.spec
-    (λ c κs. search needs)
     (λ c κs. search needs)
     (λ c. search needs)
     returns

@@ -1,6 +1,6 @@
 use native.Mathlib.Omega.{arith}
 use Prim.Native.Nat.{_*_, _-_, _<_, _≤_}
-use Rattle.rows.specs.Steps.{in-kept, less, lt-more, lt-next, min-le, over-above, over-less, room-fits, room-next}
+use Rattle.rows.specs.Steps.{count-fits, in-kept, less, lt-more, lt-next, min-le, over-above, over-less, room-in, room-next, room-out}
 use mathlib.Core.Path.{_∙_, _≡_, refl}
 use lib.ListN.{length}
 use Rattle.graph.specs.Path.{Weights}
@@ -75,25 +75,26 @@ take-time-requires-2 c κs =
 
 same-length : tie.Need-same-length Inv-loop μ-loop
 same-length c =
-    let after-take-time = c .before .before .before .before .before .before .before .before .before in
+    let after-take-time = c .before .before .before .before .before .before .before .before .before .before in
     let at-loop = after-take-time .before .before .before .before .before in
     after-take-time .take-time .kept .0 ∙ at-loop .loop .inv .4
 
 same-length-2 : tie.Need-same-length-2 Inv-loop μ-loop
 same-length-2 c =
-    let after-take-time2 = c .before .before .before .before .before in
+    let after-take-time2 = c .before .before .before .before .before .before in
     let at-loop = after-take-time2 .before .before .before .before .before .before .before .before .before in
     after-take-time2 .take-time2 .kept .0 ∙ at-loop .loop .inv .5
 
 same-length-3 : tie.Need-same-length-3 Inv-loop μ-loop
 same-length-3 c =
-    let else1 = c .before .before .before .before .before .before .before .before .before .before .before in
+    let else1 = c .before .before .before .before .before .before .before .before .before .before .before .before in
     let at-loop = else1 .before .before .before in
     at-loop .loop .inv .3
 
 returns : tie.Need-returns Inv-loop μ-loop
 returns c =
-    let after-is-kept = c .before .before in
+    let then2 = c .before .before in
+    let after-is-kept = then2 .before in
     let after-take-time2 = after-is-kept .before .before .before in
     let after-take-time = after-take-time2 .before .before .before .before in
     let in-loop = after-take-time .before .before .before .before in
@@ -104,30 +105,40 @@ returns c =
     (in-loop .loop-test .taken) (in-kept _ _ _ _ (in-loop .loop-test .taken) (start .pre .3) (at-loop .loop .inv .4))
     (in-kept _ _ _ _ (in-loop .loop-test .taken) (start .pre .4) (at-loop .loop .inv .5)) (after-take-time .take-time .ensures .0)
     (after-take-time .take-time .ensures .1) (after-take-time2 .take-time2 .ensures .0) (after-take-time2 .take-time2 .ensures .1)
-    (after-is-kept .is-kept .ensures) (at-loop .loop .inv .6 w g) (c .before .if2 .taken) (c .if3 .taken)
+    (after-is-kept .is-kept .ensures) (at-loop .loop .inv .6 w g) (then2 .if2 .taken)
+    (room-out _ _ _ (c .before .words-of .ensures) (c .if3 .taken))
 
 put-record-requires : tie.Need-put-record-requires Inv-loop μ-loop
-put-record-requires c κs = c .before .if3 .left
+put-record-requires c κs =
+    let after-words-of = c .before .before in
+    room-in _ _ _ (after-words-of .words-of .ensures) (c .before .if3 .left)
 
 add-k : tie.Need-add-k Inv-loop μ-loop
 add-k c =
-    let else3 = c .before .before .before .before in
-    let else1 = else3 .before .before .before .before .before .before .before .before .before .before .before in
-    let at-loop = else1 .before .before .before in
+    let after-take-time2 = c .before .before .before .before .before .before .before .before .before .before in
+    let at-loop = after-take-time2 .before .before .before .before .before .before .before .before .before in
     let start = at-loop .before .before .before .before .before .before in
-    record { fits = room-fits _ _ _ (else3 .if3 .left) (at-loop .loop .inv .3) (start .pre .6) }
+    record { fits = count-fits _ _ (at-loop .loop .inv .2) (start .pre .6) }
+
+add-words-of : tie.Need-add-words-of Inv-loop μ-loop
+add-words-of c =
+    let in-loop = c .before .before .before .before .before .before .before .before .before .before .before .before in
+    let at-loop = in-loop .before in
+    let start = at-loop .before .before .before .before .before .before in
+    record { fits = count-fits _ _ (at-loop .loop .inv .2) (start .pre .6) }
 
 loop-less-2 : tie.Need-loop-less-2 Inv-loop μ-loop
 loop-less-2 c =
-    let after-ups = c .before .before .before .before .before .before .before .before .before .before .before .before in
-    let in-loop = after-ups .before .before .before .before .before in
+    let after-take-time2 = c .before .before .before .before .before .before .before .before .before .before in
+    let in-loop = after-take-time2 .before .before .before .before .before .before .before .before in
     less _ _ (in-loop .loop-test .taken)
 
 loop-again-2 : tie.Need-loop-again-2 Inv-loop μ-loop
 loop-again-2 c =
     let after-put-record = c .before .before in
     let else3 = after-put-record .before .before in
-    let then2 = else3 .before in
+    let after-words-of = else3 .before in
+    let then2 = after-words-of .before in
     let after-is-kept = then2 .before in
     let after-take-time2 = after-is-kept .before .before .before in
     let after-take-time = after-take-time2 .before .before .before .before in
@@ -136,7 +147,7 @@ loop-again-2 c =
     let start = at-loop .before .before .before .before .before .before in (
       lt-more _ _ (at-loop .loop .inv .0),
       lt-next _ _ (in-loop .loop-test .taken),
-      room-next _ _ _ (else3 .if3 .left) (at-loop .loop .inv .3),
+      room-next _ _ _ (room-in _ _ _ (after-words-of .words-of .ensures) (else3 .if3 .left)) (at-loop .loop .inv .3),
       after-put-record .put-record .kept .0 ∙ at-loop .loop .inv .3,
       after-take-time .take-time .kept .0 ∙ at-loop .loop .inv .4,
       after-take-time2 .take-time2 .kept .0 ∙ at-loop .loop .inv .5,
@@ -146,7 +157,7 @@ loop-again-2 c =
           (in-kept _ _ _ _ (in-loop .loop-test .taken) (start .pre .4) (at-loop .loop .inv .5)) (after-take-time .take-time .ensures .0)
           (after-take-time .take-time .ensures .1) (after-take-time2 .take-time2 .ensures .0) (after-take-time2 .take-time2 .ensures .1)
           (after-is-kept .is-kept .ensures) (at-loop .loop .inv .6 w g) (then2 .if2 .taken) _ _ (after-put-record .put-record .ensures)
-          (after-put-record .put-record .kept .0) (else3 .if3 .left),
+          (after-put-record .put-record .kept .0) (room-in _ _ _ (after-words-of .words-of .ensures) (else3 .if3 .left)),
     )
 
 loop-less-3 : tie.Need-loop-less-3 Inv-loop μ-loop
@@ -211,9 +222,8 @@ append-row-spec =
     take-time-requires
     take-time-requires-2
     (λ c κs. search needs)
-    (λ c. search needs)
-    (λ c. search needs)
-    (λ c. search needs)
+    add-words-of
+    (λ c κs. search needs)
     same-length
     same-length-2
     same-length-3

@@ -1,6 +1,7 @@
-use Rattle.types_c.proofs.Headers.{answer-told, refusal-told}
+use Rattle.types_c.proofs.Headers.{answer-told}
 use mathlib.Core.Path.{ap}
 use Rattle.model.specs.Types as model
+use Rattle.network.specs.Refusals.{refusalIn}
 use Rattle.answers.specs.Shape.{answerIn}
 use borrow.Author.Needs.{needs}
 use Rattle.types_c.proofs.answer_of.Statement.{statement}
@@ -8,11 +9,10 @@ use Rattle.types_c.proofs.answer_of.Tie as tie
 
 returns : tie.Need-returns
 returns c =
-    let after-question-of = c .before .before in
-    let after-answer = after-question-of .before .before in
+    let after-answer = c .before in
     let after-words-of = after-answer .before .before in
-    refusal-told _ _ _ _ _ _ _ (after-words-of .words-of .ensures) (after-question-of .question-of .ensures) (c .before .place-of .ensures)
-    (c .count-of .ensures) (ap answerIn (after-answer .answer .given .1))
+    answer-told _ _ (model.Refused (refusalIn (after-answer .answer .given .0 .0))) _ (after-words-of .words-of .ensures)
+    (ap answerIn (after-answer .answer .given .1))
 
 returns-2 : tie.Need-returns-2
 returns-2 c =
@@ -39,9 +39,6 @@ answer-of-spec =
     (tie.spec
     (λ c κs. search needs)
     (λ c. search needs)
-    (λ c κs. search needs)
-    (λ c κs. search needs)
-    (λ c κs. search needs)
     (λ c. search needs)
     (λ c. search needs)
     (λ c. search needs)

@@ -1,5 +1,6 @@
-use mathlib.Core.Path.{_∙_, refl, sym}
+use mathlib.Core.Path.{_∙_, ap, refl, sym}
 use borrow.Author.Tests.{eqb-false, eqb-true}
+use Rattle.model.specs.Types.{Refused}
 use Rattle.unit.proofs.Lengths.{gone-none, gone-some}
 use borrow.Author.Needs.{needs}
 use Rattle.unit.proofs.gone.Statement.{statement}
@@ -7,8 +8,13 @@ use Rattle.unit.proofs.gone.Tie as tie
 
 returns : tie.Need-returns
 returns c =
-    let start = c .before .before in
-    (refl, gone-none (start .args .total .0) _ _ (eqb-true _ _ (sym (c .before .is-none .ensures) ∙ c .if1 .taken)))
+    let then1 = c .before in
+    let after-is-none = then1 .before in
+    let start = after-is-none .before in (
+      refl,
+      ap Refused (c .no-path .ensures) ∙ gone-none (start .args .total .0) _ _
+          (eqb-true _ _ (sym (after-is-none .is-none .ensures) ∙ then1 .if1 .taken)),
+    )
 
 returns-2 : tie.Need-returns-2
 returns-2 c =
@@ -17,4 +23,4 @@ returns-2 c =
     (refl, gone-some (start .args .total .0) _ _ (eqb-false _ _ (sym (after-is-none .is-none .ensures) ∙ c .before .if1 .left)))
 
 pub gone-spec : {M : Type 1} → statement M
-gone-spec = tie.close (tie.spec (λ c κs. search needs) returns (λ c. search needs) returns-2)
+gone-spec = tie.close (tie.spec (λ c κs. search needs) (λ c κs. search needs) returns (λ c. search needs) returns-2)

@@ -12,10 +12,9 @@ returns c =
 
 returns-2 : tie.Need-returns-2
 returns-2 c =
-    let after-q = c .before .before .before in
+    let after-q = c .before in
     let after-read = after-q .before .before in
-    unread-told _ _ _ _ (ap readingIn (sym (after-q .q .given .1)) ∙ after-read .read .ensures) (c .question-of .ensures)
-    (c .before .place-of .ensures)
+    unread-told _ _ (ap readingIn (sym (after-q .q .given .1)) ∙ after-read .read .ensures)
 
 pub card-read-spec : {M : Type 1} → statement M
 card-read-spec =
@@ -24,7 +23,5 @@ card-read-spec =
     (λ c κs. search needs)
     (λ c. search needs)
     (λ c. search needs)
-    (λ c κs. search needs)
-    (λ c κs. search needs)
     returns
     returns-2)

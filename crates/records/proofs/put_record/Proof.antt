@@ -1,10 +1,10 @@
 use native.Mathlib.Omega.{arith}
 use lib.ListN.{length-set}
-use Rattle.rows.proofs.Stored.{put}
+use Rattle.records.proofs.Writes.{put}
 use Prim.Native.Nat.{_*_}
 use borrow.Author.Needs.{needs}
-use Rattle.rows.proofs.put_record.Statement.{statement}
-use Rattle.rows.proofs.put_record.Tie as tie
+use Rattle.records.proofs.put_record.Statement.{statement}
+use Rattle.records.proofs.put_record.Tie as tie
 
 slice-write-pairs-2 : tie.Need-slice-write-pairs-2
 slice-write-pairs-2 c = simp length-set (omega arith)
@@ -16,7 +16,7 @@ slice-write-pairs-4 : tie.Need-slice-write-pairs-4
 slice-write-pairs-4 c = simp length-set (omega arith)
 
 returns : tie.Need-returns
-returns c = put (c .args .pairs .now) (4 * c .args .k) _ _ _ _ (search needs)
+returns c = put (c .args .pairs .now) (4 * c .args .i) _ _ _ _ (search needs)
 
 pub put-record-spec : {M : Type 1} → statement M
 put-record-spec =

@@ -1,11 +1,11 @@
-use Rattle.descents.proofs.Descends.{fill-end, fill-turn}
+use Rattle.areas.proofs.Fills.{fill-end, fill-turn}
 use lib.ListN.{getD, length, length-set}
 use mathlib.Core.Path.{_≡_}
 use Prim.Native.Nat.{_-_, _<_, _≤_, ℕ}
 use native.Mathlib.Omega.{arith}
 use borrow.Author.Needs.{needs}
-use Rattle.descents.proofs.fill.Statement.{statement}
-use Rattle.descents.proofs.fill.Tie as tie
+use Rattle.areas.proofs.fill.Statement.{statement}
+use Rattle.areas.proofs.fill.Tie as tie
 
 abbrev Inv-loop : tie.InvT-loop
 Inv-loop area₀ w i₀ area i = (i ≤ length area) × (length area ≡ length area₀) × ((k : ℕ) → k < i → getD area k 0 ≡ w)
@@ -27,10 +27,8 @@ loop-again c =
 returns : tie.Need-returns Inv-loop μ-loop
 returns c =
     let at-loop = c .before in
-    let after-word = at-loop .before in
-    let start = after-word .before .before in
-    fill-end (start .args .area .now) (at-loop .loop .area) _ _ _ (at-loop .loop .inv .1) (c .loop-test .left) (at-loop .loop .inv .2)
-    (after-word .word .ensures)
+    let start = at-loop .before in
+    fill-end (start .args .area .now) (at-loop .loop .area) _ _ (at-loop .loop .inv .1) (c .loop-test .left) (at-loop .loop .inv .2)
 
 pub fill-spec : {M : Type 1} → statement M
 fill-spec =
@@ -38,7 +36,6 @@ fill-spec =
     (tie.spec
     Inv-loop
     μ-loop
-    (λ c κs. search needs)
     (λ c. search needs)
     (λ c. search needs)
     (λ c. search needs)

@@ -1,0 +1,14 @@
+// Areas filled with one word.
+ghost use mathlib.Core.Path.{_≡_};
+ghost use lib.ListN.{length, replicate};
+
+// Every word of the area becomes w. (The rest of an area is filled as a part, `&mut area[k..]`.)
+pub fn fill(area: &mut [u32], w: u32)
+    ensures { λ _. ⌜ now (area .exit) ≡ replicate (length (now (area .entry))) w ⌝ }
+{
+    let mut i = 0;
+    while i < area.len() {
+        area[i] = w;
+        i += 1;
+    }
+}
