@@ -1,4 +1,5 @@
--- How the cases are written. Of the definitions under test it cites the types, and functions only in `writes`, `prepares`, `answers` and `played`. Definitions only.
+-- How the cases are written. Of the definitions under test it cites the types, and functions only in `writes`, `prepares`, `answers` and
+-- `played`. Definitions only.
 use mathlib.Core.Path.{_≡_}
 use mathlib.Core.Bool.{Bool}
 use mathlib.Core.List.{List, [], _++_, _∷_, map}
@@ -7,12 +8,14 @@ use lib.ListN.{drop, getD, length, replicate, take}
 use Rattle.graph.specs.Least.{measured}
 use Rattle.graph.specs.Pairs.{down, up}
 use Rattle.graph.specs.Reach.{upTotal}
-use Rattle.graph.specs.Search.{back, backStep, before, below-or, bestBelow, better, consider, extend, firstVia, hasGoal, is, next, offerVia, offered, push, run, totalIn, wayIn}
+use Rattle.graph.specs.Search.{back, backStep, before, below-or, bestBelow, better, consider, extend, firstVia, hasGoal, is, next}
+use Rattle.graph.specs.Search.{offerVia, offered, push, run, totalIn, wayIn}
 use Rattle.model.specs.Types.{Absent, Accepted, Answer, At, Estimated, Gone, Header, NoPath, Refusal, Refused, Target}
 use Rattle.model.specs.Bytes.{wordAt}
 use Rattle.model.specs.Card.{Rows, Written, writeCard, writeRefusal}
-use Rattle.model.specs.State.{Areas, Lent, State, Step, prepare}
-use Rattle.model.specs.Calls.{Call, aimCall, aimStep, estimateCall, estimateStep, goCall, goStep, setCall, setStep, step, steps}
+use Rattle.model.specs.Areas.{Areas, areasOf}
+use Rattle.model.specs.State.{Lent, State, Step, prepare}
+use Rattle.model.specs.Calls.{Call, aimCall, estimateCall, goCall, setCall, step, steps}
 
 -- ---- words and cards
 
@@ -94,10 +97,10 @@ abbrev pub unwritten : (roads order : List ℕ) (bytes : ℕ) → Refusal → Ca
 unwritten roads order k q = writing roads order k ⇒ record { answer = Refused q; area = replicate k 7 }
 
 -- areas of these lengths, full of w
-abbrev areasOf : (w ranks pairs live down estimates elapsed : ℕ) → Areas
-areasOf w r p l d e t = record { ranks = replicate r w; pairs = replicate p w; live = replicate l w; down = replicate d w; estimates = replicate e w; elapsed = replicate t w }
+abbrev full : (w ranks pairs live down estimates elapsed : ℕ) → Areas
+full w r p l d e t = areasOf (replicate r w) (replicate p w) (replicate l w) (replicate d w) (replicate e w) (replicate t w)
 
-abbrev headerOf : (n m pairs : ℕ) → Target → Header
+abbrev pub headerOf : (n m pairs : ℕ) → Target → Header
 headerOf n m p z = record { n = n; m = m; pairs = p; target = z }
 
 abbrev nothing : Lent
@@ -114,8 +117,8 @@ prepares p = prepare (p .card) (p .areas)
 -- a refused preparing leaves w in each area, and a header of zeros
 abbrev pub unprepared : Refusal → (w : ℕ) → (card : List ℕ) (ranks pairs live down estimates elapsed : ℕ) → Case Preparing Step
 unprepared q w c r p l d e t =
-    record { card = c; areas = areasOf 7 r p l d e t }
-    ⇒ record { answer = Refused q; state = record { header = headerOf 0 0 0 Absent; areas = areasOf w r p l d e t }; lent = nothing }
+    record { card = c; areas = full 7 r p l d e t }
+    ⇒ record { answer = Refused q; state = record { header = headerOf 0 0 0 Absent; areas = full w r p l d e t }; lent = nothing }
 
 -- ---- calls
 
@@ -128,12 +131,6 @@ counted k (suc n) = k ∷ counted (suc k) n
 abbrev pub lent : (route log : ℕ) → Lent
 lent r l = record { route = counted 60 r; log = counted 80 l }
 
-abbrev lentTo : Call → Lent
-lentTo (setCall i t) = nothing
-lentTo (aimCall j) = nothing
-lentTo (estimateCall j) = nothing
-lentTo (goCall j l) = l
-
 -- calls that are each made on the same card and state
 pub record Calling : Type 0 where
   pub card : List ℕ
@@ -141,14 +138,16 @@ pub record Calling : Type 0 where
   pub calls : List Call
 
 unfoldable pub answers : Calling → List Step
-unfolding setStep aimStep estimateStep goStep
+unfolding step
 answers g = map (λ (c : Call). step (g .card) (g .state) c) (g .calls)
 
 -- Each is refused and leaves everything as it was: a card of so many bytes, a header of these numbers, areas of these lengths.
-abbrev pub refused : Refusal → List Call → (n m pairs : ℕ) → Target → (bytes ranks pairs live down estimates elapsed : ℕ) → Case Calling (List Step)
+abbrev pub refused : Refusal → List Call → (n m pairs : ℕ) → Target → (bytes ranks pairs live down estimates elapsed : ℕ)
+    → Case Calling (List Step)
 refused q calls n m k z b r p l d e t =
-    let s : State = record { header = headerOf n m k z; areas = areasOf 7 r p l d e t } in
-    record { card = replicate b 7; state = s; calls = calls } ⇒ map (λ (c : Call). record { answer = Refused q; state = s; lent = lentTo c }) calls
+    let s : State = record { header = headerOf n m k z; areas = full 7 r p l d e t } in
+    record { card = replicate b 7; state = s; calls = calls }
+    ⇒ map (λ (c : Call). record { answer = Refused q; state = s; lent = c .lent }) calls
 
 -- ---- scripts
 
@@ -161,13 +160,13 @@ pub record Turn : Type 0 where
 
 -- a call that is refused and alters nothing
 abbrev pub no : Refusal → Call → Turn
-no q c = record { call = c; answer = Refused q; after = λ s. s; holds = lentTo c }
+no q c = record { call = c; answer = Refused q; after = λ s. s; holds = c .lent }
 
 -- another target, live times, down totals, estimates, elapsed
 abbrev becoming : State → Target → (live down estimates elapsed : List ℕ) → State
 becoming s z l d e t = record {
   header = headerOf (s .header .n) (s .header .m) (s .header .pairs) z;
-  areas = record { ranks = s .areas .ranks; pairs = s .areas .pairs; live = l; down = d; estimates = e; elapsed = t };
+  areas = areasOf (s .areas .built .ranks) (s .areas .built .pairs) l d e t;
 }
 
 -- an accepted set, with the live times after it
@@ -175,7 +174,7 @@ abbrev pub set : (road time : ℕ) → (live : List ℕ) → Turn
 set i t live = record {
   call = setCall i t;
   answer = Accepted;
-  after = λ s. becoming s (s .header .target) live (s .areas .down) (s .areas .estimates) (s .areas .elapsed);
+  after = λ s. becoming s (s .header .target) live (s .areas .aimed .down) (s .areas .aimed .estimates) (s .areas .trip .elapsed);
   holds = nothing;
 }
 
@@ -184,7 +183,7 @@ abbrev pub aim : (junction : ℕ) → (down : List ℕ) → Turn
 aim j down = record {
   call = aimCall j;
   answer = Accepted;
-  after = λ s. becoming s (At j) (s .areas .live) down (replicate (length down) □) (s .areas .elapsed);
+  after = λ s. becoming s (At j) (s .areas .live) down (replicate (length down) □) (s .areas .trip .elapsed);
   holds = nothing;
 }
 
@@ -193,7 +192,7 @@ abbrev pub est : (junction time : ℕ) → (estimates : List ℕ) → Turn
 est j t estimates = record {
   call = estimateCall j;
   answer = Estimated t;
-  after = λ s. becoming s (s .header .target) (s .areas .live) (s .areas .down) estimates (s .areas .elapsed);
+  after = λ s. becoming s (s .header .target) (s .areas .live) (s .areas .aimed .down) estimates (s .areas .trip .elapsed);
   holds = nothing;
 }
 
@@ -205,7 +204,7 @@ abbrev went : Answer → (start : ℕ) → Lent → (roads log estimates elapsed
 went a j l roads log estimates elapsed = record {
   call = goCall j l;
   answer = a;
-  after = λ s. becoming s (s .header .target) (s .areas .live) (s .areas .down) estimates elapsed;
+  after = λ s. becoming s (s .header .target) (s .areas .live) (s .areas .aimed .down) estimates elapsed;
   holds = record { route = first roads (l .route); log = first log (l .log) };
 }
 
@@ -228,11 +227,12 @@ pub record Script : Type 0 where
 
 -- what the definitions answer and leave: preparing, then each call
 unfoldable pub played : Script → List Step
-unfolding wordAt prepare setStep aimStep estimateStep goStep measured upTotal offerVia offered below-or before better consider bestBelow next hasGoal push extend run is firstVia backStep back totalIn wayIn up down
+unfolding wordAt prepare step measured upTotal offerVia offered below-or before better consider bestBelow next hasGoal push extend run is
+    firstVia backStep back totalIn wayIn up down
 played c =
     let k = card (c .roads) (c .order) in
     let n = length (c .order) in
-    let p = prepare k (areasOf 7 n (4 * c .room) (length (c .roads)) n n n) in
+    let p = prepare k (full 7 n (4 * c .room) (length (c .roads)) n n n) in
     p ∷ steps k (p .state) (map (λ (t : Turn). t .call) (c .turns))
 
 -- the state that an accepted preparing leaves
@@ -241,14 +241,12 @@ prepared c =
     let n = length (c .order) in
     record {
       header = headerOf n (length (c .roads)) (length (c .pairs)) Absent;
-      areas = record {
-        ranks = c .ranks;
-        pairs = row (c .pairs) ++ replicate (4 * (c .room - length (c .pairs))) 0;
-        live = map (λ (r : List ℕ). getD r 2 0) (c .roads);
-        down = replicate n ∞;
-        estimates = replicate n □;
-        elapsed = replicate n ∞;
-      };
+      areas =
+          areasOf
+          (c .ranks) (row (c .pairs) ++ replicate (4 * (c .room - length (c .pairs))) 0)
+          (map (λ (r : List ℕ). getD r 2 0) (c .roads))
+          (replicate n ∞) (replicate n □)
+          (replicate n ∞);
     }
 
 -- what the turns say, each going on from the state that the one before leaves
