@@ -116,20 +116,23 @@ static bool p9(void) {
         set(0, 1000001) == 11 && live[0] == 10;
 }
 
-/* The program's example as one script: aim 3, est 0, go 0, set 1 closed, go 0, set 1 9. Between them a go with too short a log. */
+/*
+ * The program's example as one script: aim 3, est 0, go 0, set 1 closed, go 0, set 1 9. Between them a go with too short a log. Then a
+ * kind that is none, which ends the script: the aim behind it is not made, and its answer's words are as they were.
+ */
 static bool replayed(void) {
     static const uint32_t log_4[] = {0, 1, 2, 3}, roads_23[] = {2, 3};
-    static const uint32_t script[28] = {
-        1, 3, 0, 0, 2, 0, 0, 0, 3, 0, N, LENT, 0, 1, UNIT_CLOSED, 0, 3, 0, N, N - 1, 3, 0, LENT + 1, N, 0, 1, 9, 0,
+    static const uint32_t script[25] = {
+        1, 3, 2, 0, 3, 0, N, LENT, 0, 1, UNIT_CLOSED, 3, 0, N, N - 1, 3, 0, LENT + 1, N, 0, 1, 9, 4, 1, 0,
     };
-    static const uint64_t wanted[28] = {
-        0, 0, 0, 0, 0, 20, 0, 0, 0, 20, 3, 2, 0, 0, 0, 0, 14, 0, 0, 0, 0, 25, 4, 2, 11, 0, 0, 0,
+    static const uint64_t wanted[32] = {
+        0, 0, 0, 0, 0, 20, 0, 0, 0, 20, 3, 2, 0, 0, 0, 0, 14, 0, 0, 0, 0, 25, 4, 2, 11, 0, 0, 0, 7, 7, 7, 7,
     };
-    uint64_t out[28] = {0};
+    uint64_t out[32] = {[28] = 7, 7, 7, 7};
     fill(route, LENT, UNTOUCHED);
     fill(entries, LENT, UNTOUCHED);
     UnitAnswer answer = unit_replay(card, CARD, ranks, N, pairs, 4 * PAIRS, live, M, down, N, estimates, N, elapsed, N, route,
-        LENT, entries, LENT, script, 28, out, 28);
+        LENT, entries, LENT, script, 25, out, 32);
     return handed(answer) == 0 && header.target == 3 && header.aimed == 1 && memcmp(out, wanted, sizeof out) == 0 &&
         same(route, roads_23, 2) && filled(route + 2, LENT - 2, UNTOUCHED) && same(entries, log_4, 4) &&
         filled(entries + 4, LENT - 4, UNTOUCHED);

@@ -26,7 +26,7 @@
  *    6  card: is each entry of the order below n and new? With the first place, from 0, where it is not.
  *    7  prepare, write: has each area its length?
  *    8  prepare: do all kept pairs fit? If not, every area is filled with 0.
- *    9  calls: have the card and the six areas the lengths that the header calls for?
+ *    9  calls: have the card and the six areas the lengths that the header calls for, of at most 4,096 junctions and 16,384 roads?
  *   10  set: is the road below m?
  *   11  set: is the time from the road's base time to 1,000,000, or closed?
  *   12  aim, estimate, go: is the junction below n?
@@ -103,7 +103,7 @@ UnitAnswer unit_prepare(const uint8_t *card, size_t card_len, uint32_t *ranks, s
 
 /*
  * The four calls. They are handed the header that the last call handed back and the card and the six areas it belongs to. Where
- * the lengths are right but these are not what a list of calls has left together, the answer is free, 9 included.
+ * question 9 passes but these are not what a list of calls has left together, the answer is free, 9 included.
  */
 
 /* Sets a road's live time: questions 9, 10, 11. Writes that entry of live alone. */
@@ -133,12 +133,13 @@ UnitAnswer unit_go(UnitHeader header, const uint8_t *card, size_t card_len, cons
     uint32_t *log, size_t log_len, uint32_t start);
 
 /*
- * Prepares a card and makes a list of calls. A call is four words of script: 0, road, time and any word for set; 1, junction and any
- * two words for aim; 2, junction and any two words for estimate; any other word, start, entries of route and entries of log for go. A go
- * is lent the first so many entries of route and log, or all of them where there are fewer; what lies behind them is as it was. The
- * answer is four words of out: the refusal or 0; estimate or total; count; number of roads. As many calls are made as there are four
- * words in script and four in out; the rest of out is as it was. What is handed back is preparing's answer, with the header after
- * the last call. After a refused preparing the calls are made all the same, on its header of zeros.
+ * Prepares a card and makes a list of calls. A call in script is its kind and as many words as that call has: 0, road, time for set;
+ * 1, junction for aim; 2, junction for estimate; 3, start, entries of route, entries of log for go. A go is lent the first so many
+ * entries of route and log, or all of them where there are fewer; what lies behind them is as it was. The script ends with its last
+ * word, at any other kind, or at a call that is cut short: no call from there on is made. The answer is four words of out: the
+ * refusal or 0; estimate or total; count; number of roads. No more calls are made than there are four words in out; the rest of out is
+ * as it was. What is handed back is preparing's answer, with the header after the last call. After a refused preparing the calls are
+ * made all the same, on its header of zeros.
  */
 UnitAnswer unit_replay(const uint8_t *card, size_t card_len, uint32_t *ranks, size_t ranks_len,
     uint32_t *pairs, size_t pairs_len, uint32_t *live, size_t live_len, uint32_t *down, size_t down_len,

@@ -1,7 +1,7 @@
 #!/usr/bin/env python3
-"""The cases of crates/cases: inputs for the definitions of crates/model, with what reference.py says they answer and leave.
+"""The cases of crates/model_cases: inputs for the definitions of crates/model, with what reference.py says they answer and leave.
 
-    python3 tools/cases.py            write crates/cases/specs/Random.antt and Cards.antt
+    python3 tools/cases.py            write crates/model_cases/specs/Random.antt and Cards.antt
     python3 tools/cases.py --check    fail if these files are not what would be written
     python3 tools/cases.py --report   print how often each kind of case occurs
 
@@ -9,7 +9,6 @@ The seeds are fixed and the dice are our own, so the files are the same on every
 """
 import pathlib
 import sys
-import textwrap
 from collections import Counter, namedtuple
 
 sys.dont_write_bytecode = True
@@ -17,10 +16,23 @@ import reference as model
 import scripts
 from reference import NONE, SLOWEST, UNASKED, Areas, Header
 
-SPECS = pathlib.Path(__file__).resolve().parent.parent / "crates" / "cases" / "specs"
+SPECS = pathlib.Path(__file__).resolve().parent.parent / "crates" / "model_cases" / "specs"
 
 
-# ---- the text of numbers, lists, calls and refusals
+WIDTH = 140
+
+
+# ---- the text of imports, numbers, lists, calls and refusals
+
+def use(module, names):
+    """The lines that take names from a module."""
+    lines = [[]]
+    for name in sorted(names):
+        if lines[-1] and len(f"use {module}.{{{', '.join([*lines[-1], name])}}}") > WIDTH:
+            lines.append([])
+        lines[-1].append(name)
+    return "".join(f"use {module}.{{{', '.join(line)}}}\n" for line in lines)
+
 
 REFUSALS = ["Short", "Kinds", "Starts", "Sizes", "Road", "Place", "AreaLengths", "Room", "Lengths",
             "NoRoad", "NotAllowed", "NoJunction", "NoTarget", "LentLengths", "NoPath"]
@@ -61,10 +73,32 @@ def call_text(call):
     return applied(CALLS[call[0]], *call[1:])
 
 
+def broken(text, width, mark=" ∷"):
+    """The lines of a text, each of which but the first begins at a mark."""
+    first, *parts = text.split(mark)
+    lines = [first]
+    for part in parts:
+        if len(lines[-1] + mark + part) > width:
+            lines.append(mark[1:] + part)
+        else:
+            lines[-1] += mark + part
+    return lines
+
+
+def within(text, indent=4):
+    """A list, in several lines if it is long."""
+    return ("\n" + " " * indent).join(broken(text, 130))
+
+
 def field(text):
-    """A list as a record's field, in several lines if it is long."""
-    lines = textwrap.wrap(text.replace(" ", "\u00a0").replace("\u00a0∷\u00a0", " ∷\u00a0"), 130)
-    return (" " if len(lines) == 1 else "\n      ") + "\n      ".join(lines).replace("\u00a0", " ")
+    """The same as a record's field."""
+    lines = within(text, 6)
+    return ("\n      " if "\n" in lines else " ") + lines
+
+
+def entry(text, indent):
+    """An entry of a list, in several lines if it is long: they end before an argument in brackets."""
+    return ("\n" + " " * indent).join(broken(f"∷ {text}", WIDTH - indent, " ("))
 
 
 # ---- Random.antt
@@ -99,7 +133,7 @@ def script_text(index, script):
     records = [areas.pairs[4 * i:4 * i + 4] for i in range(header.pairs)]
     rest = [0] * (4 * script.room - 4 * header.pairs), script.chart.base, *[[mark] * header.n for mark in (NONE, UNASKED, NONE)]
     assert answer == ("ok",) and header.target is None and (areas.pairs[4 * header.pairs:], *areas[2:]) == rest
-    turns = "\n      ∷ ".join([*map(turn_text, script.turns), "[]"])
+    turns = "\n      ".join(entry(text, 6) for text in [*map(turn_text, script.turns), "[]"])[2:]
     return f"""
 -- {script.made[0]}
 script-{index} : Holds record {{
@@ -116,13 +150,13 @@ script-{index} = refl
 """
 
 
-RANDOM = """-- Maps and calls, some made for a purpose and some random, with what the reference model answers and leaves. Made by tools/cases.py.
-use mathlib.Core.Path.{refl}
-use mathlib.Core.List.{[], _∷_}
-use Rattle.model.specs.Types.{LentLengths, NoJunction, NoRoad, NoTarget, NotAllowed}
-use Rattle.model.specs.Calls.{aimCall, estimateCall, goCall, setCall}
-use Rattle.cases.specs.Notation.{Holds, _–_–_, aim, est, go, lent, lost, no, pair, played, set, ∞, □}
-"""
+NOTATION = "Rattle.model_cases.specs.Notation"
+RANDOM = f"""-- Maps and calls, some made for a purpose and some random, with what the reference model answers and leaves. Made by tools/cases.py.
+use mathlib.Core.Path.{{refl}}
+use mathlib.Core.List.{{[], _∷_}}
+use Rattle.model.specs.Types.{{LentLengths, NoJunction, NoRoad, NoTarget, NotAllowed}}
+use Rattle.model.specs.Calls.{{aimCall, estimateCall, goCall, setCall}}
+{use(NOTATION, "Holds _–_–_ aim est go lent lost no pair played set ∞ □".split())}"""
 
 
 # ---- Cards.antt: what is given, in groups with a comment each
@@ -223,6 +257,14 @@ LENGTHS = {
                  for pairs, length in ((65_535, 262_140), (65_536, 262_140), (65_536, 262_148), (65_535, 262_142))]],
     "numbers that would fit if products wrapped": [
         (2 ** 30 + 2, 1, 1, 48, *WIDE), (2, 2 ** 30 + 1, 1, 48, *FITTING._replace(live=2 ** 30 + 1)), (2, 1, 2 ** 30 + 1, 48, *FITTING)],
+    "one length that does not fit, each in turn": [
+        (2, 1, 1, 48, *FITTING), *[(2, 1, 1, 48, *lengths) for changed in OTHER.values() for lengths in changed],
+        (2, 1, 1, 47, *FITTING), (2, 1, 1, 49, *FITTING)],
+    "headers out of range, with the lengths that they call for": [
+        (4097, 0, 0, 16_416, 4097, 0, 0, 4097, 4097, 4097), (1, 16_385, 0, 196_652, 1, 0, 16_385, 1, 1, 1)],
+}
+RANGES = {
+    "a header's n and m": [(0, 0), (2, 1), (4096, 16_384), (4097, 0), (4096, 16_385), (2 ** 30 + 2, 1), (2, 2 ** 30 + 1)],
 }
 
 
@@ -276,7 +318,13 @@ def sizes_line(given):
 def lengths_line(given):
     n, m, pairs, length, *lengths = given
     right = model.all_lengths_right(lengths, length, n, m, pairs)
-    return f"{applied('question9', *given)} ⇒ {str(right).lower()}", "accepted" if right else 9
+    text = f"{applied('question9', n, m, pairs, length)} ({applied('areasOf', *lengths)})"
+    return f"{text} ⇒ {str(right).lower()}", "accepted" if right else 9
+
+
+def range_line(given):
+    right = model.in_range(*given)
+    return f"inRange ({applied('headerOf', *given, 0)} Absent) ⇒ {str(right).lower()}", "accepted" if right else 9
 
 
 def section(name, types, theorem, tested, unfolds, groups, line, due, counts):
@@ -288,31 +336,33 @@ def section(name, types, theorem, tested, unfolds, groups, line, due, counts):
             text, number = line(case)
             counts[f"{theorem}: {number}, {comment}"] += 1
             found.add(number)
-            lines.append(f"    ∷ {text}")
+            lines.append(f"    {entry(text, 4)}")
     assert found == set(due)
     lines[1] = lines[1].replace("∷ ", "", 1)
     table = "\n".join([*lines, "    ∷ []"])
-    return f"\nabbrev {name} : List (Case {types})\n{name} =\n{table}\n\n{theorem} : Agree {tested} {name}\nunfolding {unfolds}\n{theorem} = refl\n"
+    opened = f"unfolding {unfolds}\n" if unfolds else ""
+    return f"\nabbrev {name} : List (Case {types})\n{name} =\n{table}\n\n{theorem} : Agree {tested} {name}\n{opened}{theorem} = refl\n"
 
 
+CARDS_NOTATION = """Agree Calling Case Preparing Writing _–_–_ _⇒_ answers blank bytes card headerOf lent prepares put refused same
+    unprepared unwritten writes written ∞"""
 CARDS = f"""-- Cards, writings, preparings and lengths, with what the reference model answers and leaves. Made by tools/cases.py.
 use mathlib.Core.Path.{{_≡_, refl}}
 use mathlib.Core.Bool.{{Bool, false, true}}
 use mathlib.Core.List.{{List, [], _++_, _∷_, map}}
 use Prim.Native.Nat.{{ℕ}}
 use lib.ListN.{{replicate, take}}
-use Rattle.model.specs.Types.{{{', '.join(sorted(["Absent", "At", "Read", "Reading", "Refusal", "Unreadable", *REFUSALS]))}}}
+{use("Rattle.model.specs.Types", ["Absent", "At", "Read", "Reading", "Refusal", "Unreadable", *REFUSALS])}\
 use Rattle.model.specs.Bytes.{{wordAt}}
 use Rattle.model.specs.Card.{{Written, cardRefusal, readCard, sizesOk}}
-use Rattle.model.specs.State.{{Step, question9}}
+use Rattle.model.specs.Areas.{{areasOf}}
+use Rattle.model.specs.State.{{Step, inRange, question9}}
 use Rattle.model.specs.Calls.{{Call, aimCall, estimateCall, goCall, setCall}}
-use Rattle.cases.specs.Notation.{{Agree, Calling, Case, Preparing, Writing, answers, lent, prepares, refused, same, unprepared, unwritten, writes, written}}
-use Rattle.cases.specs.Notation.{{_–_–_, _⇒_, blank, bytes, card, put, ∞}}
-
+{use(NOTATION, CARDS_NOTATION.split())}
 -- document 01's number of each refusal
 numbers :
     map (λ (q : Refusal). q .question)
-    ({listed(applied(name, 0) if number in (5, 6, 15) else name for number, name in enumerate(REFUSALS, 1))})
+    ({within(listed(applied(name, 0) if number in (5, 6, 15) else name for number, name in enumerate(REFUSALS, 1)))})
     ≡ {row(range(1, 16))}
 numbers = refl
 
@@ -342,7 +392,8 @@ def cards_text(counts):
         ("preparings", "Preparing Step", "preparing", "prepares", "prepares", PREPARINGS, preparing_line, range(1, 9)),
         ("callings", "Calling (List Step)", "calling", "answers", "answers", CALLINGS, calling_line, [9, 10, 12]),
         ("sizes", "Bool Bool", "sized", "same", "sizesOk", SIZES, sizes_line, ["accepted", 4]),
-        ("lengths", "Bool Bool", "fitting", "same", "question9", LENGTHS, lengths_line, ["accepted", 9])))
+        ("lengths", "Bool Bool", "fitting", "same", "question9", LENGTHS, lengths_line, ["accepted", 9]),
+        ("ranges", "Bool Bool", "ranged", "same", "", RANGES, range_line, ["accepted", 9])))
 
 
 # ---- the files

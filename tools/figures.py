@@ -1,5 +1,6 @@
 #!/usr/bin/env python3
-"""Writes docs/FIGURES.md: the size of the tree by crate, read off the tree. With --check nothing is written, and the status is 1 if the file is not what would be written."""
+"""Writes docs/FIGURES.md: the size of the tree by crate, read off the tree. With --check nothing is written, and the status is 1 if the file is not what would be
+written, or if a contract has more than six lines, or one of more than 140 characters."""
 import glob
 import os
 import re
@@ -7,6 +8,7 @@ import sys
 
 ROOT = os.path.dirname(os.path.dirname(os.path.abspath(__file__)))
 FILE = 'docs/FIGURES.md'
+CONTRACT_LINES, CONTRACT_WIDTH = 6, 140
 
 
 def read(file):
@@ -35,7 +37,9 @@ def functions(source):
                 break
             inside += letter
         parameters = len([part for part in inside[1:].split(',') if part.strip()])
-        clauses = [line for line in head[at:].split('\n')[1:] if line.strip()]
+        rest = head[at:].split('\n')
+        # a function without a contract opens its body on the line that ends its head
+        clauses = [] if rest[0].rstrip().endswith('{') else [line for line in rest[1:] if line.strip()]
         yield found.group(1), parameters, len(clauses), max([0, *map(len, clauses)])
 
 
@@ -58,19 +62,29 @@ def table():
         yield '| ' + ' | '.join([crate, *(f'{number:,}' if number else '' for number in row)]) + ' |'
 
 
-def shapes():
-    """Functions and lines that are longer than a reader likes."""
-    wide, contract = [], (0, 0, '')
+def every_function():
+    """Path, number of parameters, lines of contract and longest of these lines of each function of the tree."""
     for crate in crates():
         for file in sorted(glob.glob(f'crates/{crate}/src/*.rt')):
             for name, parameters, clauses, longest in functions(read(file)):
-                if parameters > 12:
-                    wide.append(f'`{crate}::{name}` {parameters}')
-                contract = max(contract, (longest, clauses, f'`{crate}::{name}`'))
+                yield f'`{crate}::{name}`', parameters, clauses, longest
+
+
+def long_contracts():
+    """Contracts of more lines, or of longer lines, than a reader likes."""
+    return [name for name, _, clauses, longest in every_function() if clauses > CONTRACT_LINES or longest > CONTRACT_WIDTH]
+
+
+def shapes():
+    """Functions and lines that are longer than a reader likes."""
+    all_functions = list(every_function())
+    wide = [f'{name} {parameters}' for name, parameters, _, _ in all_functions if parameters > 12]
+    lines, tall = max((clauses, name) for name, _, clauses, _ in all_functions)
+    width, broad = max((longest, name) for name, _, _, longest in all_functions)
     proofs = [line for file in glob.glob('crates/*/proofs/**/*.antt', recursive=True) for line in read(file).split('\n')]
     every = [line for file in glob.glob('crates/**/*.antt', recursive=True) + glob.glob('crates/**/*.rt', recursive=True) for line in read(file).split('\n')]
     yield f'- Functions of more than 12 parameters: {len(wide)}' + (': ' + ', '.join(wide) if wide else '') + '.'
-    yield f'- Longest line of a contract: {contract[0]} characters, in {contract[2]}.'
+    yield f'- Longest contract: {lines} lines, in {tall}; longest line of one: {width} characters, in {broad}.'
     yield f'- `.before` in proofs: {sum(line.count(".before") for line in proofs):,}; lines with more than two outside of a named place: ' \
         f'{sum(1 for line in proofs if not re.match(r" *let ", line) and re.search(r"(?:[.]before ?){3,}", line)):,}.'
     yield f'- Lines of more than 140 characters in .rt and .antt: {sum(len(line) > 140 for line in every):,}; the longest has {max(map(len, every)):,}.'
@@ -101,7 +115,11 @@ def main():
         if not os.path.exists(FILE) or read(FILE) != text:
             print(f'figures: {FILE} is not that of the tree; tools/figures.py writes it')
             return 1
-        print(f'figures: {FILE} is that of the tree')
+        long = long_contracts()
+        if long:
+            print(f'figures: a contract of more than {CONTRACT_LINES} lines of {CONTRACT_WIDTH} characters: ' + ', '.join(long))
+            return 1
+        print(f'figures: {FILE} is that of the tree; no contract has more than {CONTRACT_LINES} lines of {CONTRACT_WIDTH} characters')
         return 0
     with open(FILE, 'w', encoding='utf-8') as out:
         out.write(text)

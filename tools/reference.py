@@ -208,6 +208,11 @@ def all_lengths_right(lengths, bytes_, n, m, pairs):
     return bytes_ == 28 + 12 * m + 4 * n and lengths_right(lengths, n, m, pairs)
 
 
+def in_range(n, m):
+    """Is neither of a header's n and m more than an accepted card can have?"""
+    return n <= 4_096 and m <= 16_384
+
+
 def prepare(card, areas):
     """The answer, the header and the areas."""
     refusal = card_refusal(card)

@@ -1,5 +1,5 @@
 #!/usr/bin/env python3
-"""Runs of the program, with what document 01 says it prints: the files of crates/scenarios, and document 01's example for crates/route_unit.
+"""Runs of the program, with what document 01 says it prints: the files of crates/program_scenarios, and document 01's example for crates/route_unit.
 
     python3 tools/scenarios.py            write the files
     python3 tools/scenarios.py --check    fail if the files are not what would be written
@@ -408,7 +408,7 @@ def files():
     """The files by their place in crates/, and what each run prints."""
     cards, lines, runs = made()
     found = {"route_unit/data/unit.card": MAP_P, "route_unit/stdin": lines["example"]}
-    data, args, passed, texts = "scenarios/data/", [], [], {}
+    data, args, passed, texts = "program_scenarios/data/", [], [], {}
     found[f"{data}folder.card/a_file"] = b""
     for run in runs:
         name = run.lines if run.lines not in ("ask", "around_200") else f"{run.card}.{run.lines}"
@@ -421,8 +421,8 @@ def files():
         args += [f"{run.card}.card", f"{run.lines}.lines", f"{answer}.printed"]
         passed.append(f"passed {run.card}.card {run.lines}.lines {answer}.printed")
     found["route_unit/stdout"] = joined(*texts[runs[0]])
-    found["scenarios/args"] = joined(*args)
-    found["scenarios/stdout"] = joined(*passed)
+    found["program_scenarios/args"] = joined(*args)
+    found["program_scenarios/stdout"] = joined(*passed)
     return found, texts
 
 
@@ -440,8 +440,8 @@ def main(options):
     found, texts = files()
     counts = kinds(texts)
     assert {f"no {number}" for number in (*range(7), 8, *range(10, 14), 15)} | {"ok", "est", "est none", "go"} == set(counts), counts
-    folder = CRATES / "scenarios" / "data"
-    stray = {f"scenarios/data/{path.relative_to(folder)}" for path in folder.rglob("*") if path.is_file()} - set(found)
+    folder = CRATES / "program_scenarios" / "data"
+    stray = {f"program_scenarios/data/{path.relative_to(folder)}" for path in folder.rglob("*") if path.is_file()} - set(found)
     if options == ["--report"]:
         for kind, count in sorted(counts.items()):
             print(f"{count:6}  {kind}")

@@ -1,14 +1,17 @@
 #!/usr/bin/env python3
 """Checks that the documents are true to the tree: the names and figures of docs/SENTENCES.md, docs/THEOREMS.md,
-docs/THEORY.md, docs/DECISIONS.md and README.md. What is wrong is told with its line, and the status is 1.
+docs/THEORY.md, docs/DECISIONS.md and README.md, and the edits that docs/MUTANTS.md names. What is wrong is told with its
+line, and the status is 1. No line of a document in docs/ has more than 160 characters.
 
-SENTENCES: each name stands in the place named before it. A place is `crate/File` (crates/crate/specs/File.antt),
-`crate/src`, `crate/must-fail` (wrong programs of the gate), `crate/tried` (those outside of it), `scenarios/data`, or a
-file of rust/ or crates/ by its path. Names in brackets are fields, and not looked for.
+SENTENCES is a list: a sentence, an arrow, and what holds it. Each name after the arrow stands in the place named before
+it. A place is `crate/File` (crates/crate/specs/File.antt), `crate/src`, `crate/must-fail` (wrong programs of the gate),
+`crate/tried` (those outside of it), `program_scenarios/data`, or a file of rust/ or crates/ by its path. Names in brackets are
+fields, declared somewhere in the tree.
 
 The others: a name in backquotes is declared somewhere in the tree, `crate::name` in that crate's code, `Type::name` in
-some crate's. In a table whose last column is File, it is declared in one of the files that its row names. Line counts of
-definitions are those of the tree: LINES says how they are taken.
+some crate's, `File.name` or `Record.field` in that file or one that declares the record. In a table whose last column
+is File, it is declared in one of the files that its row names. Line counts of definitions are those of the tree: LINES
+says how they are taken.
 """
 import functools
 import glob
@@ -18,6 +21,7 @@ import sys
 
 ROOT = os.path.dirname(os.path.dirname(os.path.abspath(__file__)))
 DOCS = ('docs/THEOREMS.md', 'docs/THEORY.md', 'docs/DECISIONS.md', 'README.md')
+WIDTH = 160
 
 # words of Rattle, of antt, of the kit and of the commands: no name of ours
 FOREIGN = set('''eqb ltb leb not cond none some replicate getD take drop length min abbrev unfoldable unfolding use data record
@@ -51,6 +55,28 @@ def files_of(*patterns):
     return [file for pattern in patterns for file in sorted(glob.glob(pattern, recursive=True))]
 
 
+# ---- the parts of a document
+
+def blocks(text):
+    """Each heading, paragraph, row of a table and item of a list, in one line, with the number of its first line; no code."""
+    number, block = 0, []
+    for at, line in enumerate([*text.split('\n'), ''], 1):
+        code = line.startswith('    ') and not block
+        if block and (not line.strip() or re.match(r'\||#| *- |\d+\. ', line)):
+            yield number, ' '.join(block)
+            block = []
+        if line.strip() and not code:
+            number = number if block else at
+            block.append(line.strip())
+
+
+def wide(file):
+    """The lines of a document that are too long."""
+    for number, line in enumerate(read(file).split('\n'), 1):
+        if len(line) > WIDTH:
+            yield file, number, f'a line of {len(line)} characters; at most {WIDTH}'
+
+
 # ---- docs/SENTENCES.md
 
 def place_files(place):
@@ -71,13 +97,17 @@ def where(name):
     return [file for file in every if declared(name, file)]
 
 
-def sentence(line):
-    """What is wrong with a row of SENTENCES, None for each name that is right."""
-    if not line.startswith('|') or ' | ' not in line:
+def sentence(block):
+    """What is wrong with an item of SENTENCES, None for each name that is right."""
+    if ' → ' not in block:
+        yield 'nothing holds it'
         return
-    cell = re.sub(r'\(`[^)]*\)', '', line.split(' | ', 1)[1])
+    held = block.split(' → ', 1)[1]
+    for word in re.findall(r'`([\w·-]+)`', ' '.join(re.findall(r'\(`[^)]*\)', held))):
+        yield None if word in FOREIGN or anywhere(word) else f'{word} is declared nowhere'
+    held = re.sub(r'\(`[^)]*\)', '', held)
     place = None
-    for word in re.findall(r'`([^`]+)`', cell):
+    for word in re.findall(r'`([^`]+)`', held):
         if '/' in word:
             place = word
             if not all(map(os.path.exists, place_files(place) or ['-'])):
@@ -87,6 +117,16 @@ def sentence(line):
                 yield None
             else:
                 yield f'{word} is not in {place}; it is in {", ".join(where(word)) or "nothing"}'
+
+
+def sentences(text):
+    """Of each item below the first heading: what is wrong with it, None for each name that is right."""
+    below = False
+    for number, block in blocks(text):
+        below = below or block.startswith('## ')
+        if below and block.startswith('- '):
+            for fault in sentence(block):
+                yield number, fault
 
 
 # ---- names of the other documents
@@ -124,17 +164,21 @@ def anywhere(name):
     return any(declared(name, file) for file in every)
 
 
+def qualified(owner, name):
+    """Is the name declared in a file of the owner's name, or in one that declares the owner as a record?"""
+    files = files_of('crates/*/specs/*.antt', 'crates/*/proofs/**/*.antt')
+    return any(declared(name, file) for file in files if os.path.basename(file) == f'{owner}.antt' or declared(owner, file))
+
+
 def names(text):
-    """Of each line: what is wrong with the names in it, None for each that is right."""
+    """What is wrong with the names of a document, None for each that is right."""
     by_file = False
-    for number, line in enumerate(text.split('\n'), 1):
+    for number, line in blocks(text):
         cells = [cell.strip() for cell in line.strip().strip('|').split(' | ')]
         if not line.startswith('|'):
             by_file = False
         elif cells[-1] == 'File':
             by_file = True
-            continue
-        if line.startswith('    '):
             continue
         places = named_files(cells[-1]) if by_file and line.startswith('|') and len(cells) > 2 else []
         for place in places:
@@ -148,6 +192,8 @@ def names(text):
         for word in re.findall(r'`([^`]+)`', plain):
             if re.fullmatch(r'\w+::[\w*]+', word):
                 yield number, None if of_code(*word.split('::')) else f'{word} is in no code'
+            elif re.fullmatch(r'[A-Z]\w*\.[\w-]+', word):
+                yield number, None if qualified(*word.split('.')) else f'{word} is declared nowhere'
             elif re.fullmatch(r'[\w·′-]*[^\W\d][\w·′-]*', word) and word not in FOREIGN:
                 if places:
                     code = files_of(*(os.path.dirname(os.path.dirname(place)) + '/src/*.rt' for place in places))
@@ -157,13 +203,24 @@ def names(text):
                     yield number, None if anywhere(word) else f'{word} is declared nowhere'
 
 
+# ---- docs/MUTANTS.md
+
+def edits(text):
+    """Of each `crate/edit`: what is wrong with it, None if the crate has such an edit."""
+    for number, block in blocks(text):
+        for crate, edit in re.findall(r'`(\w+)/(\w+)`', block):
+            if os.path.isdir(f'crates/{crate}'):
+                good = files_of(f'crates/{crate}/must-fail/{edit}.edit', f'crates/{crate}/tried/{edit}.edit')
+                yield number, None if good else f'{crate} has no edit {edit}'
+
+
 # ---- figures
 
 def lines(*files):
     """LINES of definitions: of the paragraphs that define something, those that are no comment, import or blank line."""
     found = 0
     for file in files:
-        for block in re.split(r'\n\s*\n', read(file)):
+        for block in re.split(r'\n\s*\n', read(file) if os.path.isfile(file) else ''):
             if re.search(r'^(?:abbrev|unfoldable|pub record|pub data) ', block, re.M):
                 found += sum(not re.match(r' *(?:--|use |pub use |unfolding |infix|$)', line) for line in block.split('\n'))
     return found
@@ -176,13 +233,13 @@ def spec(crate, name):
 def figures(theorems, theory, readme):
     """Pairs of what a figure is and whether it is right."""
     def told(document, form, value, what):
-        found = re.findall(form, document)
+        found = re.findall(form, re.sub(r'\s+', ' ', document))
         good = len(found) == 1 and int(found[0].replace(',', '')) == value
         return None if good else f'{what} {"are told as " + found[0] if len(found) == 1 else "are not told once"}; they are {value:,}'
 
     part = theorems.split('## 5.')[1].split('\n## ')[0]
     sums = [0, 0]
-    for row in re.findall(r'^\| (\w[\w, ]*?)? *\| (\d*) *\| ([\w, ]*?) *\| ([\d +]*) *\|$', part, re.M):
+    for row in re.findall(r'^\| (\w[\w, ]*?)? *\| ([\d +]*?) *\| ([\w, ]*?) *\| ([\d +]*?) *\|$', part, re.M):
         for crate, (files, counts) in enumerate((row[0:2], row[2:4])):
             for file, count in zip(re.findall(r'\w+', files), re.findall(r'\d+', counts)):
                 value = lines(spec(('model', 'graph')[crate], file))
@@ -191,12 +248,13 @@ def figures(theorems, theory, readme):
     both = re.findall(r'\*\*together\*\* \| \*\*(\d+)\*\* \| *\| \*\*(\d+)\*\* \|', part)
     yield None if both == [(str(sums[0]), str(sums[1]))] else f'the sums are told as {both}; they are {sums}'
     for kind, begin in (('code', 'The code adds'), ('text', 'Lines and answers as text'), ('program', 'The program:')):
-        sentence_of = re.search(re.escape(begin) + r'.*?([\d,]+) lines', part, re.S)
+        sentence_of = re.search(re.escape(begin) + r'.*?([\d,]+) lines', re.sub(r'\s+', ' ', part))
         if sentence_of is None:
             yield f'part 5 has no figure for the {kind}'
             continue
         files = [spec(crate, file) for names_of, crates in re.findall(r'((?:\w+(?:, | and )?)+) \(([\w, ]+)\)', sentence_of.group(0))
                  for file in re.findall(r'[A-Z]\w*', names_of) for crate in re.findall(r'\w+', crates)]
+        yield from (f'{kind}: no such file: {file}' for file in files if not os.path.isfile(file))
         value = lines(*files)
         sums.append(value)
         yield None if value == int(sentence_of.group(1).replace(',', '')) else f'{kind}: {sentence_of.group(1)} lines are told, there are {value}'
@@ -210,8 +268,10 @@ def figures(theorems, theory, readme):
 def main():
     os.chdir(ROOT)
     faults, right = [], 0
-    found = [('docs/SENTENCES.md', number, fault) for number, line in enumerate(read('docs/SENTENCES.md').split('\n'), 1) for fault in sentence(line)]
+    found = [fault for file in files_of('docs/*.md') for fault in wide(file)]
+    found += [('docs/SENTENCES.md', number, fault) for number, fault in sentences(read('docs/SENTENCES.md'))]
     found += [(document, number, fault) for document in DOCS for number, fault in names(read(document))]
+    found += [('docs/MUTANTS.md', number, fault) for number, fault in edits(read('docs/MUTANTS.md'))]
     found += [('figures', 0, fault) for fault in figures(read('docs/THEOREMS.md'), read('docs/THEORY.md'), read('README.md'))]
     for document, number, fault in found:
         if fault is None:

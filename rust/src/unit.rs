@@ -81,20 +81,20 @@ exports! {
         card: const u8,
         ranks: mut u32,
         pairs: mut u32,
-        live: mut u32,
-        down: mut u32,
-        estimates: mut u32,
-        elapsed: mut u32;
+        live: mut Time,
+        down: mut Time,
+        estimates: mut Time,
+        elapsed: mut Time;
     );
     fn unit_set(
         header;
         card: const u8,
         ranks: const u32,
         pairs: const u32,
-        live: mut u32,
-        down: const u32,
-        estimates: const u32,
-        elapsed: const u32;
+        live: mut Time,
+        down: const Time,
+        estimates: const Time,
+        elapsed: const Time;
         road,
         time
     );
@@ -103,10 +103,10 @@ exports! {
         card: const u8,
         ranks: const u32,
         pairs: const u32,
-        live: const u32,
-        down: mut u32,
-        estimates: mut u32,
-        elapsed: const u32;
+        live: const Time,
+        down: mut Time,
+        estimates: mut Time,
+        elapsed: const Time;
         junction
     );
     fn unit_estimate(
@@ -114,10 +114,10 @@ exports! {
         card: const u8,
         ranks: const u32,
         pairs: const u32,
-        live: const u32,
-        down: const u32,
-        estimates: mut u32,
-        elapsed: const u32;
+        live: const Time,
+        down: const Time,
+        estimates: mut Time,
+        elapsed: const Time;
         junction
     );
     fn unit_go(
@@ -125,10 +125,10 @@ exports! {
         card: const u8,
         ranks: const u32,
         pairs: const u32,
-        live: const u32,
-        down: const u32,
-        estimates: mut u32,
-        elapsed: mut u32,
+        live: const Time,
+        down: const Time,
+        estimates: mut Time,
+        elapsed: mut Time,
         route: mut u32,
         log: mut u32;
         start
@@ -138,10 +138,10 @@ exports! {
         card: const u8,
         ranks: mut u32,
         pairs: mut u32,
-        live: mut u32,
-        down: mut u32,
-        estimates: mut u32,
-        elapsed: mut u32,
+        live: mut Time,
+        down: mut Time,
+        estimates: mut Time,
+        elapsed: mut Time,
         route: mut u32,
         log: mut u32,
         script: const u32,
@@ -247,6 +247,24 @@ pub fn lent_areas(call: Call) -> (Area, Area) {
     }
 }
 
+/// A script of calls: of each its kind, and as many words as that call has. A go's lengths are those that it
+/// asks for.
+pub fn spelled(calls: &[Call]) -> Vec<u32> {
+    let entries = |len: usize| u32::try_from(len).expect("a length of 32 bits");
+    let mut words = Vec::new();
+    for &call in calls {
+        match call {
+            Call::Set { road, time } => words.extend([0, road, time]),
+            Call::Aim { junction } => words.extend([1, junction]),
+            Call::Estimate { junction } => words.extend([2, junction]),
+            Call::Go { start, route, log } => {
+                words.extend([3, start, entries(route), entries(log)]);
+            }
+        }
+    }
+    words
+}
+
 impl Deref for Area {
     type Target = [u32];
 
@@ -341,8 +359,8 @@ impl Unit {
         self.hand_back(returned)?.done()
     }
 
-    /// Prepares, and makes the calls of a script, four words each; a go is lent the first entries of route
-    /// and log, as many as its last two words say, or all. The answers go to `out`, four words each.
+    /// Prepares, and makes the calls of a script, as [`spelled`] has them; a go is lent the first entries of
+    /// route and log, as many as its last two words say, or all. The answers go to `out`, four words each.
     pub fn replay(
         &mut self,
         route: &mut [u32],

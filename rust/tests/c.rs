@@ -53,9 +53,11 @@ fn items<'a>(list: &'a str) -> impl Iterator<Item = String> + 'a {
     list.split(',').filter(|item| !item.trim().is_empty()).map(declared)
 }
 
-/// The structs of `types_c` and the functions of `unit_c`, as C declares them.
+/// The structs and the functions of `unit_c`, as C declares them: the word of a time is one of its width.
 fn exports() -> Vec<String> {
-    let code = read("crates/types_c/src/lib.rt") + &read("crates/unit_c/src/lib.rt");
+    let network = read("crates/network/src/lib.rt");
+    let (width, _) = between(&network, "pub type TimeWord = ", ";").unwrap();
+    let code = read("crates/unit_c/src/lib.rt").replace("TimeWord", width);
     let mut declarations = Vec::new();
     let mut rest = &code[..];
     while let Some((structure, after)) = between(rest, "#[repr(C)]\npub struct ", "\n}") {
@@ -102,7 +104,7 @@ fn declarations() -> Vec<String> {
 fn header_declares_the_exports() {
     let exports = exports();
     assert_eq!(exports.len(), 2 + 8);
-    assert_eq!(declarations(), exports, "c/route_unit.h (left), crates/types_c and unit_c (right)");
+    assert_eq!(declarations(), exports, "c/route_unit.h (left), crates/unit_c (right)");
 }
 
 /// Taken by C, and by C++ if this machine has a compiler for it.

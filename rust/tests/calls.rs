@@ -14,7 +14,7 @@ use harness::maps::{self, Map, Streets};
 use harness::order::{self, MOST_PAIRS};
 use harness::random::{setting, Random};
 use harness::time::{Time, CLOSED, NONE, UNASKED};
-use harness::unit::{lent_areas, Area, Unit};
+use harness::unit::{lent_areas, spelled, Area, Unit};
 use std::thread;
 
 /// How often each call was answered with each number, 0 for accepted, and estimates with none.
@@ -236,20 +236,6 @@ fn lists_on_the_largest_maps() {
     });
 }
 
-/// A call as four words of a script. A go's lengths are those that it asks for; a word that a call has
-/// no use for is any.
-fn call_words(random: &mut Random, call: Call) -> [u32; 4] {
-    let (any, other) = (random.word(), random.word());
-    match call {
-        Call::Set { road, time } => [0, road, time, any],
-        Call::Aim { junction } => [1, junction, any, other],
-        Call::Estimate { junction } => [2, junction, any, other],
-        Call::Go { start, route, log } => {
-            [random.pick(&[3, 3, 4, u32::MAX]), start, route as u32, log as u32]
-        }
-    }
-}
-
 /// The call as it is made: a go is lent what it asks for of areas of these lengths, or all of them.
 fn lent_of(call: Call, route_len: usize, log_len: usize) -> Call {
     match call {
@@ -305,18 +291,49 @@ impl Gos {
     }
 }
 
-/// A script through the one function that makes all its calls, as many as `room` words of answers hold.
-/// The answers, routes and logs are the machine's; the header, every area, and route and log, beyond what
-/// was lent too, are those that the same calls leave when they are made one by one.
+/// What follows the calls of a script, of which none is made.
+#[derive(Clone, Copy, Debug)]
+enum Tail {
+    Nothing,
+    /// The first words of a call.
+    Cut,
+    /// A kind that no call has, and calls behind it.
+    Unknown,
+}
+
+impl Tail {
+    const ALL: [Tail; 3] = [Tail::Nothing, Tail::Cut, Tail::Unknown];
+
+    fn words(self, random: &mut Random, map: &Map) -> Vec<u32> {
+        match self {
+            Tail::Nothing => Vec::new(),
+            Tail::Cut => {
+                let mut words = spelled(&[random_call(random, map)]);
+                words.truncate(1 + random.below(words.len() - 1));
+                words
+            }
+            Tail::Unknown => {
+                let any = random.word().max(4);
+                let kind = random.pick(&[4, 5, 256, 65_536, 1 << 31, u32::MAX, any]);
+                let behind: Vec<Call> = (0..3).map(|_| random_call(random, map)).collect();
+                [vec![kind], spelled(&behind)].concat()
+            }
+        }
+    }
+}
+
+/// A script of calls and other words behind them, through the one function that makes all the calls, as
+/// many as `room` words of answers hold. The answers, routes and logs are the machine's; the header, every
+/// area, and route and log, beyond what was lent too, are those that the same calls leave when they are made
+/// one by one.
 fn run_script(
-    random: &mut Random,
     map: &Map,
     calls: &[Call],
+    tail: &[u32],
     mut lent: [Area; 2],
     room: usize,
 ) -> Vec<(Call, Answer)> {
-    let mut script: Vec<u32> = calls.iter().flat_map(|&call| call_words(random, call)).collect();
-    script.extend_from_slice(&[1, 0, 0][..random.below(4)]);
+    let script = [&spelled(calls)[..], tail].concat();
     let mut out = vec![u64::MAX - 5; room];
     let (mut want_out, mut want, mut one_by_one) = (out.clone(), lent.clone(), lent.clone());
 
@@ -343,7 +360,7 @@ fn run_script(
     }
     let [route, log] = &mut lent;
     unit.replay(route, log, &script, &mut out).unwrap();
-    assert_eq!(out, want_out, "{calls:?}");
+    assert_eq!(out, want_out, "{calls:?} and the words {tail:?}");
     assert!(unit == single && unit == both.unit, "the unit is left otherwise than by single calls");
     assert!(lent == want, "route and log are left otherwise than by the machine");
     assert!(lent == one_by_one, "route and log are left otherwise than by single calls");
@@ -369,6 +386,8 @@ fn scripts() {
     with_stack(|| {
         let mut random = Random::new(4);
         let mut gos = Gos::default();
+        // How many scripts of each tail were made to their last call, with room for an answer more.
+        let mut ended = [0; 3];
         for most in [12; 400].into_iter().chain([200; 20]).chain([MOST_JUNCTIONS]) {
             let map = random_map(&mut random, most);
             let (n, len) = (map.n(), random.below(80));
@@ -386,11 +405,14 @@ fn scripts() {
                     call => call,
                 })
                 .collect();
-            let room = match random.chance(50) {
-                true => 4 * len + random.below(9),
+            let tail = random.pick(&Tail::ALL);
+            let room = match random.chance(75) {
+                true => 4 * len + random.below(20),
                 false => random.below(4 * len + 1),
             };
-            gos.count(&run_script(&mut random, &map, &calls, lent, room));
+            ended[tail as usize] += (room >= 4 * len + 4) as usize;
+            let tail = tail.words(&mut random, &map);
+            gos.count(&run_script(&map, &calls, &tail, lent, room));
         }
         assert!(
             gos.calls > 10_000
@@ -400,10 +422,11 @@ fn scripts() {
                 && gos.mixed > 150,
             "too few of one kind: {gos:?}"
         );
+        assert!(ended.iter().all(|&met| met > 60), "too few of one end: {ended:?}");
         let mut refused = Unit::new(&[0; 28], 0, 0, 0);
         let mut out = [1; 8];
-        let script = [0, 0, 0, 0, 3, 0, 0, 0];
-        let answer = refused.replay(&mut [], &mut [], &script, &mut out);
+        let calls = [Call::Set { road: 0, time: 0 }, Call::Go { start: 0, route: 0, log: 0 }];
+        let answer = refused.replay(&mut [], &mut [], &spelled(&calls), &mut out);
         assert_eq!((answer, out), (Err(Refusal::Kinds), [10, 0, 0, 0, 12, 0, 0, 0]));
     });
 }
@@ -431,7 +454,7 @@ fn scripts_of_each_length() {
             }
             let last = 4 * calls.len();
             for room in if most > 12 { vec![last] } else { (0..=last).step_by(4).collect() } {
-                let answers = run_script(&mut random, &map, &calls, lent.clone(), room);
+                let answers = run_script(&map, &calls, &[], lent.clone(), room);
                 for (call, answer) in answers.iter().copied() {
                     if let Call::Go { route, log, .. } = call {
                         let short = answer == Err(Refusal::LentLengths);
@@ -448,6 +471,45 @@ fn scripts_of_each_length() {
         assert_eq!(gos.found + gos.lost, 45 * 25);
         assert!(gos.found > 400 && gos.lost > 50, "too few of one kind: {gos:?}");
     });
+}
+
+/// A script of every kind of call, cut off after each of its words; and with each of its kinds, in turn, made
+/// one that no call has. The calls that stand whole before that are made, and none from there on.
+#[test]
+fn scripts_that_end_early() {
+    let map = maps::map_p();
+    let go = |start, route, log| Call::Go { start, route, log };
+    let calls = [
+        Call::Estimate { junction: 0 },
+        Call::Aim { junction: 3 },
+        go(0, 4, 4),
+        Call::Set { road: 1, time: CLOSED },
+        go(0, 4, 3),
+        Call::Estimate { junction: 0 },
+        Call::Set { road: 0, time: 9 },
+        go(0, 9, 4),
+        Call::Aim { junction: 1 },
+        go(3, 4, 4),
+    ];
+    let script = spelled(&calls);
+    assert_eq!(script.len(), 2 * 3 + 4 * 2 + 4 * 4);
+    let lent = || [Area::new(6), Area::new(5)];
+    let (mut cuts, mut kinds, mut made) = (0, 0, 0);
+    for whole in 0..=calls.len() {
+        let (before, behind) = calls.split_at(whole);
+        let rest = spelled(behind);
+        let next = behind.first().map_or(1, |&call| spelled(&[call]).len());
+        for cut in 0..next {
+            made += run_script(&map, before, &rest[..cut], lent(), 4 * calls.len()).len();
+            cuts += 1;
+        }
+        for kind in [4, 5, 259, 65_539, u32::MAX] {
+            let tail = [&[kind][..], rest.get(1..).unwrap_or(&[])].concat();
+            made += run_script(&map, before, &tail, lent(), 4 * calls.len() + 4).len();
+            kinds += 1;
+        }
+    }
+    assert_eq!((cuts, kinds, made), (script.len() + 1, 11 * 5, 5 * 55 + 153));
 }
 
 /// Changes to lengths, each of which question 9 refuses, by the call's header.

@@ -1,6 +1,7 @@
 //! Calls on states that no list of calls leaves: areas, headers and cards of right lengths and any
 //! contents. The answer is free, but the call ends, writes only in the areas that it is lent to write, leaves
-//! each estimate that is filled, but for an aim, and hands the header back as it was, but for its target.
+//! each estimate that is filled, but for an aim, and hands the header back as it was, but for its target. Only
+//! a header out of range is refused, by 9, whatever the lengths.
 
 use harness::both::with_stack;
 use harness::calls::{Call, Calls, Refusal};
@@ -71,12 +72,19 @@ fn size(random: &mut Random, most: usize) -> usize {
     }
 }
 
+/// Any bytes, or any words, as a card's.
+fn any_card(random: &mut Random, n: usize, m: usize) -> Vec<u8> {
+    match random.chance(50) {
+        true => (0..card::len(n, m)).map(|_| random.word() as u8).collect(),
+        false => (0..card::len(n, m) / 4).flat_map(|_| number(random, n).to_le_bytes()).collect(),
+    }
+}
+
 /// A header, areas and a card that fit each other in length alone.
 fn forge(random: &mut Random) -> Unit {
     let [n, m, room] = [MOST_JUNCTIONS, MOST_ROADS, MOST_PAIRS].map(|most| size(random, most));
-    let bytes: Vec<u8> = match random.below(3) {
-        0 => (0..card::len(n, m)).map(|_| random.word() as u8).collect(),
-        1 => (0..card::len(n, m) / 4).flat_map(|_| number(random, n).to_le_bytes()).collect(),
+    let bytes = match random.below(3) {
+        0 | 1 => any_card(random, n, m),
         _ => {
             let m = if n < 2 { 0 } else { m };
             let card = maps::random(random, n.max(1), m, LONGEST).card().expect("a map in range");
@@ -85,8 +93,13 @@ fn forge(random: &mut Random) -> Unit {
             card
         }
     };
-    let m = (bytes.len() - card::len(n, 0)) / 12;
-    let mut unit = Unit::new(&bytes, n, m, room);
+    forge_on(random, &bytes, n, room)
+}
+
+/// A header and areas that fit a card of n junctions in length.
+fn forge_on(random: &mut Random, card: &[u8], n: usize, room: usize) -> Unit {
+    let m = (card.len() - card::len(n, 0)) / 12;
+    let mut unit = Unit::new(card, n, m, room);
     for area in unit.areas_mut() {
         noise(random, area, n);
     }
@@ -352,4 +365,35 @@ fn headers_of_any_size() {
         }
     }
     assert!(refusals > 20_000, "{refusals} refusals");
+}
+
+/// More junctions, roads or pairs than a unit takes, with a card and areas of just the lengths that the header
+/// calls for: 9, and nothing is altered.
+#[test]
+fn headers_out_of_range() {
+    let mut random = Random::new(4);
+    let most = [MOST_JUNCTIONS, MOST_ROADS, MOST_PAIRS];
+    let mut refused = [0; 3];
+    for i in 0..90 {
+        let which = i % 3;
+        let mut sizes = most.map(|most| size(&mut random, most));
+        sizes[which] = most[which] + 1 + random.pick(&[0, 0, 1, 255, 4_096]);
+        let [n, m, room] = sizes;
+        let card = any_card(&mut random, n, m);
+        let mut unit = forge_on(&mut random, &card, n, room);
+        let header = Header { pairs: room as u32, ..unit.header };
+        let [aimed, target] = random.pick(&[[0, 0], [1, 0], [1, n as u32]]);
+        unit.header = Header { aimed, target, ..header };
+        let before = unit.clone();
+        for _ in 0..10 {
+            let call = call(&mut random, &unit);
+            let (mut route, mut log) = lent_areas(call);
+            let answer = unit.call(call, &mut route, &mut log);
+            assert_eq!(answer.err(), Some(Refusal::Lengths), "{call:?}, {:?}", unit.header);
+            assert!(unit == before, "{call:?} alters the unit");
+            assert!((route, log) == lent_areas(call), "{call:?} alters a lent area");
+            refused[which] += 1;
+        }
+    }
+    assert_eq!(refused, [300; 3]);
 }

@@ -1,5 +1,5 @@
 -- The ways through reading. Assumes nothing.
-use mathlib.Core.Path.{_∙_, _≡_, ap, ap₂, refl, sym}
+use mathlib.Core.Path.{_∙_, _≡_, ap, ap₂, sym}
 use mathlib.Core.Bool.{false, true}
 use mathlib.Core.Option.{Option, none, some}
 use mathlib.Core.List.{List}
@@ -7,58 +7,72 @@ use Prim.Native.Nat.{_/_, _<_, _≤_, ℕ}
 use borrow.Author.Tests.{le-leb, lt-leb}
 use lib.ListN.{length}
 use native.Mathlib.Omega.{arith}
-use Rattle.model.specs.Bytes.{wordAt}
 use Rattle.model.specs.Types.{Kinds, Read, Refusal, Short, Starts, Unreadable}
-use Rattle.model.specs.Card.{Rows, cardRefusal, kindsOk, mapOf, mapOn, orderBytes, readCard, reading, roadBytes, rowsOf, rowsRefusal, startsOk}
-use Rattle.network.specs.Bodies.{rowsIn}
-use Rattle.sections.proofs.Roads.{arcs, junctions}
-use Rattle.reader.specs.Walk.{bodyAt, firstBody, secondBody}
-use Rattle.reader.proofs.Places.{body-is, place}
-use Rattle.card.specs.Parts.{BodyFacts, body-facts, ends-within}
+use Rattle.model.specs.Layout.{Section, body, placeSize, roadSize, section, sections, tableSize}
+use Rattle.model.specs.Card.{bodiesRefusal, cardRefusal, kindsOk, mapOn, readCard, reading, rowsOf, rowsRefusal, startsOk}
+use Rattle.model.specs.Accept.{BodyFacts, bodies-refusal, body-facts, table-facts}
+use Rattle.card_layout.specs.Sections.{bodyAt, entryOf}
+use Rattle.card_layout.proofs.Entries.{body-is, entry-is}
+use Rattle.card_sections.proofs.Roads.{arcs, junctions}
 
-module _ (card : List ℕ) where
-  pub read-1 : length card < 28 → Unreadable Short ≡ readCard card
+pub read-1 : (card : List ℕ) → length card < tableSize → Unreadable Short ≡ readCard card
+unfolding cardRefusal
+read-1 card h = rw (lt-leb tableSize (length card) h)
+
+-- past question 1: the number of sections and the two entries, as they were read
+pub record Entries (card : List ℕ) (count : ℕ) (a b : Section) : Type 0 where
+  pub long : tableSize ≤ length card
+  pub count-is : count ≡ sections card
+  pub first : a ≡ entryOf card 0
+  pub second : b ≡ entryOf card 1
+
+module _ {card : List ℕ} {count : ℕ} {a b : Section} (t : Entries card count a b) where
+  first-is : section card 0 ≡ a
+  first-is = sym (t .first ∙ entry-is card 0 (omega (arith, t .long)))
+
+  second-is : section card 1 ≡ b
+  second-is = sym (t .second ∙ entry-is card 1 (omega (arith, t .long)))
+
+  kinds-are : kindsOk (sections card) (section card 0) (section card 1) ≡ kindsOk count a b
+  kinds-are = ap (λ (k : ℕ). kindsOk k (section card 0) (section card 1)) (sym (t .count-is)) ∙ ap₂ (kindsOk count) first-is second-is
+
+  starts-are : startsOk (section card 0) (section card 1) (length card) ≡ startsOk a b (length card)
+  starts-are = ap₂ (λ (x : Section) (y : Section). startsOk x y (length card)) first-is second-is
+
+  pub read-2 : kindsOk count a b ≡ false → Unreadable Kinds ≡ readCard card
   unfolding cardRefusal
-  read-1 h = rw (lt-leb 28 (length card) h)
+  read-2 k = rw (le-leb tableSize (length card) (t .long), kinds-are ∙ k)
 
-  module _ (long : 28 ≤ length card) where
-    pub read-2 : kindsOk card ≡ false → Unreadable Kinds ≡ readCard card
+  module _ (k : kindsOk count a b ≡ true) where
+    pub read-3 : startsOk a b (length card) ≡ false → Unreadable Starts ≡ readCard card
     unfolding cardRefusal
-    read-2 k = rw (le-leb 28 (length card) long, k)
+    read-3 s = rw (le-leb tableSize (length card) (t .long), kinds-are ∙ k, starts-are ∙ s)
 
-    module _ (k : kindsOk card ≡ true) where
-      pub read-3 : startsOk card ≡ false → Unreadable Starts ≡ readCard card
+    module _ (s : startsOk a b (length card) ≡ true) where
+      said : cardRefusal card ≡ rowsRefusal (section card 0 .size) (section card 1 .size) (rowsOf card)
       unfolding cardRefusal
-      read-3 s = rw (le-leb 28 (length card) long, k, s)
+      said = rw (le-leb tableSize (length card) (t .long), kinds-are ∙ k, starts-are ∙ s)
 
-      said : startsOk card ≡ true → cardRefusal card ≡ rowsRefusal (roadBytes card) (orderBytes card) (rowsOf card)
-      unfolding cardRefusal
-      said s = rw (le-leb 28 (length card) long, k, s)
+      facts : BodyFacts card
+      facts = body-facts card (table-facts (sections card) (section card 0) (section card 1) (length card) (kinds-are ∙ k) (starts-are ∙ s))
 
-      module _ (s : startsOk card ≡ true) where
-        -- the bodies at the reader's two places are the parts that the entries name
-        facts : BodyFacts card (firstBody card) (secondBody card)
-        facts =
-            let e = ends-within card k s in
-            body-facts card (firstBody card) (secondBody card) k s
-            (body-is card 4 (omega arith) (wordAt card 8) (wordAt card 12) refl refl (e .0))
-            (ap (bodyAt card) (sym (place card 4 (omega arith))) ∙ body-is card 16 (omega arith) (wordAt card 20) (wordAt card 24) refl refl (e .1))
+      module _ (x : Option Refusal) (e : x ≡ bodiesRefusal (bodyAt card 0) (bodyAt card 1)) where
+        -- the questions of the bodies at the reader's two places are those of the card
+        rest : x ≡ cardRefusal card
+        rest =
+            e ∙ ap₂ bodiesRefusal (body-is card 0 (omega (arith, t .long)) (facts .roads-within))
+            (body-is card 1 (omega (arith, t .long)) (facts .order-within))
+            ∙ bodies-refusal card facts ∙ sym said
 
-        module _ (roads order : List ℕ) (f : BodyFacts card roads order) where
-          -- the questions of the bodies are those of the card
-          rest : rowsRefusal (length roads) (length order) (rowsIn roads order) ≡ cardRefusal card
-          rest = ap (rowsRefusal (length roads) (length order)) (f .rows) ∙ ap₂ (λ (a : ℕ) (b : ℕ). rowsRefusal a b (rowsOf card)) (f .roads-size) (f .order-size) ∙ sym (said s)
+        pub read-failed : (q : Refusal) → some q ≡ x → Unreadable q ≡ readCard card
+        read-failed q y = ap (reading (mapOn card .vertices) (mapOn card .base .arcs)) (y ∙ rest)
 
-          counts : Read (wordAt card 24 / 4) (wordAt card 12 / 12) ≡ Read (mapOn card .vertices) (mapOn card .base .arcs)
-          counts =
-              ap₂ (λ (a : ℕ) (b : ℕ). Read (a / 4) (b / 12)) (sym (f .order-size)) (sym (f .roads-size))
-              ∙ ap₂ Read (sym (junctions roads order) ∙ ap (λ (r : Rows). mapOf r .vertices) (f .rows)) (sym (arcs roads order) ∙ ap (λ (r : Rows). mapOf r .base .arcs) (f .rows))
-
-        module _ (x : Option Refusal) (e : x ≡ rowsRefusal (length (firstBody card)) (length (secondBody card)) (rowsIn (firstBody card) (secondBody card))) where
-          pub read-failed : (q : Refusal) → some q ≡ x → Unreadable q ≡ readCard card
-          read-failed q t = ap (reading (mapOn card .vertices) (mapOn card .base .arcs)) (t ∙ e ∙ rest _ _ facts)
-
-          pub read-passed : (n m : ℕ) → none ≡ x → n ≡ wordAt card 24 → m ≡ wordAt card 12 → Read (n / 4) (m / 12) ≡ readCard card
-          read-passed n m t en em =
-              ap₂ (λ (a : ℕ) (b : ℕ). Read (a / 4) (b / 12)) en em ∙ counts _ _ facts
-              ∙ ap (reading (mapOn card .vertices) (mapOn card .base .arcs)) (t ∙ e ∙ rest _ _ facts)
+        pub read-passed : none ≡ x → Read (b .size / placeSize) (a .size / roadSize) ≡ readCard card
+        read-passed y =
+            let roads = body card (section card 0) in
+            let order = body card (section card 1) in
+            let n : b .size / placeSize ≡ mapOn card .vertices =
+            ap (_/ placeSize) (ap (λ (z : Section). z .size) (sym second-is) ∙ sym (facts .order-size)) ∙ sym (junctions roads order) in
+            let m : a .size / roadSize ≡ mapOn card .base .arcs =
+            ap (_/ roadSize) (ap (λ (z : Section). z .size) (sym first-is) ∙ sym (facts .roads-size)) ∙ sym (arcs roads order) in
+            ap₂ Read n m ∙ ap (reading (mapOn card .vertices) (mapOn card .base .arcs)) (y ∙ rest)

@@ -1,7 +1,7 @@
 -- The code's answers as document 01's. Definitions only.
 use Rattle.model.specs.Types as model
 use Rattle.network.specs.Refusals.{refusalIn}
-pub use Rattle.writer.specs.Lent.{rowsOf}
+pub use Rattle.card_writer.specs.Lent.{rowsOf}
 use Rattle.card.specs.declared.Reading.{Reading}
 use Rattle.card.specs.declared.Reading.the-variants.{Read, Unreadable}
 use Rattle.card.specs.declared.Writing.{Writing}

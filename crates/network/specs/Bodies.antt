@@ -1,4 +1,4 @@
--- The map of two bodies of bytes, as the code holds it: roads of 12 bytes, places of the order of 4. Assumes nothing.
+-- The map of two bodies of bytes, as the code holds it. Assumes nothing.
 use mathlib.Core.Path.{_∙_, _≡_, ap}
 use mathlib.Core.Option.{none, some}
 use mathlib.Core.List.{List}
@@ -8,33 +8,32 @@ use native.Mathlib.Omega.{arith}
 use Rattle.graph.specs.Network.{Arc}
 use Rattle.graph.specs.Bound.{CostsAtMost}
 use Rattle.graph.specs.Map.{Map, Valid, pairsOf, rank}
-use Rattle.model.specs.Bytes.{listed, wordAt, wordsAt}
-use Rattle.model.specs.Card.{Rows, mapOf, rowsRefusal}
-use Rattle.model.specs.State.{recordsIn}
+use Rattle.model.specs.Bytes.{listed, wordAt}
+use Rattle.model.specs.Limits.{mostJunctions, mostRoads, mostTime}
+use Rattle.model.specs.Layout.{placeSize, roadSize, wordsIn}
+use Rattle.model.specs.Card.{Rows, bodiesRefusal, mapOf}
+pub use Rattle.model.specs.Card.{rowsIn}
+use Rattle.model.specs.Areas.{recordsIn}
 use Rattle.model.specs.Laws.{listed-at, listed-length}
 use Rattle.model.specs.Accept.{RoadFacts, rows-facts, rows-most, rows-valid, sizes-facts}
-
--- the words of the two bodies
-abbrev pub rowsIn : (roads order : List ℕ) → Rows
-rowsIn roads order = record { roads = wordsAt roads 0 (length roads / 4); order = wordsAt order 0 (length order / 4) }
 
 abbrev pub mapIn : (roads order : List ℕ) → Map
 mapIn roads order = mapOf (rowsIn roads order)
 
 -- Questions 4 to 6 pass. What the code below the calls asks of the bodies that it is lent.
 pub record Sound (roads order : List ℕ) : Type 0 where
-  pub passes : rowsRefusal (length roads) (length order) (rowsIn roads order) ≡ none
+  pub passes : bodiesRefusal roads order ≡ none
 
 -- what follows of the map, of its sizes, and where its words stand
 pub record MapFacts (roads order : List ℕ) : Type 0 where
   pub valid : Valid (mapIn roads order)
-  pub most : CostsAtMost (Arc (mapIn roads order .base)) 1000000
+  pub most : CostsAtMost (Arc (mapIn roads order .base)) mostTime
   pub road : (i : ℕ) → i < mapIn roads order .base .arcs → RoadFacts (rowsIn roads order) i
-  pub roads-are : length roads ≡ 12 * mapIn roads order .base .arcs
-  pub order-is : length order ≡ 4 * mapIn roads order .vertices
+  pub roads-are : length roads ≡ roadSize * mapIn roads order .base .arcs
+  pub order-is : length order ≡ placeSize * mapIn roads order .vertices
   pub vertices-low : 1 ≤ mapIn roads order .vertices
-  pub vertices-high : mapIn roads order .vertices ≤ 4096
-  pub arcs-high : mapIn roads order .base .arcs ≤ 16384
+  pub vertices-high : mapIn roads order .vertices ≤ mostJunctions
+  pub arcs-high : mapIn roads order .base .arcs ≤ mostRoads
 
 pub map-facts : {roads order : List ℕ} → Sound roads order → MapFacts roads order
 map-facts {roads} {order} s =
@@ -46,32 +45,34 @@ map-facts {roads} {order} s =
       valid = rows-valid f;
       most = rows-most f;
       road = f .roads;
-      roads-are = omega (arith, m, z .0);
-      order-is = omega (arith, n, z .2);
-      vertices-low = omega (arith, n, z .2, z .3);
-      vertices-high = omega (arith, n, z .4);
-      arcs-high = omega (arith, m, z .1);
+      roads-are = omega (arith, m, z .roads-whole);
+      order-is = omega (arith, n, z .order-whole);
+      vertices-low = omega (arith, n, z .order-whole, z .order-low);
+      vertices-high = omega (arith, n, z .order-high);
+      arcs-high = omega (arith, m, z .roads-high);
     }
 
 -- ---- the map by its words
 
 -- word k of a body
-pub word-in : (s : List ℕ) (k : ℕ) → 4 * k + 4 ≤ length s → getD (wordsAt s 0 (length s / 4)) k 0 ≡ wordAt s (4 * k)
+pub word-in : (s : List ℕ) (k : ℕ) → 4 * k + 4 ≤ length s → getD (wordsIn s) k 0 ≡ wordAt s (4 * k)
 word-in s k h =
     let e : 0 + 4 * k ≡ 4 * k = omega arith in
     listed-at (length s / 4) (λ i. wordAt s (0 + 4 * i)) k (omega arith) ∙ ap (wordAt s) e
 
 module _ (roads order : List ℕ) where
-  pub tail-in : (i : ℕ) → 12 * i + 12 ≤ length roads → mapIn roads order .base .tail i ≡ wordAt roads (12 * i)
-  tail-in i h = let e : 4 * (3 * i) ≡ 12 * i = omega arith in word-in roads (3 * i) (omega arith) ∙ ap (wordAt roads) e
+  pub tail-in : (i : ℕ) → roadSize * i + roadSize ≤ length roads → mapIn roads order .base .tail i ≡ wordAt roads (roadSize * i)
+  tail-in i h = let e : 4 * (3 * i) ≡ roadSize * i = omega arith in word-in roads (3 * i) (omega arith) ∙ ap (wordAt roads) e
 
-  pub head-in : (i : ℕ) → 12 * i + 12 ≤ length roads → mapIn roads order .base .head i ≡ wordAt roads (12 * i + 4)
-  head-in i h = let e : 4 * (3 * i + 1) ≡ 12 * i + 4 = omega arith in word-in roads (3 * i + 1) (omega arith) ∙ ap (wordAt roads) e
+  pub head-in : (i : ℕ) → roadSize * i + roadSize ≤ length roads → mapIn roads order .base .head i ≡ wordAt roads (roadSize * i + 4)
+  head-in i h = let e : 4 * (3 * i + 1) ≡ roadSize * i + 4 = omega arith in word-in roads (3 * i + 1) (omega arith) ∙ ap (wordAt roads) e
 
-  pub base-in : (i : ℕ) → 12 * i + 12 ≤ length roads → mapIn roads order .base .cost i ≡ some (wordAt roads (12 * i + 8))
-  base-in i h = let e : 4 * (3 * i + 2) ≡ 12 * i + 8 = omega arith in ap some (word-in roads (3 * i + 2) (omega arith) ∙ ap (wordAt roads) e)
+  pub base-in : (i : ℕ) → roadSize * i + roadSize ≤ length roads → mapIn roads order .base .cost i ≡ some (wordAt roads (roadSize * i + 8))
+  base-in i h =
+      let e : 4 * (3 * i + 2) ≡ roadSize * i + 8 = omega arith in
+      ap some (word-in roads (3 * i + 2) (omega arith) ∙ ap (wordAt roads) e)
 
-  pub junction-in : (k : ℕ) → 4 * k + 4 ≤ length order → mapIn roads order .order k ≡ wordAt order (4 * k)
+  pub junction-in : (k : ℕ) → placeSize * k + placeSize ≤ length order → mapIn roads order .order k ≡ wordAt order (placeSize * k)
   junction-in k h = word-in order k h
 
 -- ---- what preparing leaves, as the code below the calls relies on it

@@ -2,3 +2,4 @@ pub mod Width
 pub mod Bytes
 pub mod Bodies
 pub mod Refusals
+pub mod Lending

@@ -58,7 +58,8 @@ fit-ofWord (some t) = go (fits t)
 -- the minimum of words is that of what fits
 pub fit-min : (x y : Total) → min (word (fit x)) (word (fit y)) ≡ word (fit (x ⊓ y))
 fit-min none y = let h = fit-word y in let e : min noneWord (word (fit y)) ≡ word (fit y) = omega (arith, h) in e
-fit-min (some a) none = let h = fit-word (some a) in let e : min (word (fit (some a))) noneWord ≡ word (fit (some a)) = omega (arith, h) in e
+fit-min (some a) none = let h = fit-word (some a) in
+    let e : min (word (fit (some a))) noneWord ≡ word (fit (some a)) = omega (arith, h) in e
 fit-min (some a) (some b) = go (fits a) (fits b) (fits (min a b))
   where
     go : Fits a → Fits b → Fits (min a b) → min (word (fit (some a))) (word (fit (some b))) ≡ word (fit (some (min a b)))

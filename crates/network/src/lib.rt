@@ -10,7 +10,40 @@ ghost use Rattle.model.specs.Types as model;
 ghost use Rattle.model.specs.Word.{closedWord, noneWord, ofWord, unasked, word};
 ghost use Rattle.model.specs.Bytes.{bytesOf, wordAt};
 ghost use Rattle.network.specs.Width.{fit};
-ghost use Rattle.network.specs.Refusals.{refusalIn};
+ghost use Rattle.model.specs.Card.{ask};
+ghost use Rattle.network.specs.Refusals.{refusalIn, verdictIn};
+
+// ---- limits: as many junctions, roads and pairs as a unit takes, and the largest base time
+
+pub const MOST_JUNCTIONS: u32 = 4096;
+
+pub const MOST_ROADS: u32 = 16384;
+
+pub const MOST_PAIRS: u32 = 65536;
+
+pub const MOST_TIME: TimeWord = 1000000;
+
+// The limits as lengths: of an area by junction, of one by road, and of the pairs' area, of which a record has four words (two ranks and
+// two times).
+pub const JUNCTIONS: usize = MOST_JUNCTIONS as usize;
+
+pub const ROADS: usize = MOST_ROADS as usize;
+
+pub const RECORD: usize = 4;
+
+pub const MOST_PAIR_WORDS: usize = RECORD * (MOST_PAIRS as usize);
+
+// ---- numbers
+
+// The word of a time: its width is known here and nowhere else.
+pub type TimeWord = u32;
+
+// Numbers of junctions, roads and pairs.
+pub struct Sizes {
+    pub n: u32,
+    pub m: u32,
+    pub pairs: u32,
+}
 
 // The number of a junction (a vertex).
 pub struct Junction(pub u32);
@@ -18,13 +51,13 @@ pub struct Junction(pub u32);
 // A level of the contraction order. (Document 01: a rank.)
 pub struct Rank(pub u32);
 
-// The words of the marks: the width of a time is known here and nowhere else.
-const NONE_WORD: u32 = 4294967295;
+// The words of the marks.
+const NONE_WORD: TimeWord = 4294967295;
 
-const UNASKED_WORD: u32 = 4294967294;
+const UNASKED_WORD: TimeWord = 4294967294;
 
 // A time in seconds, or one of the marks.
-pub struct Time(pub u32);
+pub struct Time(pub TimeWord);
 
 impl Time {
     // No time exists.
@@ -37,14 +70,14 @@ impl Time {
     pub const CLOSED: Time = Time(NONE_WORD);
 
     // The time that a word of an area or of a card stands for.
-    pub fn of_word(w: u32) -> Self
+    pub fn of_word(w: TimeWord) -> Self
         ensures { λ r. ⌜ r .0 ≡ w ⌝ }
     {
         Time(w)
     }
 
     // The word that stands for a time.
-    pub fn word(self) -> u32
+    pub fn word(self) -> TimeWord
         ensures { λ r. ⌜ r ≡ self .0 ⌝ }
     {
         self.0
@@ -55,7 +88,7 @@ impl Time {
         ensures { λ r. ⌜ r .0 ≡ word (fit (some t)) ⌝ }
     {
         if t < UNASKED_WORD as u64 {
-            Time(t as u32)
+            Time(t as TimeWord)
         } else {
             Time::NONE
         }
@@ -80,7 +113,8 @@ impl Time {
         self.0 == Time::CLOSED.0
     }
 
-    // One step of a minimum of sums: the least of this time and a + b, where a sum with none is none. The sum is taken in 64 bits; one with the mark none reaches past every time, so it comes out as none.
+    // One step of a minimum of sums: the least of this time and a + b, where a sum with none is none. The sum is taken in 64 bits; one with
+    // the mark none reaches past every time, so it comes out as none.
     pub fn or_sum(self, a: Time, b: Time) -> Self
         ensures { λ r. ⌜ r .0 ≡ min (self .0) (word (fit (ofWord (a .0) ⊕ ofWord (b .0)))) ⌝ }
     {
@@ -202,6 +236,19 @@ impl Refusal {
             count: count,
         }
     }
+}
+
+// What questions find: nothing to refuse, or the first that says no.
+pub enum Verdict {
+    Passed,
+    Failed(Refusal),
+}
+
+// A question that passes leaves the rest to decide; one that does not refuses.
+pub fn ask(passes: bool, q: Refusal, rest: Verdict) -> Verdict
+    ensures { λ r. ⌜ verdictIn r ≡ ask passes (refusalIn q) (verdictIn rest) ⌝ }
+{
+    if passes { rest } else { Verdict::Failed(q) }
 }
 
 fn wide(x: u8) -> u32

@@ -7,20 +7,24 @@ use Prim.Native.Nat.{_<_, _≤_, ℕ}
 use lib.ListN.{length}
 use Rattle.graph.specs.Total.{Total}
 use Rattle.graph.specs.Search.{countOf, history, logOf, routeOf, timeIn, totalOf, vertices}
+use Rattle.model.specs.Limits.{mostTotal}
 use Rattle.model.specs.Word.{noneWord, word}
 use Rattle.model.specs.Bytes.{listed}
-use Rattle.model.specs.Calls.{asks, filled, first, goRoute, liveOf, settable}
-use Rattle.model.specs.Contracts.{Kept}
+use Rattle.model.specs.State.{first}
+use Rattle.model.specs.Set.{settable}
+use Rattle.model.specs.Estimate.{Kept, filled}
+use Rattle.model.specs.Go.{asks, goRoute, liveOf}
 use Rattle.model.specs.Good.{AimFacts}
 use Rattle.network.specs.Bodies.{Prepared, mapIn}
-use Rattle.labels.specs.Labelled.{word-none, word-some}
-use Rattle.relaxing.specs.State.{goIn}
+use Rattle.search_labels.specs.Labelled.{word-none, word-some}
+use Rattle.search_relaxing.specs.State.{Given, goIn}
+use Rattle.search.specs.Logs.{Written}
 
 -- Total or none, count, number of roads; estimates, elapsed, route and log as go leaves them. e₀, route₀ and log₀ are the areas before.
 pub record Found (roads order live : List ℕ) (s z : ℕ) (e₀ route₀ log₀ e elapsed route log : List ℕ) (total count number : ℕ) : Type 0 where
   pub total-is : total ≡ word (totalOf (goIn roads order live s z))
   -- a total stays below the marks
-  pub fits : (t : ℕ) → totalOf (goIn roads order live s z) ≡ some t → t ≤ 4095000000
+  pub fits : (t : ℕ) → totalOf (goIn roads order live s z) ≡ some t → t ≤ mostTotal
   pub count-is : count ≡ countOf (goIn roads order live s z)
   pub number-is : number ≡ length (routeOf (goIn roads order live s z))
   pub estimates-are : e ≡ filled (mapIn roads order) z (asks (mapIn roads order) live s z) e₀
@@ -37,8 +41,14 @@ pub record Searches (roads order ranks pairs live down : List ℕ) (count s z : 
       → ((i : ℕ) → i < mapIn roads order .base .arcs → settable (mapIn roads order .base .cost i) (liveOf live i) ≡ true)
       → Found roads order live s z e₀ route₀ log₀ e elapsed route log total logged number
 
+-- the same of what is given to the search, and of what it writes
+abbrev pub SearchesIn : Given → (s z : ℕ) → (l l′ : Written) → (total logged number : ℕ) → Type 0
+SearchesIn g s z l l′ = Searches (g .roads) (g .order) (g .ranks) (g .pairs) (g .live) (g .down) (g .sizes .pairs) s z
+    (l .estimates) (l .ways) (l .log) (l′ .estimates) (l′ .elapsed) (l′ .ways) (l′ .log)
+
 -- the word of the total tells whether there is a path
-module _ {roads order live : List ℕ} {s z : ℕ} {e₀ route₀ log₀ e elapsed route log : List ℕ} {total count number : ℕ} (f : Found roads order live s z e₀ route₀ log₀ e elapsed route log total count number) where
+module _ {roads order live : List ℕ} {s z : ℕ} {e₀ route₀ log₀ e elapsed route log : List ℕ} {total count number : ℕ}
+    (f : Found roads order live s z e₀ route₀ log₀ e elapsed route log total count number) where
   pub found-none : total ≡ noneWord → totalOf (goIn roads order live s z) ≡ none
   found-none q = word-none total (totalOf (goIn roads order live s z)) (f .total-is) (f .fits) q
 

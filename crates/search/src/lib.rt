@@ -1,45 +1,62 @@
-// The search of a go (document 01: the search log): functions on slices. Its log is the theory's, one turn of the loop for one step of the definition.
-ghost use mathlib.Core.Path.{_≡_};
-ghost use Prim.Native.Nat.{ℕ, _*_, _+_, _<_, _≤_};
-ghost use lib.ListN.{getD, length};
-ghost use Rattle.keys.specs.Keys.{noKey};
-ghost use Rattle.relaxing.specs.State.{Begun, Sized};
-ghost use Rattle.search.specs.Logs.{Logs};
-ghost use Rattle.search.specs.Searches.{Searches};
+// The search of a go (document 01: the search log): functions on slices.
+// Its log is the theory's, one turn of the loop for one step of the definition.
+ghost use Prim.Native.Nat.{_<_};
+ghost use Rattle.search_relaxing.specs.State.{Begun, Blank, given};
+ghost use Rattle.search.specs.Logs.{Lends, Logs, written};
+ghost use Rattle.search.specs.Searches.{SearchesIn};
 use areas::fill;
-use choosing::enter;
-use choosing::finish;
-use choosing::reset;
-use exploring::explore;
-use hierarchy::estimate;
-use keys::BLOCKS;
-use keys::NO_KEY;
-use keys::key_of;
 use network::Junction;
+use network::MOST_JUNCTIONS;
+use network::MOST_ROADS;
+use network::Sizes;
 use network::Time;
-use ways::group;
-use ways::way_back;
+use network::TimeWord;
+use pairs_hierarchy::estimate;
+use search_choosing::enter;
+use search_choosing::finish;
+use search_choosing::reset;
+use search_exploring::explore;
+use search_keys::BLOCKS;
+use search_keys::NO_KEY;
+use search_keys::key_of;
+use search_ways::group;
+use search_ways::way_back;
+
+// Room for as many junctions, and for as many roads, as a unit takes.
+const JUNCTIONS: usize = MOST_JUNCTIONS as usize;
+
+const ROADS: usize = MOST_ROADS as usize;
 
 // Clears the times, and makes the start the first candidate, with time 0, if it has an estimate.
 fn begin(
-    n: u32,
-    count: u32,
+    sizes: Sizes,
     order: &[u8],
     ranks: &[u32],
     pairs: &[u32],
-    down: &[u32],
-    estimates: &mut [u32],
-    elapsed: &mut [u32],
+    down: &[TimeWord],
+    estimates: &mut [TimeWord],
+    elapsed: &mut [TimeWord],
     keys: &mut [u64],
     wins: &mut [u32],
     start: Junction,
 )
-    requires { ⌜ (start .0 < n) × (n ≤ 4096) × (length (now order) ≡ 4 * n) × (length (now ranks) ≡ n) × (length (now down) ≡ n) × (length (now estimates) ≡ n) × (length (now elapsed) ≡ n) × (n ≤ length (now keys)) × (n ≤ 64 * length (now wins)) × (length (now wins) ≤ 64) × (4 * count ≤ length (now pairs)) × (count ≤ 65536) × ((v : ℕ) → v < n → getD (now keys) v 0 ≡ noKey) ⌝ }
-    ensures { λ _. ⌜ Begun n count (now (order .entry)) (now (ranks .entry)) (now (pairs .entry)) (now (down .entry)) (start .0) (now (estimates .entry)) (now (estimates .exit)) (now (elapsed .exit)) (now (keys .exit)) (now (wins .exit)) ⌝ }
+    requires { ⌜ (start .0 < sizes .n)
+        × Blank sizes (now order) (now ranks) (now pairs) (now down) (now estimates) (now elapsed) (now keys) (now wins) ⌝ }
+    ensures { λ _. ⌜ Begun sizes (now (order .entry)) (now (ranks .entry)) (now (pairs .entry)) (now (down .entry)) (start .0)
+        (now (estimates .entry)) (now (estimates .exit)) (now (elapsed .exit)) (now (keys .exit)) (now (wins .exit)) ⌝ }
 {
     fill(elapsed, Time::NONE.0);
     reset(wins);
-    let to_go = estimate(n, count, order, ranks, pairs, down, estimates, start);
+    let to_go = estimate(
+        sizes.n,
+        sizes.pairs,
+        order,
+        ranks,
+        pairs,
+        down,
+        estimates,
+        start,
+    );
     if to_go.is_none() {
         return;
     }
@@ -50,35 +67,36 @@ fn begin(
     enter(keys, wins, start);
 }
 
-// Logs from the start on, until the target is logged or no candidate is left; answered with the number of logged junctions. Elapsed holds their times, `vias` the roads that gave them.
+// Logs from the start on, until the target is logged or no candidate is left; answered with the number of logged junctions.
+// Elapsed holds their times, `vias` the roads that gave them.
 fn log_all(
-    n: u32,
-    m: u32,
-    count: u32,
+    sizes: Sizes,
     roads: &[u8],
     order: &[u8],
     ranks: &[u32],
     pairs: &[u32],
-    live: &[u32],
-    down: &[u32],
-    estimates: &mut [u32],
-    elapsed: &mut [u32],
+    live: &[TimeWord],
+    down: &[TimeWord],
+    estimates: &mut [TimeWord],
+    elapsed: &mut [TimeWord],
     vias: &mut [u32],
     log: &mut [u32],
     start: Junction,
     target: Junction,
 ) -> u32
-    requires { ⌜ (start .0 < n) × (target .0 < n) × (n ≤ length (now vias)) × (n ≤ length (now log)) × Sized n m count (length (now roads)) (length (now order)) (length (now ranks)) (length (now pairs)) (length (now live)) (length (now down)) (length (now estimates)) (length (now elapsed)) ⌝ }
-    ensures { λ c. ⌜ Logs (now (roads .entry)) (now (order .entry)) (now (ranks .entry)) (now (pairs .entry)) (now (live .entry)) (now (down .entry)) n m count (start .0) (target .0) (now (estimates .entry)) (now (log .entry)) (now (estimates .exit)) (now (elapsed .exit)) (now (vias .exit)) (now (log .exit)) c ⌝ }
+    requires { ⌜ Lends (given sizes roads order ranks pairs live down) (start .0) (target .0) (written estimates elapsed vias log) ⌝ }
+    ensures { λ c. ⌜ Logs (given sizes (roads .entry) (order .entry) (ranks .entry) (pairs .entry) (live .entry) (down .entry))
+        (start .0) (target .0) (written (estimates .entry) (elapsed .entry) (vias .entry) (log .entry))
+        (written (estimates .exit) (elapsed .exit) (vias .exit) (log .exit)) c ⌝ }
 {
-    let mut keys = [NO_KEY; 4096];
+    let m = sizes.m;
+    let mut keys = [NO_KEY; JUNCTIONS];
     let mut wins = [0u32; BLOCKS];
-    let mut firsts = [m; 4096];
-    let mut nexts = [0u32; 16384];
-    group(roads, n, m, &mut firsts, &mut nexts);
+    let mut firsts = [m; JUNCTIONS];
+    let mut nexts = [0u32; ROADS];
+    group(roads, sizes.n, m, &mut firsts, &mut nexts);
     begin(
-        n,
-        count,
+        sizes,
         order,
         ranks,
         pairs,
@@ -90,9 +108,7 @@ fn log_all(
         start,
     );
     let logged = explore(
-        n,
-        m,
-        count,
+        sizes,
         roads,
         order,
         ranks,
@@ -122,30 +138,28 @@ pub struct Searched {
 
 // The search of a go from the start to the target that was aimed at last.
 pub fn search(
-    n: u32,
-    m: u32,
-    count: u32,
+    sizes: Sizes,
     roads: &[u8],
     order: &[u8],
     ranks: &[u32],
     pairs: &[u32],
-    live: &[u32],
-    down: &[u32],
-    estimates: &mut [u32],
-    elapsed: &mut [u32],
+    live: &[TimeWord],
+    down: &[TimeWord],
+    estimates: &mut [TimeWord],
+    elapsed: &mut [TimeWord],
     route: &mut [u32],
     log: &mut [u32],
     start: Junction,
     target: Junction,
 ) -> Searched
-    requires { ⌜ (start .0 < n) × (target .0 < n) × (n ≤ length (now route)) × (n ≤ length (now log)) × Sized n m count (length (now roads)) (length (now order)) (length (now ranks)) (length (now pairs)) (length (now live)) (length (now down)) (length (now estimates)) (length (now elapsed)) ⌝ }
-    ensures { λ r. ⌜ Searches (now (roads .entry)) (now (order .entry)) (now (ranks .entry)) (now (pairs .entry)) (now (live .entry)) (now (down .entry)) count (start .0) (target .0) (now (estimates .entry)) (now (route .entry)) (now (log .entry)) (now (estimates .exit)) (now (elapsed .exit)) (now (route .exit)) (now (log .exit)) (r .total .0) (r .count) (r .roads) ⌝ }
+    requires { ⌜ Lends (given sizes roads order ranks pairs live down) (start .0) (target .0) (written estimates elapsed route log) ⌝ }
+    ensures { λ r. ⌜ SearchesIn (given sizes (roads .entry) (order .entry) (ranks .entry) (pairs .entry) (live .entry) (down .entry))
+        (start .0) (target .0) (written (estimates .entry) (elapsed .entry) (route .entry) (log .entry))
+        (written (estimates .exit) (elapsed .exit) (route .exit) (log .exit)) (r .total .0) (r .count) (r .roads) ⌝ }
 {
-    let mut vias = [0u32; 4096];
+    let mut vias = [0u32; JUNCTIONS];
     let logged = log_all(
-        n,
-        m,
-        count,
+        sizes,
         roads,
         order,
         ranks,
@@ -168,7 +182,7 @@ pub fn search(
             roads: 0,
         };
     }
-    let number = way_back(roads, &vias, n, m, start, target, route);
+    let number = way_back(roads, &vias, sizes.n, sizes.m, start, target, route);
     Searched {
         total: total,
         count: logged,

@@ -1,3 +1,6 @@
 pub mod Bodies
-pub mod Lengths
-pub mod Ways
+pub mod Fitting
+pub mod Refused
+pub mod Questions
+pub mod Made
+pub mod Going

@@ -1,17 +1,28 @@
-// The header, and the four calls as its methods.
+// The header, the four calls as its methods, and any of them by its case.
 ghost use mathlib.Core.Path.{_≡_};
-ghost use mathlib.Core.Bool.{_&&_};
-ghost use lib.Dec.{leb};
+ghost use Prim.Native.Nat.{ℕ};
+ghost use lib.ListN.{length};
+ghost use Rattle.graph.specs.Total.{Total};
 ghost use Rattle.model.specs.Word.{ofWord};
-ghost use Rattle.model.specs.State.{fitting};
-ghost use Rattle.model.specs.Calls.{goAnswer};
-ghost use Rattle.model.specs.Contracts.{AimContract, EstimateContract, GoContract, SetContract, areasOf, before};
-ghost use Rattle.answers.specs.Shape.{answerIn};
-ghost use Rattle.unit.specs.Shape.{answeredIn, headerIn, lentOf};
-use answers::Answer;
+ghost use Rattle.model.specs.Machine.{isAt, targetOf};
+ghost use Rattle.model.specs.Go.{goAnswer};
+ghost use Rattle.model.specs.Calls.{Aim, Estimate, Go, Set};
+ghost use Rattle.model.specs.Contracts.{baseOn};
+ghost use Rattle.network.specs.Refusals.{verdictIn};
+ghost use Rattle.unit_answers.specs.Shape.{answerIn, callIn};
+ghost use Rattle.network.specs.Lending.{areas};
+ghost use Rattle.unit_questions.specs.Lending.{fitsBy, lengthsIn, lent};
+ghost use Rattle.unit.specs.Shape.{headerIn, targetIn};
+ghost use Rattle.unit.specs.Meets.{AimPart, EstimatePart, Meets, MeetsAlone, SetPart, asks, asksGo};
 use network::Junction;
 use network::Refusal;
+use network::Sizes;
 use network::Time;
+use network::TimeWord;
+use network::Verdict;
+use unit_answers::Answer;
+use unit_answers::Call;
+use unit_questions::Lengths;
 
 // The junction that was aimed at last.
 pub enum Target {
@@ -21,9 +32,7 @@ pub enum Target {
 
 // Numbers of junctions, roads and pairs, and the target.
 pub struct Header {
-    pub n: u32,
-    pub m: u32,
-    pub pairs: u32,
+    pub sizes: Sizes,
     pub target: Target,
 }
 
@@ -34,51 +43,213 @@ pub struct Answered {
 }
 
 // A go's answer: 15 with the count where there is no total; else total, count and number of roads.
-fn gone(h: Header, total: Time, count: u32, roads: u32) -> Answered
-    ensures { λ r. ⌜ (r .header ≡ h) × (answerIn (r .answer) ≡ goAnswer (ofWord (total .0)) count roads) ⌝ }
+fn gone(total: Time, count: u32, roads: u32) -> Answer
+    ensures { λ r. ⌜ answerIn r ≡ goAnswer (ofWord (total .0)) count roads ⌝ }
 {
     if total.is_none() {
-        return Answered {
-            header: h,
-            answer: Answer::Refused(Refusal::no_path(count)),
-        };
+        return Answer::Refused(Refusal::no_path(count));
     }
-    Answered {
-        header: h,
-        answer: Answer::Gone(total.0 as u64, count, roads),
-    }
+    Answer::Gone(total.0 as u64, count, roads)
 }
 
-// ---- the four calls
+// ---- the questions, on numbers
 
 impl Header {
-    // Question 9, and that the header is in range: no list of calls leaves one that is not.
-    fn fits(
-        self,
-        card: &[u8],
-        ranks: &[u32],
-        pairs: &[u32],
-        live: &[u32],
-        down: &[u32],
-        estimates: &[u32],
-        elapsed: &[u32],
-    ) -> bool
-        ensures { λ r. ⌜ r ≡ (leb (self .n) 4096 && leb (self .m) 16384 && fitting (now (card .entry))
-            (before (headerIn self) (areasOf (now (ranks .entry)) (now (pairs .entry)) (now (live .entry)) (now (down .entry)) (now (estimates .entry)) (now (elapsed .entry))))) ⌝ }
+    // Question 9; a header out of range is refused too: no list of calls leaves one.
+    fn fits(self, card: usize, l: Lengths) -> bool
+        ensures { λ r. ⌜ r ≡ fitsBy (headerIn self) card (lengthsIn l) ⌝ }
     {
-        questions::fits(
-            self.n,
-            self.m,
-            self.pairs,
-            card.len(),
-            ranks.len(),
-            pairs.len(),
-            live.len(),
-            down.len(),
-            estimates.len(),
-            elapsed.len(),
+        let sizes = self.sizes;
+        unit_questions::fits(sizes, card, l)
+    }
+
+    // Question 13.
+    fn is_aimed(self) -> bool
+        ensures { λ r. ⌜ r ≡ isAt (targetIn (self .target)) ⌝ }
+    {
+        let target = self.target;
+        match target {
+            Target::At(_) => true,
+            Target::Absent => false,
+        }
+    }
+
+    // The target; junction 0 where there is none.
+    fn aimed_at(self) -> Junction
+        ensures { λ r. ⌜ r .0 ≡ targetOf (targetIn (self .target)) ⌝ }
+    {
+        let target = self.target;
+        match target {
+            Target::At(z) => z,
+            Target::Absent => Junction(0),
+        }
+    }
+
+    // Questions 9 to 11 of a set.
+    fn set_asked(self, card: &[u8], l: Lengths, road: u32, time: Time) -> Verdict
+        ensures { λ r. ⌜ verdictIn r ≡ asks (baseOn (now (card .entry))) (headerIn self) (length (now (card .entry))) (lengthsIn l)
+            (Set road (time .0)) 0 0 ⌝ }
+    {
+        let m = self.sizes.m;
+        if !self.fits(card.len(), l) {
+            return Verdict::Failed(Refusal::LENGTHS);
+        }
+        if m <= road {
+            return Verdict::Failed(Refusal::NO_ROAD);
+        }
+        let base = network::base_of(card_layout::roads_of(card, m), road as usize);
+        network::ask(
+            unit_questions::allowed(base, time),
+            Refusal::NOT_ALLOWED,
+            Verdict::Passed,
         )
     }
+
+    // Questions 9 and 12 of an aim.
+    fn aim_asked(self, card: usize, l: Lengths, j: Junction) -> Verdict
+        ensures { λ r. ⌜ ((base : ℕ → Total) → verdictIn r ≡ asks base (headerIn self) card (lengthsIn l) (Aim (j .0)) 0 0) ⌝ }
+    {
+        let fits = self.fits(card, l);
+        let below = j.0 < self.sizes.n;
+        let inside = network::ask(below, Refusal::NO_JUNCTION, Verdict::Passed);
+        network::ask(fits, Refusal::LENGTHS, inside)
+    }
+
+    // Questions 9, 12 and 13 of an estimate.
+    fn estimate_asked(self, card: usize, l: Lengths, j: Junction) -> Verdict
+        ensures { λ r. ⌜ ((base : ℕ → Total) → verdictIn r ≡ asks base (headerIn self) card (lengthsIn l) (Estimate (j .0)) 0 0) ⌝ }
+    {
+        let fits = self.fits(card, l);
+        let below = j.0 < self.sizes.n;
+        let aimed = self.is_aimed();
+        let known = network::ask(aimed, Refusal::NO_TARGET, Verdict::Passed);
+        let there = network::ask(below, Refusal::NO_JUNCTION, known);
+        network::ask(fits, Refusal::LENGTHS, there)
+    }
+
+    // Questions 9 and 12 to 14 of a go; then 9 for a target out of range, which no list of calls leaves.
+    fn go_asked(self, card: usize, l: Lengths, route: usize, log: usize, start: Junction) -> Verdict
+        ensures { λ r. ⌜ ((base : ℕ → Total) → verdictIn r ≡ asksGo base (headerIn self) card (lengthsIn l) (start .0) route log) ⌝ }
+    {
+        let n = self.sizes.n;
+        let fits = self.fits(card, l);
+        let below = start.0 < n;
+        let aimed = self.is_aimed();
+        let roomy = unit_questions::lent_fit(n, route, log);
+        let inside = self.aimed_at().0 < n;
+        let led = network::ask(inside, Refusal::LENGTHS, Verdict::Passed);
+        let lent = network::ask(roomy, Refusal::LENT_LENGTHS, led);
+        let known = network::ask(aimed, Refusal::NO_TARGET, lent);
+        let starts = network::ask(below, Refusal::NO_JUNCTION, known);
+        network::ask(fits, Refusal::LENGTHS, starts)
+    }
+
+    // ---- what is handed back
+
+    // Another target, and an answer.
+    fn answering(self, target: Target, answer: Answer) -> Answered
+        ensures { λ r. ⌜ r ≡ record { header = record { sizes = self .sizes; target = target }; answer = answer } ⌝ }
+    {
+        let sizes = self.sizes;
+        Answered {
+            header: Header {
+                sizes: sizes,
+                target: target,
+            },
+            answer: answer,
+        }
+    }
+
+    // The header as it was, and an answer.
+    fn answered(self, answer: Answer) -> Answered
+        ensures { λ r. ⌜ r ≡ record { header = self; answer = answer } ⌝ }
+    {
+        Answered {
+            header: self,
+            answer: answer,
+        }
+    }
+
+    // ---- the calls on lengths and on the areas that they read or write
+
+    fn set_part(
+        self,
+        card: &[u8],
+        l: Lengths,
+        live: &mut [TimeWord],
+        road: u32,
+        time: Time,
+    ) -> Answered
+        requires { ⌜ l .live ≡ length (now live) ⌝ }
+        ensures { λ r. ⌜ SetPart (now (card .entry)) self (lengthsIn l) live road (time .0) r ⌝ }
+    {
+        match self.set_asked(card, l, road, time) {
+            Verdict::Failed(q) => self.answered(Answer::Refused(q)),
+            Verdict::Passed => {
+                let i = road as usize;
+                live[i] = time.word();
+                self.answered(Answer::Accepted)
+            }
+        }
+    }
+
+    fn aim_part(
+        self,
+        card: &[u8],
+        l: Lengths,
+        pairs: &[u32],
+        down: &mut [TimeWord],
+        estimates: &mut [TimeWord],
+        j: Junction,
+    ) -> Answered
+        requires { ⌜ (l .pairs ≡ length (now pairs)) × (l .down ≡ length (now down)) ⌝ }
+        ensures { λ r. ⌜ AimPart (now (card .entry)) self (lengthsIn l) pairs down estimates (j .0) r ⌝ }
+    {
+        match self.aim_asked(card.len(), l, j) {
+            Verdict::Failed(q) => self.answered(Answer::Refused(q)),
+            Verdict::Passed => {
+                let order = card_layout::order_of(card, self.sizes.n, self.sizes.m);
+                pairs_descents::down_totals(self.sizes.n, self.sizes.pairs, order, pairs, down, j);
+                areas::fill(estimates, Time::UNASKED.0);
+                self.answering(Target::At(j), Answer::Accepted)
+            }
+        }
+    }
+
+    fn estimate_part(
+        self,
+        card: &[u8],
+        l: Lengths,
+        ranks: &[u32],
+        pairs: &[u32],
+        down: &[TimeWord],
+        estimates: &mut [TimeWord],
+        j: Junction,
+    ) -> Answered
+        requires { ⌜ (l .ranks ≡ length (now ranks)) × (l .pairs ≡ length (now pairs)) × (l .down ≡ length (now down))
+            × (l .estimates ≡ length (now estimates)) ⌝ }
+        ensures { λ r. ⌜ EstimatePart (now (card .entry)) self (lengthsIn l) ranks pairs down estimates (j .0) r ⌝ }
+    {
+        match self.estimate_asked(card.len(), l, j) {
+            Verdict::Failed(q) => self.answered(Answer::Refused(q)),
+            Verdict::Passed => {
+                let order = card_layout::order_of(card, self.sizes.n, self.sizes.m);
+                let t = pairs_hierarchy::estimate(
+                    self.sizes.n,
+                    self.sizes.pairs,
+                    order,
+                    ranks,
+                    pairs,
+                    down,
+                    estimates,
+                    j,
+                );
+                self.answered(Answer::Estimated(t))
+            }
+        }
+    }
+
+    // ---- the four calls
 
     // Sets a road's live time, from its base time to 1,000,000, or closed.
     pub fn set(
@@ -86,43 +257,17 @@ impl Header {
         card: &[u8],
         ranks: &[u32],
         pairs: &[u32],
-        live: &mut [u32],
-        down: &[u32],
-        estimates: &[u32],
-        elapsed: &[u32],
+        live: &mut [TimeWord],
+        down: &[TimeWord],
+        estimates: &[TimeWord],
+        elapsed: &[TimeWord],
         road: u32,
         time: Time,
     ) -> Answered
-        ensures { λ r. ⌜ SetContract (now (card .entry)) (headerIn self)
-            (areasOf (now (ranks .entry)) (now (pairs .entry)) (now (live .entry)) (now (down .entry)) (now (estimates .entry)) (now (elapsed .entry)))
-            (now (live .exit)) road (time .0) (answeredIn r) ⌝ }
+        ensures { λ r. ⌜ MeetsAlone (now (card .entry)) self (areas ranks pairs live down estimates elapsed) (Set road (time .0)) r ⌝ }
     {
-        let m = self.m;
-        if !self.fits(card, ranks, pairs, live, down, estimates, elapsed) {
-            return Answered {
-                header: self,
-                answer: Answer::Refused(Refusal::LENGTHS),
-            };
-        }
-        if m <= road {
-            return Answered {
-                header: self,
-                answer: Answer::Refused(Refusal::NO_ROAD),
-            };
-        }
-        let i = road as usize;
-        let base = network::base_of(questions::roads_of(card, m), i);
-        if !questions::allowed(base, time) {
-            return Answered {
-                header: self,
-                answer: Answer::Refused(Refusal::NOT_ALLOWED),
-            };
-        }
-        live[i] = time.word();
-        Answered {
-            header: self,
-            answer: Answer::Accepted,
-        }
+        let l = unit_questions::lengths_of(ranks, pairs, live, down, estimates, elapsed);
+        self.set_part(card, l, live, road, time)
     }
 
     // Aims at a junction: it becomes the target, with its down totals; each estimate becomes unasked.
@@ -131,42 +276,16 @@ impl Header {
         card: &[u8],
         ranks: &[u32],
         pairs: &[u32],
-        live: &[u32],
-        down: &mut [u32],
-        estimates: &mut [u32],
-        elapsed: &[u32],
+        live: &[TimeWord],
+        down: &mut [TimeWord],
+        estimates: &mut [TimeWord],
+        elapsed: &[TimeWord],
         j: Junction,
     ) -> Answered
-        ensures { λ r. ⌜ AimContract (now (card .entry)) (headerIn self)
-            (areasOf (now (ranks .entry)) (now (pairs .entry)) (now (live .entry)) (now (down .entry)) (now (estimates .entry)) (now (elapsed .entry)))
-            (now (down .exit)) (now (estimates .exit)) (j .0) (answeredIn r) ⌝ }
+        ensures { λ r. ⌜ MeetsAlone (now (card .entry)) self (areas ranks pairs live down estimates elapsed) (Aim (j .0)) r ⌝ }
     {
-        let n = self.n;
-        let m = self.m;
-        let p = self.pairs;
-        if !self.fits(card, ranks, pairs, live, down, estimates, elapsed) {
-            return Answered {
-                header: self,
-                answer: Answer::Refused(Refusal::LENGTHS),
-            };
-        }
-        if n <= j.0 {
-            return Answered {
-                header: self,
-                answer: Answer::Refused(Refusal::NO_JUNCTION),
-            };
-        }
-        descents::down_totals(n, p, questions::order_of(card, n, m), pairs, down, j);
-        areas::fill(estimates, Time::UNASKED.0);
-        Answered {
-            header: Header {
-                n: n,
-                m: m,
-                pairs: p,
-                target: Target::At(j),
-            },
-            answer: Answer::Accepted,
-        }
+        let l = unit_questions::lengths_of(ranks, pairs, live, down, estimates, elapsed);
+        self.aim_part(card, l, pairs, down, estimates, j)
     }
 
     // The estimate of a junction: the least base total to the target, or none.
@@ -175,55 +294,16 @@ impl Header {
         card: &[u8],
         ranks: &[u32],
         pairs: &[u32],
-        live: &[u32],
-        down: &[u32],
-        estimates: &mut [u32],
-        elapsed: &[u32],
+        live: &[TimeWord],
+        down: &[TimeWord],
+        estimates: &mut [TimeWord],
+        elapsed: &[TimeWord],
         j: Junction,
     ) -> Answered
-        ensures { λ r. ⌜ EstimateContract (now (card .entry)) (headerIn self)
-            (areasOf (now (ranks .entry)) (now (pairs .entry)) (now (live .entry)) (now (down .entry)) (now (estimates .entry)) (now (elapsed .entry)))
-            (now (estimates .exit)) (j .0) (answeredIn r) ⌝ }
+        ensures { λ r. ⌜ MeetsAlone (now (card .entry)) self (areas ranks pairs live down estimates elapsed) (Estimate (j .0)) r ⌝ }
     {
-        let n = self.n;
-        let m = self.m;
-        let p = self.pairs;
-        let v = j.0;
-        if !self.fits(card, ranks, pairs, live, down, estimates, elapsed) {
-            return Answered {
-                header: self,
-                answer: Answer::Refused(Refusal::LENGTHS),
-            };
-        }
-        if n <= v {
-            return Answered {
-                header: self,
-                answer: Answer::Refused(Refusal::NO_JUNCTION),
-            };
-        }
-        let target = self.target;
-        match target {
-            Target::Absent => Answered {
-                header: self,
-                answer: Answer::Refused(Refusal::NO_TARGET),
-            },
-            Target::At(_) => {
-                let t = hierarchy::estimate(
-                    n,
-                    p,
-                    questions::order_of(card, n, m),
-                    ranks,
-                    pairs,
-                    down,
-                    estimates,
-                    j,
-                );
-                Answered {
-                    header: self,
-                    answer: Answer::Estimated(t),
-                }
-            }
-        }
+        let l = unit_questions::lengths_of(ranks, pairs, live, down, estimates, elapsed);
+        self.estimate_part(card, l, ranks, pairs, down, estimates, j)
     }
 
     // The way from a start to the target at the live times: total, count and roads, or 15 with the count.
@@ -232,61 +312,25 @@ impl Header {
         card: &[u8],
         ranks: &[u32],
         pairs: &[u32],
-        live: &[u32],
-        down: &[u32],
-        estimates: &mut [u32],
-        elapsed: &mut [u32],
+        live: &[TimeWord],
+        down: &[TimeWord],
+        estimates: &mut [TimeWord],
+        elapsed: &mut [TimeWord],
         route: &mut [u32],
         log: &mut [u32],
         start: Junction,
     ) -> Answered
-        ensures { λ r. ⌜ GoContract (now (card .entry)) (headerIn self)
-            (areasOf (now (ranks .entry)) (now (pairs .entry)) (now (live .entry)) (now (down .entry)) (now (estimates .entry)) (now (elapsed .entry)))
-            (lentOf (now (route .entry)) (now (log .entry))) (now (estimates .exit)) (now (elapsed .exit)) (lentOf (now (route .exit)) (now (log .exit))) (start .0) (answeredIn r) ⌝ }
+        ensures { λ r. ⌜ Meets (now (card .entry)) self (areas ranks pairs live down estimates elapsed) (lent route log)
+            (Go (start .0)) r ⌝ }
     {
-        let n = self.n;
-        let m = self.m;
-        let p = self.pairs;
-        if !self.fits(card, ranks, pairs, live, down, estimates, elapsed) {
-            return Answered {
-                header: self,
-                answer: Answer::Refused(Refusal::LENGTHS),
-            };
-        }
-        if n <= start.0 {
-            return Answered {
-                header: self,
-                answer: Answer::Refused(Refusal::NO_JUNCTION),
-            };
-        }
-        let target = self.target;
-        match target {
-            Target::Absent => Answered {
-                header: self,
-                answer: Answer::Refused(Refusal::NO_TARGET),
-            },
-            Target::At(z) => {
-                if !questions::lent_fit(n, route.len(), log.len()) {
-                    return Answered {
-                        header: self,
-                        answer: Answer::Refused(Refusal::LENT_LENGTHS),
-                    };
-                }
-                // no list of calls leaves such a target
-                if n <= z.0 {
-                    return Answered {
-                        header: self,
-                        answer: Answer::Refused(Refusal::LENGTHS),
-                    };
-                }
-                let roads = questions::roads_of(card, m);
-                let order = questions::order_of(card, n, m);
+        let l = unit_questions::lengths_of(ranks, pairs, live, down, estimates, elapsed);
+        match self.go_asked(card.len(), l, route.len(), log.len(), start) {
+            Verdict::Failed(q) => self.answered(Answer::Refused(q)),
+            Verdict::Passed => {
                 let found = search::search(
-                    n,
-                    m,
-                    p,
-                    roads,
-                    order,
+                    self.sizes,
+                    card_layout::roads_of(card, self.sizes.m),
+                    card_layout::order_of(card, self.sizes.n, self.sizes.m),
                     ranks,
                     pairs,
                     live,
@@ -296,10 +340,55 @@ impl Header {
                     route,
                     log,
                     start,
-                    z,
+                    self.aimed_at(),
                 );
-                gone(self, found.total, found.count, found.roads)
+                self.answered(gone(found.total, found.count, found.roads))
             }
         }
+    }
+}
+
+// Any of the calls. Route and log are go's; the others leave them as they are.
+pub fn call(
+    header: Header,
+    card: &[u8],
+    ranks: &[u32],
+    pairs: &[u32],
+    live: &mut [TimeWord],
+    down: &mut [TimeWord],
+    estimates: &mut [TimeWord],
+    elapsed: &mut [TimeWord],
+    route: &mut [u32],
+    log: &mut [u32],
+    call: Call,
+) -> Answered
+    ensures { λ r. ⌜ Meets (now (card .entry)) header (areas ranks pairs live down estimates elapsed) (lent route log) (callIn call) r ⌝ }
+{
+    match call {
+        Call::Set(road, time) => header.set(
+            card,
+            ranks,
+            pairs,
+            live,
+            down,
+            estimates,
+            elapsed,
+            road,
+            time,
+        ),
+        Call::Aim(j) => header.aim(card, ranks, pairs, live, down, estimates, elapsed, j),
+        Call::Estimate(j) => header.estimate(card, ranks, pairs, live, down, estimates, elapsed, j),
+        Call::Go(start) => header.go(
+            card,
+            ranks,
+            pairs,
+            live,
+            down,
+            estimates,
+            elapsed,
+            route,
+            log,
+            start,
+        ),
     }
 }

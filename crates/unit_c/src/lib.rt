@@ -2,20 +2,138 @@
 ghost use mathlib.Core.Path.{_≡_};
 ghost use mathlib.Core.List.{[], _∷_};
 ghost use Rattle.model.specs.Card.{readCard};
+ghost use Rattle.model.specs.Calls.{Aim, Estimate, Go, Set};
 ghost use Rattle.card.specs.Answers.{rowsOf};
-ghost use Rattle.model.specs.Types as model;
-ghost use Rattle.model.specs.Contracts.{AimContract, EstimateContract, GoContract, PrepareContract, SetContract, areasOf};
-ghost use Rattle.unit.specs.Lending.{areas, lent};
-ghost use Rattle.script.specs.Script.{ReplayContract};
-ghost use Rattle.unit.specs.Shape.{lentOf};
+ghost use Rattle.network.specs.Lending.{areas};
+ghost use Rattle.unit_questions.specs.Lending.{lent};
+ghost use Rattle.unit_preparing.specs.Preparing.{Prepares};
+ghost use Rattle.unit.specs.Shape.{answeredIn};
+ghost use Rattle.unit.specs.Meets.{Meets, MeetsAlone};
+ghost use Rattle.unit_script.specs.Script.{ReplayContract};
+ghost use Rattle.unit_c.specs.Answers.{Tells, acceptedWords, answerWords, headerOf, headerWords, targetOf};
 ghost use Rattle.unit_c.specs.Words.{Wrote, readingNumber, readingWords};
-ghost use Rattle.types_c.specs.Answers.{answerWords, headerOf};
 use card::Reading;
 use card::Writing;
 use network::Junction;
+use network::Sizes;
 use network::Time;
-use types_c::UnitAnswer;
-use types_c::UnitHeader;
+use network::TimeWord;
+use unit::Answered;
+use unit::Header;
+use unit::Target;
+use unit_answers::Answer;
+
+// ---- headers and answers as C holds them
+
+// A header as C holds it: `aimed` is 0 where there is no target, and `target` is 0 then.
+#[repr(C)]
+pub struct UnitHeader {
+    pub n: u32,
+    pub m: u32,
+    pub pairs: u32,
+    pub aimed: u32,
+    pub target: u32,
+}
+
+// What preparing and the calls hand back. `question` is 0, or the number of the refusal; `place` goes with 5 and 6; `total` is that of a
+// go, or the word of an estimate; `count` is that of a go, also after 15; `roads` is the number of roads of a go. What does not apply is 0.
+#[repr(C)]
+pub struct UnitAnswer {
+    pub header: UnitHeader,
+    pub question: u32,
+    pub place: u32,
+    pub total: u64,
+    pub count: u32,
+    pub roads: u32,
+}
+
+// There is a target where `aimed` is not 0.
+fn target_of(aimed: u32, target: u32) -> Target
+    ensures { λ r. ⌜ r ≡ targetOf aimed target ⌝ }
+{
+    if aimed == 0 {
+        Target::Absent
+    } else {
+        Target::At(Junction(target))
+    }
+}
+
+// The header that C's words stand for.
+fn header_of(h: UnitHeader) -> Header
+    ensures { λ r. ⌜ r ≡ headerOf h ⌝ }
+{
+    let target = target_of(h.aimed, h.target);
+    Header {
+        sizes: Sizes {
+            n: h.n,
+            m: h.m,
+            pairs: h.pairs,
+        },
+        target: target,
+    }
+}
+
+// The words of a header.
+fn words_of(h: Header) -> UnitHeader
+    ensures { λ r. ⌜ r ≡ headerWords h ⌝ }
+{
+    let s = h.sizes;
+    let target = h.target;
+    match target {
+        Target::Absent => UnitHeader {
+            n: s.n,
+            m: s.m,
+            pairs: s.pairs,
+            aimed: 0,
+            target: 0,
+        },
+        Target::At(z) => UnitHeader {
+            n: s.n,
+            m: s.m,
+            pairs: s.pairs,
+            aimed: 1,
+            target: z.0,
+        },
+    }
+}
+
+// The words of an acceptance.
+fn accepted(header: UnitHeader, total: u64, count: u32, roads: u32) -> UnitAnswer
+    ensures { λ x. ⌜ x ≡ acceptedWords header total count roads ⌝ }
+{
+    UnitAnswer {
+        header: header,
+        question: 0,
+        place: 0,
+        total: total,
+        count: count,
+        roads: roads,
+    }
+}
+
+// The words of what is handed back.
+fn answer_of(r: Answered) -> UnitAnswer
+    ensures { λ x. ⌜ x ≡ answerWords r ⌝ }
+{
+    let h = r.header;
+    let header = words_of(h);
+    let answer = r.answer;
+    match answer {
+        Answer::Refused(q) => UnitAnswer {
+            header: header,
+            question: q.question,
+            place: q.place,
+            total: 0,
+            count: q.count,
+            roads: 0,
+        },
+        Answer::Accepted => accepted(header, 0, 0, 0),
+        Answer::Estimated(t) => accepted(header, t.0 as u64, 0, 0),
+        Answer::Gone(t, c, k) => accepted(header, t, c, k),
+    }
+}
+
+// ---- the card
 
 // Reads a card. `first` and `second` get n and m, or the place that questions 5 and 6 name and 0.
 #[no_mangle]
@@ -55,20 +173,22 @@ pub extern "C" fn card_write(roads: &[u32], order: &[u32], area: &mut [u8], plac
     }
 }
 
+// ---- preparing and the four calls
+
 // Prepares a card on the six areas.
 #[no_mangle]
 pub extern "C" fn unit_prepare(
     card: &[u8],
     ranks: &mut [u32],
     pairs: &mut [u32],
-    live: &mut [u32],
-    down: &mut [u32],
-    estimates: &mut [u32],
-    elapsed: &mut [u32],
+    live: &mut [TimeWord],
+    down: &mut [TimeWord],
+    estimates: &mut [TimeWord],
+    elapsed: &mut [TimeWord],
 ) -> UnitAnswer
-    ensures { λ r. ⌜ ((x : model.Answered) × (r ≡ answerWords x) × PrepareContract (now (card .entry)) (areasOf (now (ranks .entry)) (now (pairs .entry)) (now (live .entry)) (now (down .entry)) (now (estimates .entry)) (now (elapsed .entry))) (areasOf (now (ranks .exit)) (now (pairs .exit)) (now (live .exit)) (now (down .exit)) (now (estimates .exit)) (now (elapsed .exit))) x) ⌝ }
+    ensures { λ r. ⌜ Tells (λ x. Prepares (now (card .entry)) (areas ranks pairs live down estimates elapsed) (answeredIn x)) r ⌝ }
 {
-    types_c::answer_of(switch_on::prepare(card, ranks, pairs, live, down, estimates, elapsed))
+    answer_of(unit_switch_on::prepare(card, ranks, pairs, live, down, estimates, elapsed))
 }
 
 // Sets a road's live time.
@@ -78,17 +198,18 @@ pub extern "C" fn unit_set(
     card: &[u8],
     ranks: &[u32],
     pairs: &[u32],
-    live: &mut [u32],
-    down: &[u32],
-    estimates: &[u32],
-    elapsed: &[u32],
+    live: &mut [TimeWord],
+    down: &[TimeWord],
+    estimates: &[TimeWord],
+    elapsed: &[TimeWord],
     road: u32,
-    time: u32,
+    time: TimeWord,
 ) -> UnitAnswer
-    ensures { λ r. ⌜ ((x : model.Answered) × (r ≡ answerWords x) × SetContract (now (card .entry)) (headerOf header) (areasOf (now (ranks .entry)) (now (pairs .entry)) (now (live .entry)) (now (down .entry)) (now (estimates .entry)) (now (elapsed .entry))) (now (live .exit)) road time x) ⌝ }
+    ensures { λ r. ⌜ Tells (MeetsAlone (now (card .entry)) (headerOf header) (areas ranks pairs live down estimates elapsed)
+        (Set road time)) r ⌝ }
 {
-    let h = types_c::header_of(header);
-    types_c::answer_of(h.set(
+    let h = header_of(header);
+    answer_of(h.set(
         card,
         ranks,
         pairs,
@@ -97,7 +218,7 @@ pub extern "C" fn unit_set(
         estimates,
         elapsed,
         road,
-        Time::of_word(time),
+        Time(time),
     ))
 }
 
@@ -108,16 +229,17 @@ pub extern "C" fn unit_aim(
     card: &[u8],
     ranks: &[u32],
     pairs: &[u32],
-    live: &[u32],
-    down: &mut [u32],
-    estimates: &mut [u32],
-    elapsed: &[u32],
+    live: &[TimeWord],
+    down: &mut [TimeWord],
+    estimates: &mut [TimeWord],
+    elapsed: &[TimeWord],
     junction: u32,
 ) -> UnitAnswer
-    ensures { λ r. ⌜ ((x : model.Answered) × (r ≡ answerWords x) × AimContract (now (card .entry)) (headerOf header) (areasOf (now (ranks .entry)) (now (pairs .entry)) (now (live .entry)) (now (down .entry)) (now (estimates .entry)) (now (elapsed .entry))) (now (down .exit)) (now (estimates .exit)) junction x) ⌝ }
+    ensures { λ r. ⌜ Tells (MeetsAlone (now (card .entry)) (headerOf header) (areas ranks pairs live down estimates elapsed)
+        (Aim junction)) r ⌝ }
 {
-    let h = types_c::header_of(header);
-    types_c::answer_of(h.aim(
+    let h = header_of(header);
+    answer_of(h.aim(
         card,
         ranks,
         pairs,
@@ -136,16 +258,17 @@ pub extern "C" fn unit_estimate(
     card: &[u8],
     ranks: &[u32],
     pairs: &[u32],
-    live: &[u32],
-    down: &[u32],
-    estimates: &mut [u32],
-    elapsed: &[u32],
+    live: &[TimeWord],
+    down: &[TimeWord],
+    estimates: &mut [TimeWord],
+    elapsed: &[TimeWord],
     junction: u32,
 ) -> UnitAnswer
-    ensures { λ r. ⌜ ((x : model.Answered) × (r ≡ answerWords x) × EstimateContract (now (card .entry)) (headerOf header) (areasOf (now (ranks .entry)) (now (pairs .entry)) (now (live .entry)) (now (down .entry)) (now (estimates .entry)) (now (elapsed .entry))) (now (estimates .exit)) junction x) ⌝ }
+    ensures { λ r. ⌜ Tells (MeetsAlone (now (card .entry)) (headerOf header) (areas ranks pairs live down estimates elapsed)
+        (Estimate junction)) r ⌝ }
 {
-    let h = types_c::header_of(header);
-    types_c::answer_of(h.estimate(
+    let h = header_of(header);
+    answer_of(h.estimate(
         card,
         ranks,
         pairs,
@@ -164,18 +287,19 @@ pub extern "C" fn unit_go(
     card: &[u8],
     ranks: &[u32],
     pairs: &[u32],
-    live: &[u32],
-    down: &[u32],
-    estimates: &mut [u32],
-    elapsed: &mut [u32],
+    live: &[TimeWord],
+    down: &[TimeWord],
+    estimates: &mut [TimeWord],
+    elapsed: &mut [TimeWord],
     route: &mut [u32],
     log: &mut [u32],
     start: u32,
 ) -> UnitAnswer
-    ensures { λ r. ⌜ ((x : model.Answered) × (r ≡ answerWords x) × GoContract (now (card .entry)) (headerOf header) (areasOf (now (ranks .entry)) (now (pairs .entry)) (now (live .entry)) (now (down .entry)) (now (estimates .entry)) (now (elapsed .entry))) (lentOf (now (route .entry)) (now (log .entry))) (now (estimates .exit)) (now (elapsed .exit)) (lentOf (now (route .exit)) (now (log .exit))) start x) ⌝ }
+    ensures { λ r. ⌜ Tells (Meets (now (card .entry)) (headerOf header) (areas ranks pairs live down estimates elapsed) (lent route log)
+        (Go start)) r ⌝ }
 {
-    let h = types_c::header_of(header);
-    types_c::answer_of(h.go(
+    let h = header_of(header);
+    answer_of(h.go(
         card,
         ranks,
         pairs,
@@ -189,29 +313,31 @@ pub extern "C" fn unit_go(
     ))
 }
 
-// Prepares a card on the six areas and makes the calls of a script, four words each: 0 road time _, 1 junction _ _, 2 junction _ _,
-// any other start r l for set, aim, estimate, go, which is lent the first r entries of the route and l of the log, all if there are fewer.
-// `out` gets four words for each answer: the question that refuses, or 0; estimate or total; count; number of roads. As many calls are
-// made as the script spells and `out` has room for. What is handed back is preparing's answer with the last header.
+// ---- a script
+
+// Prepares a card on the six areas and makes the calls of a script: a kind, and as many words as that call has. 0 road time is a set,
+// 1 junction an aim, 2 junction an estimate, 3 start r l a go, which is lent the first r entries of the route and l of the log, all if
+// there are fewer. Any other kind ends the script, and so does a call that is cut short. `out` gets four words for each answer: the
+// question that refuses, or 0; estimate or total; count; number of roads. As many calls are made as `out` has room for. What is handed
+// back is preparing's answer with the last header.
 #[no_mangle]
 pub extern "C" fn unit_replay(
     card: &[u8],
     ranks: &mut [u32],
     pairs: &mut [u32],
-    live: &mut [u32],
-    down: &mut [u32],
-    estimates: &mut [u32],
-    elapsed: &mut [u32],
+    live: &mut [TimeWord],
+    down: &mut [TimeWord],
+    estimates: &mut [TimeWord],
+    elapsed: &mut [TimeWord],
     route: &mut [u32],
     log: &mut [u32],
     script: &[u32],
     out: &mut [u64],
 ) -> UnitAnswer
-    ensures { λ r. ⌜ ((x : model.Answered) × (r ≡ answerWords x)
-        × ReplayContract (now (card .entry)) (areas ranks pairs live down estimates elapsed) (lent route log)
-        (now (script .entry)) (now (out .entry)) (now (out .exit)) x) ⌝ }
+    ensures { λ r. ⌜ Tells (λ x. ReplayContract (now (card .entry)) (areas ranks pairs live down estimates elapsed) (lent route log)
+        (now (script .entry)) (now (out .entry)) (now (out .exit)) (answeredIn x)) r ⌝ }
 {
-    types_c::answer_of(script::replay(
+    answer_of(unit_script::replay(
         card,
         ranks,
         pairs,

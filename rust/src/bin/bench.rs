@@ -459,12 +459,13 @@ impl Report {
     }
 }
 
-/// A row of a table: a number, a step and numbers.
+/// A row of a table: a number, a step and numbers, the last of them two.
 fn row(f: &mut Formatter, cells: &[impl Display]) -> fmt::Result {
     for (i, cell) in cells.iter().enumerate() {
         match i {
+            0 | 11 => write!(f, "| {cell:>10} ")?,
             1 => write!(f, "| {cell:<27} ")?,
-            _ => write!(f, "| {cell:>10} ")?,
+            _ => write!(f, "| {cell:>8} ")?,
         }
     }
     f.write_str("|\n")

@@ -1,3 +1,4 @@
+-- Each turn writes one word more.
 use Rattle.areas.proofs.Fills.{fill-end, fill-turn}
 use lib.ListN.{getD, length, length-set}
 use mathlib.Core.Path.{_≡_}

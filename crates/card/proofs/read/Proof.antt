@@ -1,25 +1,40 @@
+-- Each return is by the first question that fails, since those before it passed; the bodies are the card's parts once 2 and 3 have passed.
 use mathlib.Core.Path.{_∙_, ap, sym}
 use borrow.Author.Tests.{not-false, not-true}
-use Rattle.sections.specs.Answers.{verdictIn}
-use Rattle.card.proofs.ReadWays.{read-1, read-2, read-3, read-failed, read-passed}
+use Rattle.card_layout.specs.Sections.{sectionIn}
+use Rattle.network.specs.Refusals.{verdictIn}
+use Rattle.card.proofs.ReadWays.{Entries, read-1, read-2, read-3, read-failed, read-passed}
 use borrow.Author.Needs.{needs}
 use Rattle.card.proofs.read.Statement.{statement}
 use Rattle.card.proofs.read.Tie as tie
+
+entries : (c : tie.After-sections) →
+    let after-section-at = c .before .before in
+    let start = after-section-at .before .before .before in
+    Entries (start .args .card .now) (c .sections .result) (sectionIn (after-section-at .section-at .result))
+    (sectionIn (c .before .section-at2 .result))
+entries c =
+    let after-section-at = c .before .before in
+    record {
+      long = after-section-at .before .if1 .left;
+      count-is = c .sections .ensures;
+      first = after-section-at .section-at .ensures;
+      second = c .before .section-at2 .ensures;
+    }
 
 returns : tie.Need-returns
 returns c = read-1 _ (c .if1 .taken)
 
 returns-2 : tie.Need-returns-2
 returns-2 c =
-    let else1 = c .before .before in
-    read-2 _ (else1 .if1 .left) (sym (c .before .kinds-ok .ensures) ∙ not-true _ (c .if2 .taken))
+    let after-sections = c .before .before in
+    read-2 (entries after-sections) (sym (c .before .kinds-ok .ensures) ∙ not-true _ (c .if2 .taken))
 
 returns-3 : tie.Need-returns-3
 returns-3 c =
     let else2 = c .before .before in
     let after-kinds-ok = else2 .before in
-    let else1 = after-kinds-ok .before in
-    read-3 _ (else1 .if1 .left) (sym (after-kinds-ok .kinds-ok .ensures) ∙ not-false _ (else2 .if2 .left))
+    read-3 (entries (after-kinds-ok .before)) (sym (after-kinds-ok .kinds-ok .ensures) ∙ not-false _ (else2 .if2 .left))
     (sym (c .before .starts-ok .ensures) ∙ not-true _ (c .if3 .taken))
 
 returns-4 : tie.Need-returns-4
@@ -29,8 +44,7 @@ returns-4 c =
     let after-starts-ok = else3 .before in
     let else2 = after-starts-ok .before in
     let after-kinds-ok = else2 .before in
-    let else1 = after-kinds-ok .before in
-    read-failed _ (else1 .if1 .left) (sym (after-kinds-ok .kinds-ok .ensures) ∙ not-false _ (else2 .if2 .left))
+    read-failed (entries (after-kinds-ok .before)) (sym (after-kinds-ok .kinds-ok .ensures) ∙ not-false _ (else2 .if2 .left))
     (sym (after-starts-ok .starts-ok .ensures) ∙ not-false _ (else3 .if3 .left)) _ (after-check .check .ensures)
     _ (ap verdictIn (sym (c .before .q .given .1)))
 
@@ -42,10 +56,9 @@ returns-5 c =
     let after-starts-ok = else3 .before in
     let else2 = after-starts-ok .before in
     let after-kinds-ok = else2 .before in
-    let else1 = after-kinds-ok .before in
-    read-passed _ (else1 .if1 .left) (sym (after-kinds-ok .kinds-ok .ensures) ∙ not-false _ (else2 .if2 .left))
+    read-passed (entries (after-kinds-ok .before)) (sym (after-kinds-ok .kinds-ok .ensures) ∙ not-false _ (else2 .if2 .left))
     (sym (after-starts-ok .starts-ok .ensures) ∙ not-false _ (else3 .if3 .left)) _ (after-check .check .ensures)
-    _ _ (ap verdictIn (sym (after-enum-told .enum-told .given .1))) (c .before .word-at .ensures) (c .word-at2 .ensures)
+    (ap verdictIn (sym (after-enum-told .enum-told .given .1)))
 
 pub read-spec : {M : Type 1} → statement M
 read-spec =
@@ -53,13 +66,18 @@ read-spec =
     (tie.spec
     returns
     (λ c κs. search needs)
+    (λ c κs. search needs)
+    (λ c κs. search needs)
+    (λ c κs. search needs)
     returns-2
     (λ c κs. search needs)
     returns-3
     (λ c κs. search needs)
     (λ c. search needs)
     (λ c. search needs)
-    (λ c κs. search needs)
-    (λ c κs. search needs)
+    (λ c. search needs)
+    (λ c. search needs)
+    (λ c. search needs)
+    (λ c. search needs)
     returns-4
     returns-5)

@@ -1,32 +1,52 @@
-use mathlib.Core.Path.{_∙_, ap, sym}
+-- Rows that pass questions 4 to 6 are short and of whole roads, so no number is too large and n and m give the card's size;
+-- the area is written only when it has that size.
+use mathlib.Core.Path.{_∙_, _≡_, ap, sym}
+use mathlib.Core.Option.{none}
 use native.Mathlib.Omega.{arith}
-use Rattle.sections.specs.Answers.{verdictIn}
-use Rattle.card.proofs.WriteWays.{rows-low, write-7, write-made, write-refused}
+use Rattle.model.specs.Card.{mapRefusal}
+use Rattle.network.specs.Refusals.{verdictIn}
+use Rattle.card.specs.Answers.{rowsOf}
+use Rattle.card.proofs.WriteWays.{area-is, passes, write-7, write-made, write-refused}
 use borrow.Author.Needs.{needs}
 use Rattle.card.proofs.write.Statement.{statement}
 use Rattle.card.proofs.write.Tie as tie
 
-add-if1-2 : tie.Need-add-if1-2
-add-if1-2 c =
+-- past questions 4 to 6
+passed : (c : tie.After-enum-told) →
+    let start = c .before .before .before .before .before .before in
+    (none ≡ mapRefusal (rowsOf (start .args .roads .now) (start .args .order .now)))
+passed c =
     let after-check = c .before .before in
-    let start = after-check .before .before .before .before in
-    (let z = rows-low (start .args .roads .now) (start .args .order .now)
-    (ap verdictIn (sym (c .enum-told .given .1)) ∙ after-check .check .ensures) in omega (arith, z .0, z .1))
+    ap verdictIn (sym (c .enum-told .given .1)) ∙ after-check .check .ensures
+
+cast-n : tie.Need-cast-n
+cast-n c =
+    let start = c .before .before .before .before .before .before in
+    omega (arith, passes (start .args .roads .now) (start .args .order .now) (passed c) .short .1)
+
+cast-m : tie.Need-cast-m
+cast-m c =
+    let start = c .before .before .before .before .before .before in
+    omega (arith, passes (start .args .roads .now) (start .args .order .now) (passed c) .short .0)
 
 returns : tie.Need-returns
 returns c =
-    let after-check = c .before .before .before in
-    let start = after-check .before .before .before .before in
-    write-7 (start .args .roads .now) (start .args .order .now)
-    _ (ap verdictIn (sym (c .before .enum-told .given .1)) ∙ after-check .check .ensures) (c .if1 .taken)
+    let after-card-size = c .before in
+    let after-enum-told = after-card-size .before in
+    let start = after-enum-told .before .before .before .before .before .before in
+    write-7 (start .args .roads .now) (start .args .order .now) _ (passed after-enum-told) _ (after-card-size .card-size .ensures)
+    (c .if1 .taken)
 
 put-card-requires : tie.Need-put-card-requires
 put-card-requires c κs =
-    let after-enum-told = c .before .before in
-    let after-check = after-enum-told .before .before in
-    let start = after-check .before .before .before .before in
-    (let z = rows-low (start .args .roads .now) (start .args .order .now)
-    (ap verdictIn (sym (after-enum-told .enum-told .given .1)) ∙ after-check .check .ensures) in (z .0, z .1, c .before .if1 .left))
+    let else1 = c .before in
+    let after-card-size = else1 .before in
+    let after-enum-told = after-card-size .before in
+    let start = after-enum-told .before .before .before .before .before .before in (
+      passes (start .args .roads .now) (start .args .order .now) (passed after-enum-told) .short,
+      area-is (start .args .roads .now) (start .args .order .now) (start .args .area .now) (passed after-enum-told)
+          _ (after-card-size .card-size .ensures) (else1 .if1 .left),
+    )
 
 returns-2 : tie.Need-returns-2
 returns-2 c =
@@ -39,12 +59,11 @@ returns-3 : tie.Need-returns-3
 returns-3 c =
     let after-put-card = c .before .before in
     let else1 = after-put-card .before .before in
-    let after-enum-told = else1 .before in
-    let after-check = after-enum-told .before .before in
-    let start = after-check .before .before .before .before in
-    write-made (start .args .roads .now) (start .args .order .now)
-    _ (ap verdictIn (sym (after-enum-told .enum-told .given .1)) ∙ after-check .check .ensures) _ (else1 .if1 .left)
-    (after-put-card .put-card .ensures)
+    let after-card-size = else1 .before in
+    let after-enum-told = after-card-size .before in
+    let start = after-enum-told .before .before .before .before .before .before in
+    write-made (start .args .roads .now) (start .args .order .now) (start .args .area .now) (passed after-enum-told)
+    _ (after-card-size .card-size .ensures) _ (else1 .if1 .left) (after-put-card .put-card .ensures)
 
 pub write-spec : {M : Type 1} → statement M
 write-spec =
@@ -53,10 +72,9 @@ write-spec =
     (λ c κs. search needs)
     (λ c. search needs)
     (λ c. search needs)
-    (λ c. search needs)
-    (λ c. search needs)
-    (λ c. search needs)
-    add-if1-2
+    cast-n
+    cast-m
+    (λ c κs. search needs)
     returns
     put-card-requires
     returns-2

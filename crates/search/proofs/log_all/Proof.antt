@@ -1,7 +1,12 @@
+-- The parts one after the other: rows of roads, the first candidate, the log to its end, and the times of junctions not logged taken out.
+-- The local arrays have room for as many junctions and roads as a unit takes.
 use mathlib.Core.Path.{_∙_, refl}
 use native.Mathlib.Omega.{arith}
 use lib.ListN.{length-replicate}
-use Rattle.keys.specs.Keys.{noKey}
+use Rattle.model.specs.Limits.{mostJunctions, mostRoads}
+use Rattle.search_keys.specs.Keys.{noKey}
+use Rattle.search_keys.specs.Winners.{mostBlocks}
+use Rattle.search_relaxing.specs.Facts.{sized-as-long}
 use Rattle.search.proofs.Wholes.{all-same, counted, logs-over}
 use borrow.Author.Needs.{needs}
 use Rattle.search.proofs.log_all.Statement.{statement}
@@ -13,7 +18,7 @@ group-requires c κs =
       omega (arith, start .pre .4 .roads-are),
       simp length-replicate (start .pre .4 .m-high),
       simp length-replicate (start .pre .4 .n-high),
-      λ u lu. all-same 4096 _ _ u (start .pre .4 .n-high) lu,
+      λ u lu. all-same mostJunctions _ _ u (start .pre .4 .n-high) lu,
     )
 
 begin-requires : tie.Need-begin-requires
@@ -22,18 +27,20 @@ begin-requires c κs =
     let start = after-firsts .before .before .before .before .before .before .before .before .before .before .before in
     let z = start .pre .4 in (
       start .pre .0,
-      z .n-high,
-      z .order-is,
-      z .ranks-are,
-      z .down-is,
-      z .estimates-are,
-      z .elapsed-is,
-      simp length-replicate (z .n-high),
-      z .n-high,
-      omega arith,
-      z .pairs-are,
-      z .count-high,
-      λ v lv. all-same 4096 _ _ v (z .n-high) lv,
+      record {
+        n-high = z .n-high;
+        count-high = z .count-high;
+        order-is = z .order-is;
+        ranks-are = z .ranks-are;
+        pairs-are = z .pairs-are;
+        down-is = z .down-is;
+        estimates-are = z .estimates-are;
+        elapsed-is = z .elapsed-is;
+        keys-room = simp length-replicate (z .n-high);
+        wins-room = z .n-high;
+        wins-high = omega arith;
+        keyless = λ v lv. all-same mostJunctions _ _ v (z .n-high) lv;
+      },
     )
 
 explore-requires : tie.Need-explore-requires
@@ -44,27 +51,19 @@ explore-requires c κs =
     let after-firsts = after-group .before .before in
     let start = after-firsts .before .before .before .before .before .before .before .before .before .before .before in
     let z = start .pre .4 in (
-      start .pre .3,
-      omega (arith, after-begin .begin .kept .1 .1 .1 .1 .1 .1 .1 .1 .0, z .n-high),
-      start .pre .2,
-      omega (arith, after-begin .begin .kept .1 .1 .1 .1 .1 .1 .1 .1 .1 .0, z .n-high),
-      omega (arith, after-group .group .kept .1 .1 .1 .0, z .n-high),
-      omega (arith, after-group .group .kept .1 .1 .1 .1 .0, z .m-high),
-      after-group .group .ensures,
-      record {
-        n-high = z .n-high;
-        m-high = z .m-high;
-        count-high = z .count-high;
-        roads-are = z .roads-are;
-        order-is = z .order-is;
-        ranks-are = z .ranks-are;
-        pairs-are = z .pairs-are;
-        live-is = z .live-is;
-        down-is = z .down-is;
-        estimates-are = omega (arith, after-begin .begin .kept .1 .1 .1 .1 .1 .1 .0, z .estimates-are);
-        elapsed-is = omega (arith, after-begin .begin .kept .1 .1 .1 .1 .1 .1 .1 .0, z .elapsed-is);
-      },
       start .pre .1,
+      start .pre .3,
+      record {
+        room = record {
+          sized = sized-as-long z (after-begin .begin .kept .1 .1 .1 .1 .1 .0) (after-begin .begin .kept .1 .1 .1 .1 .1 .1 .0);
+          keys-room = omega (arith, after-begin .begin .kept .1 .1 .1 .1 .1 .1 .1 .0, z .n-high);
+          vias-room = start .pre .2;
+          wins-room = omega (arith, after-begin .begin .kept .1 .1 .1 .1 .1 .1 .1 .1 .0, z .n-high);
+        };
+        firsts-room = omega (arith, after-group .group .kept .1 .1 .1 .0, z .n-high);
+        nexts-room = omega (arith, after-group .group .kept .1 .1 .1 .1 .0, z .m-high);
+        grouped = after-group .group .ensures;
+      },
     )
 
 finish-requires : tie.Need-finish-requires
@@ -76,10 +75,10 @@ finish-requires c κs =
     let start = after-firsts .before .before .before .before .before .before .before .before .before .before .before in
     omega (
       arith,
-      after-explore .explore .kept .1 .1 .1 .1 .1 .1 .1 .1 .1 .1 .0,
-      after-explore .explore .kept .1 .1 .1 .1 .1 .1 .1 .1 .1 .1 .1 .0,
+      after-explore .explore .kept .1 .1 .1 .1 .1 .1 .1 .1 .0,
+      after-explore .explore .kept .1 .1 .1 .1 .1 .1 .1 .1 .1 .0,
+      after-begin .begin .kept .1 .1 .1 .1 .1 .1 .0,
       after-begin .begin .kept .1 .1 .1 .1 .1 .1 .1 .0,
-      after-begin .begin .kept .1 .1 .1 .1 .1 .1 .1 .1 .0,
       start .pre .4 .n-high,
       start .pre .4 .elapsed-is,
     )
@@ -93,13 +92,11 @@ returns c =
     let after-begin = after-elapsed .before .before .before in
     let after-firsts = after-begin .before .before .before .before .before .before .before .before .before in
     let start = after-firsts .before .before .before .before .before .before .before .before .before .before .before in
-    let a = start .args in
-    logs-over (a .roads .now) (a .order .now) (a .ranks .now) (a .pairs .now) (a .live .now) (a .down .now) (a .n) (a .m) (a .count)
-    (a .start .0) (a .target .0) (a .estimates .now) (a .log .now) _ _ _ _ _ _ _ _ _ _ _ _ _ (after-begin .begin .ensures)
+    logs-over _ _ _ _ _ _ _ _ _ (after-begin .begin .ensures)
     (after-explore .explore .ensures) (after-finish .finish .ensures) (omega (
       arith,
-      after-explore .explore .kept .1 .1 .1 .1 .1 .1 .1 .1 .1 .1 .0,
-      after-begin .begin .kept .1 .1 .1 .1 .1 .1 .1 .0,
+      after-explore .explore .kept .1 .1 .1 .1 .1 .1 .1 .1 .0,
+      after-begin .begin .kept .1 .1 .1 .1 .1 .1 .0,
       start .pre .4 .elapsed-is,
     ))
 
@@ -115,48 +112,48 @@ log-all-spec =
     begin-requires
     (λ c.
     let after-begin = c .before .before .before .before .before .before .before .before .before in
-    counted 4096 noKey (after-begin .begin .kept .1 .1 .1 .1 .1 .1 .1 .1 .0))
+    counted mostJunctions noKey (after-begin .begin .kept .1 .1 .1 .1 .1 .1 .1 .0))
     (λ c.
     let after-begin = c .before .before .before .before .before .before .before .before .before .before .before in
-    counted 64 0 (after-begin .begin .kept .1 .1 .1 .1 .1 .1 .1 .1 .1 .0))
+    counted mostBlocks 0 (after-begin .begin .kept .1 .1 .1 .1 .1 .1 .1 .1 .0))
     (λ c.
     let after-begin = c .before .before .before .before .before .before .before .before .before .before .before .before in
     let after-group = after-begin .before .before .before .before .before .before .before in
     let after-firsts = after-group .before .before in
     let start = after-firsts .before .before .before .before .before .before .before .before .before .before .before in
-    counted 4096 (start .args .m) (after-group .group .kept .1 .1 .1 .0))
+    counted mostJunctions (start .args .sizes .m) (after-group .group .kept .1 .1 .1 .0))
     (λ c.
     let after-estimates = c .before .before .before .before .before .before .before .before .before .before .before .before in
     let after-group = after-estimates .before .before .before .before .before .before .before .before in
-    counted 16384 0 (after-group .group .kept .1 .1 .1 .1 .0))
+    counted mostRoads 0 (after-group .group .kept .1 .1 .1 .1 .0))
     explore-requires
     (λ c.
     let after-explore = c .before .before .before .before .before .before .before .before .before .before .before .before in
     let after-elapsed = after-explore .before .before .before .before .before .before .before .before .before .before .before .before in
     let after-begin = after-elapsed .before .before .before in
-    counted 4096 noKey (after-explore .explore .kept .1 .1 .1 .1 .1 .1 .1 .1 .1 .1 .1 .0 ∙
-    after-begin .begin .kept .1 .1 .1 .1 .1 .1 .1 .1 .0))
+    counted mostJunctions noKey (after-explore .explore .kept .1 .1 .1 .1 .1 .1 .1 .1 .1 .0 ∙
+    after-begin .begin .kept .1 .1 .1 .1 .1 .1 .1 .0))
     finish-requires
     (λ c.
     let after-elapsed2 = c .before .before .before .before .before .before .before .before .before .before .before .before in
     let after-explore = after-elapsed2 .before .before .before in
     let after-elapsed = after-explore .before .before .before .before .before .before .before .before .before .before .before .before in
     let after-begin = after-elapsed .before .before .before in
-    after-explore .explore .kept .1 .1 .1 .1 .1 .1 .1 .1 .1 .0 ∙ after-begin .begin .kept .1 .1 .1 .1 .1 .1 .0)
+    after-explore .explore .kept .1 .1 .1 .1 .1 .1 .1 .0 ∙ after-begin .begin .kept .1 .1 .1 .1 .1 .0)
     (λ c.
     let after-finish = c .before .before in
     let after-estimates2 = after-finish .before .before .before .before .before .before .before .before .before .before .before .before in
     let after-explore = after-estimates2 .before in
     let after-elapsed = after-explore .before .before .before .before .before .before .before .before .before .before .before .before in
     let after-begin = after-elapsed .before .before .before in
-    after-finish .finish .kept .0 ∙ after-explore .explore .kept .1 .1 .1 .1 .1 .1 .1 .1 .1 .1 .0
-    ∙ after-begin .begin .kept .1 .1 .1 .1 .1 .1 .1 .0)
+    after-finish .finish .kept .0 ∙ after-explore .explore .kept .1 .1 .1 .1 .1 .1 .1 .1 .0
+    ∙ after-begin .begin .kept .1 .1 .1 .1 .1 .1 .0)
     (λ c.
     let after-elapsed2 = c .before .before .before .before .before .before .before .before .before .before .before .before in
     let after-explore = after-elapsed2 .before .before .before in
-    after-explore .explore .kept .1 .1 .1 .1 .1 .1 .1 .1 .1 .1 .1 .1 .0)
+    after-explore .explore .kept .1 .1 .1 .1 .1 .1 .1 .1 .1 .1 .0)
     (λ c.
     let after-elapsed2 = c .before .before .before .before .before .before .before .before .before .before .before .before in
     let after-explore = after-elapsed2 .before .before .before in
-    after-explore .explore .kept .1 .1 .1 .1 .1 .1 .1 .1 .1 .1 .1 .1 .1 .1 .1 .1 .0)
+    after-explore .explore .kept .1 .1 .1 .1 .1 .1 .1 .1 .1 .1 .1 .1 .1 .1 .0)
     returns)

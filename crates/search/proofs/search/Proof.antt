@@ -1,5 +1,7 @@
+-- The log leaves the target's time, which is the total, and the roads that gave the times, over which the way back is the route.
 use native.Mathlib.Omega.{arith}
 use mathlib.Core.Path.{refl, sym, _∙_}
+use Rattle.model.specs.Limits.{mostJunctions}
 use Rattle.search.proofs.Wholes.{below-kept, counted, searches-found, searches-lost}
 use borrow.Author.Needs.{needs}
 use Rattle.search.proofs.search.Statement.{statement}
@@ -12,9 +14,7 @@ returns c =
     let after-vias = after-log-all .before .before in
     let after-shared-slice-known2 = after-vias .before .before .before .before .before .before .before .before .before .before .before in
     let start = after-shared-slice-known2 .before .before in
-    let a = start .args in
-    searches-lost (a .roads .now) (a .order .now) (a .ranks .now) (a .pairs .now) (a .live .now) (a .down .now) (a .n) (a .m) (a .count)
-    (a .start .0) (a .target .0) (a .estimates .now) (a .route .now) (a .log .now) _ _ _ _ _ _ (start .pre .4 .roads-are)
+    searches-lost _ _ _ _ _ (start .args .route .now) _ _ (start .pre .4 .roads-are)
     (start .pre .4 .order-is) (start .pre .0) (start .pre .1) (after-log-all .log-all .ensures) (after-of-word .of-word .ensures)
     (sym (c .before .is-none .ensures) ∙ c .if1 .taken)
 
@@ -26,7 +26,7 @@ way-back-requires c κs =
     let after-shared-slice-known2 = after-vias .before .before .before .before .before .before .before .before .before .before .before in
     let start = after-shared-slice-known2 .before .before in (
       start .pre .1,
-      omega (arith, after-log-all .log-all .kept .1 .1 .1 .1 .1 .1 .1 .1 .1 .1 .1 .0, start .pre .4 .n-high),
+      omega (arith, after-log-all .log-all .kept .1 .1 .1 .1 .1 .1 .1 .1 .1 .0, start .pre .4 .n-high),
       omega (arith, start .pre .4 .roads-are),
       start .pre .2,
     )
@@ -41,9 +41,7 @@ returns-2 c =
     let after-vias = after-log-all .before .before in
     let after-shared-slice-known2 = after-vias .before .before .before .before .before .before .before .before .before .before .before in
     let start = after-shared-slice-known2 .before .before in
-    let a = start .args in
-    searches-found (a .roads .now) (a .order .now) (a .ranks .now) (a .pairs .now) (a .live .now) (a .down .now) (a .n) (a .m) (a .count)
-    (a .start .0) (a .target .0) (a .estimates .now) (a .route .now) (a .log .now) _ _ _ _ _ _ (start .pre .4 .roads-are)
+    searches-found _ _ _ _ _ (start .args .route .now) _ _ (start .pre .4 .roads-are)
     (start .pre .4 .order-is) (start .pre .0) (start .pre .1) (after-log-all .log-all .ensures) (after-of-word .of-word .ensures)
     _ _ (sym (after-is-none .is-none .ensures) ∙ else1 .if1 .left) (after-way-back .way-back .ensures .0)
     (after-way-back .way-back .ensures .1)
@@ -61,37 +59,37 @@ search-spec =
     let after-vias = after-log-all .before .before in
     let after-shared-slice-known2 = after-vias .before .before .before .before .before .before .before .before .before .before .before in
     let start = after-shared-slice-known2 .before .before in
-    below-kept (start .pre .1) (start .pre .4 .elapsed-is) (after-log-all .log-all .kept .1 .1 .1 .1 .1 .1 .1 .1 .1 .1 .0))
+    below-kept (start .pre .1) (start .pre .4 .elapsed-is) (after-log-all .log-all .kept .1 .1 .1 .1 .1 .1 .1 .1 .0))
     (λ c κs. search needs)
     (λ c κs. search needs)
     (λ c.
     let after-log-all = c .before .before .before .before .before .before .before .before .before .before .before .before in
-    after-log-all .log-all .kept .1 .1 .1 .1 .1 .1 .1 .1 .1 .0)
+    after-log-all .log-all .kept .1 .1 .1 .1 .1 .1 .1 .0)
+    (λ c.
+    let after-log-all = c .before .before .before .before .before .before .before .before .before .before .before .before in
+    after-log-all .log-all .kept .1 .1 .1 .1 .1 .1 .1 .1 .0)
     (λ c.
     let after-log-all = c .before .before .before .before .before .before .before .before .before .before .before .before in
     after-log-all .log-all .kept .1 .1 .1 .1 .1 .1 .1 .1 .1 .1 .0)
-    (λ c.
-    let after-log-all = c .before .before .before .before .before .before .before .before .before .before .before .before in
-    after-log-all .log-all .kept .1 .1 .1 .1 .1 .1 .1 .1 .1 .1 .1 .1 .0)
     returns
     (λ c.
     let after-estimates = c .before .before .before .before .before .before .before .before .before .before .before .before in
     let after-log-all = after-estimates .before in
-    counted 4096 0 (after-log-all .log-all .kept .1 .1 .1 .1 .1 .1 .1 .1 .1 .1 .1 .0))
+    counted mostJunctions 0 (after-log-all .log-all .kept .1 .1 .1 .1 .1 .1 .1 .1 .1 .0))
     way-back-requires
     (λ c.
     let after-vias2 = c .before .before .before .before .before .before .before .before .before .before .before .before in
     let after-log-all = after-vias2 .before .before .before .before .before in
-    after-log-all .log-all .kept .1 .1 .1 .1 .1 .1 .1 .1 .1 .0)
+    after-log-all .log-all .kept .1 .1 .1 .1 .1 .1 .1 .0)
     (λ c.
     let after-vias2 = c .before .before .before .before .before .before .before .before .before .before .before .before in
     let after-log-all = after-vias2 .before .before .before .before .before in
-    after-log-all .log-all .kept .1 .1 .1 .1 .1 .1 .1 .1 .1 .1 .0)
+    after-log-all .log-all .kept .1 .1 .1 .1 .1 .1 .1 .1 .0)
     (λ c.
     let after-way-back = c .before .before in
     after-way-back .way-back .kept .1 .1 .1 .1 .1 .1 .0)
     (λ c.
     let after-vias2 = c .before .before .before .before .before .before .before .before .before .before .before .before in
     let after-log-all = after-vias2 .before .before .before .before .before in
-    after-log-all .log-all .kept .1 .1 .1 .1 .1 .1 .1 .1 .1 .1 .1 .1 .0)
+    after-log-all .log-all .kept .1 .1 .1 .1 .1 .1 .1 .1 .1 .1 .0)
     returns-2)

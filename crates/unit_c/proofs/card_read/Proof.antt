@@ -1,3 +1,4 @@
+-- Each arm hands out the words of what was read.
 use mathlib.Core.Path.{_∙_, ap, sym}
 use Rattle.card.specs.Answers.{readingIn}
 use Rattle.unit_c.proofs.Told.{read-told, unread-told}
@@ -12,9 +13,8 @@ returns c =
 
 returns-2 : tie.Need-returns-2
 returns-2 c =
-    let after-q = c .before in
-    let after-read = after-q .before .before in
-    unread-told _ _ (ap readingIn (sym (after-q .q .given .1)) ∙ after-read .read .ensures)
+    let after-read = c .before .before .before in
+    unread-told _ _ (ap readingIn (sym (c .before .q .given .1)) ∙ after-read .read .ensures)
 
 pub card-read-spec : {M : Type 1} → statement M
 card-read-spec =

@@ -20,14 +20,13 @@ returns c =
 
 returns-2 : tie.Need-returns-2
 returns-2 c =
-    let after-q = c .before in
-    let after-write = after-q .before .before .before .before in
+    let after-write = c .before .before .before .before .before in
     let start = after-write .before .before .before .before .before in
     let map = rowsOf (start .args .roads .now) (start .args .order .now) in
     let area = start .args .area .now in
     let after = after-write .write .last .1 .1 .0 in
     refused-told map area after _
-    (subst (λ (x : Writing). WriteContract map area after (writingIn x)) (after-q .q .given .1) (after-write .write .ensures))
+    (subst (λ (x : Writing). WriteContract map area after (writingIn x)) (c .before .q .given .1) (after-write .write .ensures))
 
 pub card-write-spec : {M : Type 1} → statement M
 card-write-spec =

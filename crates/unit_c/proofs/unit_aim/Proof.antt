@@ -1,28 +1,22 @@
-use Rattle.unit_c.proofs.Headers.{aim-at}
-use Rattle.unit.specs.Shape.{answeredIn}
+-- The header that C's words stand for meets the contract of aim; C is told the words of what that hands back.
+use borrow.Author.Needs.{needs}
+use Rattle.unit_c.proofs.Told.{alone-told}
 use Rattle.unit_c.proofs.unit_aim.Statement.{statement}
 use Rattle.unit_c.proofs.unit_aim.Tie as tie
 
 returns : tie.Need-returns
 returns c =
     let after-aim = c .before .before .before .before .before in
-    let after-header-of = after-aim .before .before .before in (
-      answeredIn (after-aim .aim .result),
-      c .answer-of .ensures,
-      aim-at _ _ _ (after-header-of .header-of .ensures) _ _ (after-aim .aim .ensures),
-    )
+    let after-header-of = after-aim .before .before .before in
+    alone-told (after-aim .aim .result) (after-header-of .header-of .ensures) (c .answer-of .ensures) (after-aim .aim .ensures)
 
 pub unit-aim-spec : {M : Type 1} → statement M
 unit-aim-spec =
     tie.close
     (tie.spec
-    (λ c κs. tt)
-    (λ c κs. tt)
-    (λ c κs. tt)
-    (λ c.
-    let after-aim = c .before .before .before .before .before in
-    after-aim .aim .kept .1 .1 .1 .1 .1 .0)
-    (λ c.
-    let after-aim = c .before .before .before .before .before in
-    after-aim .aim .kept .1 .1 .1 .1 .1 .1 .0)
+    (λ c κs. search needs)
+    (λ c κs. search needs)
+    (λ c κs. search needs)
+    (λ c. search needs)
+    (λ c. search needs)
     returns)

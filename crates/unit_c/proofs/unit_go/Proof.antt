@@ -1,34 +1,24 @@
-use Rattle.unit_c.proofs.Headers.{go-at}
-use Rattle.unit.specs.Shape.{answeredIn}
+-- The header that C's words stand for meets the contract of go; C is told the words of what that hands back.
+use borrow.Author.Needs.{needs}
+use Rattle.unit_c.proofs.Told.{call-told}
 use Rattle.unit_c.proofs.unit_go.Statement.{statement}
 use Rattle.unit_c.proofs.unit_go.Tie as tie
 
 returns : tie.Need-returns
 returns c =
     let after-go = c .before .before .before .before .before .before .before .before .before in
-    let after-header-of = after-go .before .before .before .before .before in (
-      answeredIn (after-go .go .result),
-      c .answer-of .ensures,
-      go-at _ _ _ (after-header-of .header-of .ensures) _ _ (after-go .go .ensures),
-    )
+    let after-header-of = after-go .before .before .before .before .before in
+    call-told (after-go .go .result) (after-header-of .header-of .ensures) (c .answer-of .ensures) (after-go .go .ensures)
 
 pub unit-go-spec : {M : Type 1} → statement M
 unit-go-spec =
     tie.close
     (tie.spec
-    (λ c κs. tt)
-    (λ c κs. tt)
-    (λ c κs. tt)
-    (λ c.
-    let after-go = c .before .before .before .before .before .before .before .before .before in
-    after-go .go .kept .1 .1 .1 .1 .1 .1 .0)
-    (λ c.
-    let after-go = c .before .before .before .before .before .before .before .before .before in
-    after-go .go .kept .1 .1 .1 .1 .1 .1 .1 .0)
-    (λ c.
-    let after-go = c .before .before .before .before .before .before .before .before .before in
-    after-go .go .kept .1 .1 .1 .1 .1 .1 .1 .1 .0)
-    (λ c.
-    let after-go = c .before .before .before .before .before .before .before .before .before in
-    after-go .go .kept .1 .1 .1 .1 .1 .1 .1 .1 .1 .0)
+    (λ c κs. search needs)
+    (λ c κs. search needs)
+    (λ c κs. search needs)
+    (λ c. search needs)
+    (λ c. search needs)
+    (λ c. search needs)
+    (λ c. search needs)
     returns)

@@ -1,142 +1,140 @@
-use mathlib.Core.Path.{_∙_, ap, refl, sym}
-use borrow.Author.Tests.{not-false, not-true}
-use Rattle.model.specs.Contracts.{areasOf, before}
-use Rattle.unit.specs.Shape.{answeredIn, headerIn, lentOf, targetIn}
-use Rattle.model.specs.Calls.{goCall}
-use Rattle.unit.proofs.Lengths.{Fits, fits-facts, lent-both, order-there, roads-there, sized}
-use Rattle.unit.proofs.Ways.{go-12, go-13, go-14, go-astray, go-handed, refused-9}
+-- A refusal leaves everything as it was; otherwise answer and areas are the search's, as `made` has them.
+use mathlib.Core.Path.{_∙_, _≡_, ap, refl, subst, sym}
+use mathlib.Core.Bool.{true}
+use mathlib.Core.Option.{none}
+use mathlib.Core.List.{List}
+use Prim.Native.Nat.{ℕ}
 use borrow.Author.Needs.{needs}
+use lib.ListN.{length}
+use native.Mathlib.Omega.{arith}
+use Rattle.model.specs.Types as model
+use Rattle.model.specs.Areas.{Areas, Each, areasOf, lengths}
+use Rattle.model.specs.State.{Lent}
+use Rattle.model.specs.Calls.{goCall}
+use Rattle.model.specs.Contracts.{CallContract, after, baseOn, before}
+use Rattle.unit_questions.specs.Lending.{lengthsIn, lentOf}
+use Rattle.unit.specs.declared.Answered.{Answered}
+use Rattle.unit.specs.Shape.{answeredIn, headerIn}
+use Rattle.unit.specs.Meets.{asksGo}
+use Rattle.unit.proofs.Fitting.{fits-facts, sized}
+use Rattle.unit.proofs.Going.{GoPassed, go-facts, go-handed, go-passed, go-refused, goneAreas}
 use Rattle.unit.proofs.Header.go.Statement.{statement}
 use Rattle.unit.proofs.Header.go.Tie as tie
 
-known : (c : tie.Else1) →
-    let after-shared-slice-known = c .before .before .before .before .before .before .before .before .before .before .before .before in
-    let start = after-shared-slice-known .before in
-    Fits (start .args .card .now) (headerIn (start .args .self))
-    (areasOf (start .args .ranks .now) (start .args .pairs .now) (start .args .live .now) (start .args .down .now)
-    (start .args .estimates .now) (start .args .elapsed .now))
-known c = fits-facts _ _ _ (sym (c .before .fits2 .ensures) ∙ not-false _ (c .if1 .left))
+abbrev areas : tie.Start → Areas
+areas s = let a = s .args in areasOf (a .ranks .now) (a .pairs .now) (a .live .now) (a .down .now) (a .estimates .now) (a .elapsed .now)
 
-returns : tie.Need-returns
-returns c =
-    let after-shared-slice-known = c .before .before .before .before .before .before .before .before .before .before .before .before in
-    let start = after-shared-slice-known .before in
-    refused-9 _ (before (headerIn (start .args .self))
-    (areasOf (start .args .ranks .now) (start .args .pairs .now) (start .args .live .now) (start .args .down .now)
-    (start .args .estimates .now) (start .args .elapsed .now)))
-    (goCall (start .args .start .0) (lentOf (start .args .route .now) (start .args .log .now)))
-    (sym (c .before .fits2 .ensures) ∙ not-true _ (c .if1 .taken))
+abbrev lent : tie.Start → Lent
+lent s = lentOf (s .args .route .now) (s .args .log .now)
 
-returns-2 : tie.Need-returns-2
-returns-2 c =
-    let else1 = c .before .before in
-    go-12 _ _ _ (known (else1) .fits) _ _ (c .if2 .taken)
-
-returns-3 : tie.Need-returns-3
-returns-3 c =
-    let after-target = c .before .before .before in
-    let else2 = after-target .before .before in
-    let else1 = else2 .before .before in
-    go-14 _ _ _ (known (else1) .fits) _ _ (else2 .if2 .left) _ (ap targetIn (after-target .target .given .1))
-    (sym (c .before .lent-fit .ensures) ∙ not-true _ (c .if3 .taken))
-
-returns-4 : tie.Need-returns-4
-returns-4 c =
-    let else3 = c .before .before in
-    let after-lent-fit = else3 .before in
-    let after-target = after-lent-fit .before .before in
-    let else2 = after-target .before .before in
-    let else1 = else2 .before .before in
-    go-astray _ _ _ (known (else1) .fits) _ _ (else2 .if2 .left) _ (ap targetIn (after-target .target .given .1))
-    (sym (after-lent-fit .lent-fit .ensures) ∙ not-false _ (else3 .if3 .left)) (c .if4 .taken)
+-- no question refuses
+known : (c : tie.After-enum-told) →
+    let after-lengths-of = c .before .before .before in
+    let start = after-lengths-of .before .before .before .before .before .before .before .before .before .before .before .before in
+    let a = start .args in
+    GoPassed (headerIn (a .self)) (baseOn (a .card .now)) (length (a .card .now)) (lengths (areas start)) (a .start .0)
+    (length (a .route .now)) (length (a .log .now))
+known c =
+    let after-go-asked = c .before .before in
+    let after-lengths-of = after-go-asked .before in
+    let start = after-lengths-of .before .before .before .before .before .before .before .before .before .before .before .before in
+    let a = start .args in
+    let h = headerIn (a .self) in
+    let base = baseOn (a .card .now) in
+    let k = length (a .card .now) in
+    let r = length (a .route .now) in
+    let l = length (a .log .now) in
+    go-passed h base k (lengths (areas start)) (a .start .0) r l (c .enum-told .given .1)
+    (after-go-asked .go-asked .ensures base ∙ ap (λ (x : Each ℕ). asksGo base h k x (a .start .0) r l)
+    (after-lengths-of .lengths-of .ensures))
 
 roads-of-requires : tie.Need-roads-of-requires
 roads-of-requires c κs =
-    let else1 = c .before .before .before .before .before .before .before .before .before in
-    roads-there (known (else1))
+    let after-lengths-of = c .before .before .before in
+    let start = after-lengths-of .before .before .before .before .before .before .before .before .before .before .before .before in
+    let a = start .args in
+    omega (arith, fits-facts (headerIn (a .self)) (length (a .card .now)) (lengths (areas start)) (known c .fits) .size)
 
 order-of-requires : tie.Need-order-of-requires
 order-of-requires c κs =
-    let else1 = c .before .before .before .before .before .before .before .before .before .before in
-    order-there (known (else1))
+    let after-enum-told = c .before in
+    let after-lengths-of = after-enum-told .before .before .before in
+    let start = after-lengths-of .before .before .before .before .before .before .before .before .before .before .before .before in
+    let a = start .args in
+    omega (arith, fits-facts (headerIn (a .self)) (length (a .card .now)) (lengths (areas start)) (known after-enum-told .fits) .size)
 
 search-requires : tie.Need-search-requires
 search-requires c κs =
-    let after-order-of = c .before .before .before .before in
+    let after-order-of = c .before .before .before .before .before in
     let after-roads-of = after-order-of .before in
-    let else4 = after-roads-of .before in
-    let else3 = else4 .before .before in
-    let after-lent-fit = else3 .before in
-    let else2 = after-lent-fit .before .before .before .before in
-    let else1 = else2 .before .before in
-    (let b = lent-both _ _ _ (sym (after-lent-fit .lent-fit .ensures) ∙ not-false _ (else3 .if3 .left)) in (
-      else2 .if2 .left,
-      else4 .if4 .left,
-      b .0,
-      b .1,
-      sized (known (else1)) (after-roads-of .roads-of .ensures) (after-order-of .order-of .ensures),
-    ))
+    let after-enum-told = after-roads-of .before in
+    let after-lengths-of = after-enum-told .before .before .before in
+    let start = after-lengths-of .before .before .before .before .before .before .before .before .before .before .before .before in
+    let a = start .args in
+    let k = known after-enum-told in
+    let g = go-facts (headerIn (a .self)) (baseOn (a .card .now)) (a .start .0) (length (a .route .now)) (length (a .log .now))
+    (k .asked) in
+    let f = fits-facts (headerIn (a .self)) (length (a .card .now)) (lengths (areas start)) (k .fits) in (
+      g .start,
+      omega (arith, c .aimed-at .ensures, k .target),
+      g .route-room,
+      g .log-room,
+      sized (a .card .now) (areas start) f (after-roads-of .roads-of .ensures) (after-order-of .order-of .ensures),
+    )
 
-returns-5 : tie.Need-returns-5
-returns-5 c =
-    let else2 = c .before .before in
-    let else1 = else2 .before .before in
-    go-13 _ _ _ (known (else1) .fits) _ _ (else2 .if2 .left) (ap targetIn (c .enum-told .given .1))
+returns : tie.Need-returns
+returns c =
+    let after-q = c .before .before in
+    let after-go-asked = after-q .before .before in
+    let after-lengths-of = after-go-asked .before in
+    let start = after-lengths-of .before .before .before .before .before .before .before .before .before .before .before .before in
+    let a = start .args in
+    let h = headerIn (a .self) in
+    let base = baseOn (a .card .now) in
+    let k = length (a .card .now) in
+    let r = length (a .route .now) in
+    let l = length (a .log .now) in
+    go-refused (a .card .now) (a .self) (areas start) (a .start .0) (lent start) (after-q .q .given .1)
+    (after-go-asked .go-asked .ensures base ∙ ap (λ (x : Each ℕ). asksGo base h k x (a .start .0) r l)
+    (after-lengths-of .lengths-of .ensures))
+    (c .answered .ensures)
 
-returns-6 : tie.Need-returns-6
-returns-6 c =
-    let after-search = c .before .before .before .before .before .before .before .before .before in
-    let after-order-of = after-search .before .before .before .before .before in
+returns-2 : tie.Need-returns-2
+returns-2 c =
+    let after-search = c .before .before .before .before .before .before .before .before .before .before in
+    let after-aimed-at = after-search .before in
+    let after-order-of = after-aimed-at .before .before .before .before .before in
     let after-roads-of = after-order-of .before in
-    let else3 = after-roads-of .before .before .before in
-    let after-lent-fit = else3 .before in
-    let after-target = after-lent-fit .before .before in
-    let else2 = after-target .before .before in
-    let else1 = else2 .before .before in
-    let after-shared-slice-known2 = else1 .before .before .before .before .before .before .before .before .before .before .before in
-    let start = after-shared-slice-known2 .before .before in
-    go-handed _ _ _ (known (else1) .fits) _ (lentOf (start .args .route .now) (start .args .log .now)) (else2 .if2 .left)
-    _ (ap targetIn (after-target .target .given .1)) _ _ _ _ _ _ _ (answeredIn (c .gone .result))
-    (sym (after-lent-fit .lent-fit .ensures) ∙ not-false _ (else3 .if3 .left)) _ _ (after-roads-of .roads-of .ensures)
-    (after-order-of .order-of .ensures) (after-search .search .ensures) (ap headerIn (c .gone .ensures .0)) (c .gone .ensures .1)
+    let after-enum-told = after-roads-of .before in
+    let after-lengths-of = after-enum-told .before .before .before in
+    let start = after-lengths-of .before .before .before .before .before .before .before .before .before .before .before .before in
+    let a = start .args in
+    let k = known after-enum-told in
+    let e = after-search .search .ensures in
+    go-handed (a .card .now) (a .self) (areas start) (a .start .0) (lent start) (k .fits) (k .asked)
+    (after-aimed-at .aimed-at .ensures) (after-roads-of .roads-of .ensures) (after-order-of .order-of .ensures) e
+    (c .before .gone .ensures) (c .answered2 .result) (c .answered2 .ensures)
 
 pub go-spec : {M : Type 1} → statement M
 go-spec =
     tie.close
     (tie.spec
-    (λ c κs. tt)
-    (λ c. refl)
-    (λ c. refl)
-    returns
-    (λ c. refl)
-    (λ c. refl)
-    returns-2
+    (λ c κs. search needs)
+    (λ c κs. search needs)
     (λ c. search needs)
+    (λ c κs. search needs)
     (λ c. search needs)
-    (λ c κs. tt)
-    (λ c. refl)
-    (λ c. refl)
-    returns-3
-    (λ c. refl)
-    (λ c. refl)
-    returns-4
     roads-of-requires
     order-of-requires
+    (λ c κs. search needs)
     search-requires
-    (λ c κs. tt)
-    (λ c. refl)
-    (λ c. refl)
-    returns-5
-    (λ c.
-    let after-search = c .before .before .before .before .before .before .before .before .before in
-    after-search .search .kept .1 .1 .1 .1 .1 .1 .1 .1 .1 .0)
-    (λ c.
-    let after-search = c .before .before .before .before .before .before .before .before .before in
-    after-search .search .kept .1 .1 .1 .1 .1 .1 .1 .1 .1 .1 .0)
-    (λ c.
-    let after-search = c .before .before .before .before .before .before .before .before .before in
-    after-search .search .kept .1 .1 .1 .1 .1 .1 .1 .1 .1 .1 .1 .0)
-    (λ c.
-    let after-search = c .before .before .before .before .before .before .before .before .before in
-    after-search .search .kept .1 .1 .1 .1 .1 .1 .1 .1 .1 .1 .1 .1 .0)
-    returns-6)
+    (λ c κs. search needs)
+    (λ c κs. search needs)
+    (λ c. search needs)
+    (λ c. search needs)
+    returns
+    (λ c. search needs)
+    (λ c. search needs)
+    (λ c. search needs)
+    (λ c. search needs)
+    returns-2)

@@ -1,0 +1,25 @@
+-- A row that is too long in words is so in bytes; of shorter ones the product does not wrap.
+use Rattle.card_writer.proofs.Long.{long-order, long-roads}
+use borrow.Author.Needs.{needs}
+use Rattle.card_writer.proofs.sizes_ok.Statement.{statement}
+use Rattle.card_writer.proofs.sizes_ok.Tie as tie
+
+returns : tie.Need-returns
+returns c = long-roads _ _ (c .if1 .taken)
+
+returns-2 : tie.Need-returns-2
+returns-2 c = long-order _ _ (c .if2 .taken)
+
+pub sizes-ok-spec : {M : Type 1} → statement M
+sizes-ok-spec =
+    tie.close
+    (tie.spec
+    (λ c. search needs)
+    (λ c. search needs)
+    returns
+    (λ c. search needs)
+    returns-2
+    (λ c. search needs)
+    (λ c. search needs)
+    (λ c κs. search needs)
+    (λ c. search needs))

@@ -1,2 +1,0 @@
-pub mod Estimates
-pub mod Walks

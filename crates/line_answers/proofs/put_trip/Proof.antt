@@ -1,0 +1,22 @@
+use Rattle.line_answers.proofs.Ways.{trip-put}
+use borrow.Author.Needs.{needs}
+use Rattle.line_answers.proofs.put_trip.Statement.{statement}
+use Rattle.line_answers.proofs.put_trip.Tie as tie
+
+returns : tie.Need-returns
+returns c =
+    let after-put-words = c .before .before in
+    let after-put-word = after-put-words .before .before .before .before in
+    let after-put-named = after-put-word .before .before .before .before in
+    trip-put _ _ _ (after-put-named .put-named .ensures) (after-put-word .put-word .ensures) (after-put-words .put-words .ensures)
+
+pub put-trip-spec : {M : Type 1} → statement M
+put-trip-spec =
+    tie.close
+    (tie.spec
+    (λ c. search needs)
+    (λ c κs. search needs)
+    (λ c κs. search needs)
+    (λ c κs. search needs)
+    (λ c. search needs)
+    returns)

@@ -1,0 +1,13 @@
+use mathlib.Core.Path.{_∙_, ap, sym}
+use Rattle.line_console.specs.Lines.{callOf, one}
+use borrow.Author.Needs.{needs}
+use Rattle.line_console.proofs.read_one.Statement.{statement}
+use Rattle.line_console.proofs.read_one.Tie as tie
+
+returns : tie.Need-returns
+returns c =
+    let after-n = c .before .before in
+    c .call-of .ensures ∙ ap (one (callOf _)) (sym (after-n .n .given .1))
+
+pub read-one-spec : {M : Type 1} → statement M
+read-one-spec = tie.close (tie.spec (λ c. search needs) (λ c κs. search needs) (λ c. search needs) returns (λ c. search needs))

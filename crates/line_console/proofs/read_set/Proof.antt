@@ -1,0 +1,23 @@
+use Rattle.line_console.proofs.Calls.{set-is}
+use borrow.Author.Needs.{needs}
+use Rattle.line_console.proofs.read_set.Statement.{statement}
+use Rattle.line_console.proofs.read_set.Tie as tie
+
+returns : tie.Need-returns
+returns c =
+    let after-time = c .before .before in
+    let after-road = after-time .before .before .before in
+    set-is _ _ _ _ _ (after-road .road .given .1) (after-time .time .given .1) (c .of-word .ensures)
+
+pub read-set-spec : {M : Type 1} → statement M
+read-set-spec =
+    tie.close
+    (tie.spec
+    (λ c. search needs)
+    (λ c. search needs)
+    (λ c κs. search needs)
+    (λ c. search needs)
+    (λ c. search needs)
+    returns
+    (λ c. search needs)
+    (λ c. search needs))

@@ -1,0 +1,35 @@
+-- What a line of input says. "A readable one is a call's word and its numbers, one space before each." Definitions only.
+use mathlib.Core.Bool.{cond}
+use mathlib.Core.List.{List}
+use Prim.Native.Nat.{ℕ}
+use Rattle.unit_answers.specs.declared.Call.the-variants.{Aim, Estimate, Go, Set}
+use Rattle.line_fields.specs.Fields.{afterSpace, beforeSpace, numberOf, same}
+use Rattle.line_fields.specs.declared.Number.{Number}
+use Rattle.line_fields.specs.declared.Number.the-variants.{NotOne, Value}
+use Rattle.line_texts.specs.Ascii.{ascii}
+use Rattle.line_console.specs.declared.Line.{Line}
+use Rattle.line_console.specs.declared.Line.the-variants.{Call, Unreadable}
+
+-- `aim`, `est` and `go` have one number
+unfoldable pub callOf : (word : List ℕ) → ℕ → Line
+callOf w v =
+    cond (same w (ascii "aim")) (Call (Aim (record { 0 = v })))
+    (cond (same w (ascii "est")) (Call (Estimate (record { 0 = v })))
+    (cond (same w (ascii "go")) (Call (Go (record { 0 = v }))) Unreadable))
+
+abbrev pub one : (ℕ → Line) → Number → Line
+one call (Value v) = call v
+one call NotOne = Unreadable
+
+-- `set` has two: road and time
+abbrev pub two : Number → Number → Line
+two (Value i) (Value t) = Call (Set i (record { 0 = t }))
+two (Value i) NotOne = Unreadable
+two NotOne t = Unreadable
+
+-- "a call's word and its numbers, one space before each"
+unfoldable pub lineOf : List ℕ → Line
+lineOf s =
+    cond (same (beforeSpace s) (ascii "set"))
+    (two (numberOf (beforeSpace (afterSpace s))) (numberOf (afterSpace (afterSpace s))))
+    (one (callOf (beforeSpace s)) (numberOf (afterSpace s)))

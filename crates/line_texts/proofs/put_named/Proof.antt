@@ -1,0 +1,13 @@
+use Rattle.line_texts.specs.Puts.{puts-then}
+use borrow.Author.Needs.{needs}
+use Rattle.line_texts.proofs.put_named.Statement.{statement}
+use Rattle.line_texts.proofs.put_named.Tie as tie
+
+returns : tie.Need-returns
+returns c =
+    let after-put-spaced = c .before .before in
+    let after-put = after-put-spaced .before .before .before .before in
+    puts-then (after-put .put .ensures) (after-put-spaced .put-spaced .ensures)
+
+pub put-named-spec : {M : Type 1} → statement M
+put-named-spec = tie.close (tie.spec (λ c κs. search needs) (λ c κs. search needs) (λ c. search needs) returns)

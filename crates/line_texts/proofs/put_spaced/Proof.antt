@@ -1,0 +1,13 @@
+use Rattle.line_texts.proofs.Areas.{spaced-put}
+use borrow.Author.Needs.{needs}
+use Rattle.line_texts.proofs.put_spaced.Statement.{statement}
+use Rattle.line_texts.proofs.put_spaced.Tie as tie
+
+returns : tie.Need-returns
+returns c =
+    let after-put-number = c .before .before in
+    let after-put-byte = after-put-number .before .before .before .before in
+    spaced-put _ (after-put-byte .put-byte .ensures) (after-put-number .put-number .ensures)
+
+pub put-spaced-spec : {M : Type 1} → statement M
+put-spaced-spec = tie.close (tie.spec (λ c κs. search needs) (λ c κs. search needs) (λ c. search needs) returns)

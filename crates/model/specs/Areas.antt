@@ -1,0 +1,101 @@
+-- The unit's areas: who writes each, how long it is, and what preparing leaves in it. Definitions only.
+use mathlib.Core.Bool.{Bool, _&&_}
+use mathlib.Core.List.{List, [], _++_, _∷_}
+use Prim.Native.Nat.{_%_, _*_, _-_, ℕ}
+use lib.Dec.{eqb, leb}
+use lib.ListN.{length, replicate}
+use Rattle.graph.specs.Records.{Pair}
+use Rattle.graph.specs.Map.{Map, pairsOf, rank}
+use Rattle.model.specs.Word.{noneWord, unasked, word}
+use Rattle.model.specs.Bytes.{listed}
+use Rattle.model.specs.Limits.{mostPairs}
+
+-- ---- "Areas of the unit", by who writes them; A stands for an area: its words, or how many they are
+
+-- made at switch-on and never written again: ranks "by junction number", and the records of the pairs
+pub record Built (A : Type 0) : Type 0 where
+  pub ranks : A
+  pub pairs : A
+
+-- what an aim makes, by junction number: down totals, and estimates, which are filled as they are asked
+pub record Aimed (A : Type 0) : Type 0 where
+  pub down : A
+  pub estimates : A
+
+-- what a trip writes: elapsed, by junction number
+pub record Trip (A : Type 0) : Type 0 where
+  pub elapsed : A
+
+pub record Each (A : Type 0) : Type 0 where
+  pub built : Built A
+  -- live times by road number, which set writes
+  pub live : A
+  pub aimed : Aimed A
+  pub trip : Trip A
+
+abbrev pub Areas : Type 0
+Areas = Each (List ℕ)
+
+-- the areas in document 01's order
+abbrev pub areasOf : {A : Type 0} → (ranks pairs live down estimates elapsed : A) → Each A
+areasOf r p l d e t = record {
+  built = record { ranks = r; pairs = p };
+  live = l;
+  aimed = record { down = d; estimates = e };
+  trip = record { elapsed = t };
+}
+
+-- f of each area
+abbrev pub each : {A B : Type 0} → (A → B) → Each A → Each B
+each f a =
+    areasOf
+    (f (a .built .ranks)) (f (a .built .pairs))
+    (f (a .live))
+    (f (a .aimed .down)) (f (a .aimed .estimates))
+    (f (a .trip .elapsed))
+
+-- ---- lengths, for questions 7 and 9
+
+abbrev pub lengths : Areas → Each ℕ
+lengths = each length
+
+-- "Its record is four words"
+abbrev pub recordSize : ℕ
+recordSize = 4
+
+-- "a multiple of 4 words, at most 262,144", with room for p pairs
+abbrev pub roomFits : (p room : ℕ) → Bool
+roomFits p room = eqb (room % recordSize) 0 && leb (recordSize * p) room && leb room (recordSize * mostPairs)
+
+-- n words, room for p pairs, m words, and three times n words
+unfoldable pub lengthsFit : (n m p : ℕ) → Each ℕ → Bool
+lengthsFit n m p l =
+    eqb (l .built .ranks) n && roomFits p (l .built .pairs)
+    && eqb (l .live) m
+    && eqb (l .aimed .down) n && eqb (l .aimed .estimates) n
+    && eqb (l .trip .elapsed) n
+
+-- ---- what preparing leaves
+
+-- "rank of low, rank of high, up, down"
+abbrev pub words : List Pair → List ℕ
+words [] = []
+words (p ∷ l) = p .low ∷ p .high ∷ word (p .upTime) ∷ word (p .downTime) ∷ words l
+
+-- the pair area of k words: the records, "unused records" zero
+abbrev pub recordsIn : Map → (k : ℕ) → List ℕ
+recordsIn M k = words (pairsOf M) ++ replicate (k - recordSize * length (pairsOf M)) 0
+
+-- "Preparing fills ranks and pairs, .. sets each live time to its base time, down totals and elapsed to none and each estimate to unasked";
+-- the room for pairs stays
+abbrev pub freshAreas : Map → (room : ℕ) → Areas
+freshAreas M room = record {
+  built = record { ranks = listed (M .vertices) (rank M); pairs = recordsIn M room };
+  live = listed (M .base .arcs) (λ i. word (M .base .cost i));
+  aimed = record { down = replicate (M .vertices) noneWord; estimates = replicate (M .vertices) unasked };
+  trip = record { elapsed = replicate (M .vertices) noneWord };
+}
+
+-- "every area is filled with 0"
+abbrev pub zeroed : Areas → Areas
+zeroed = each (λ l. replicate (length l) 0)

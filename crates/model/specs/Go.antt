@@ -1,0 +1,141 @@
+-- Go: the way from a start to the target, by the search log, at the live times. Definitions only.
+use mathlib.Core.Path.{_≡_}
+use mathlib.Core.Bool.{Bool, _&&_, _||_, not}
+use mathlib.Core.Option.{Option, none, some}
+use mathlib.Core.List.{List, []}
+use Prim.Native.Nat.{_≤_, ℕ}
+use lib.Dec.{eqb, leb, ltb}
+use lib.ListN.{getD, length, take}
+use Rattle.graph.specs.Total.{Total, _⊕_, isNumber, noMore}
+use Rattle.graph.specs.Least.{anyBelow}
+use Rattle.graph.specs.Lists.{countBelow}
+use Rattle.graph.specs.Reach.{reaches}
+use Rattle.graph.specs.Route.{Leads, totalOver}
+use Rattle.graph.specs.Search.{Entry, Problem, countOf, history, logOf, routeOf, timeIn, totalOf, vertices}
+use Rattle.graph.specs.Walk.{startAt}
+use Rattle.graph.specs.Map.{Map, fills, liveNet, timeOf}
+use Rattle.graph.specs.Go.{goOf}
+use Rattle.model.specs.Word.{ofWord, word}
+use Rattle.model.specs.Types.{Answer, At, Gone, LentLengths, NoJunction, NoPath, NoTarget, Refusal, Refused}
+use Rattle.model.specs.Bytes.{listed}
+use Rattle.model.specs.Card.{ask}
+use Rattle.model.specs.State.{Lent, State, Step, first, leaving}
+use Rattle.model.specs.Machine.{Known, LivePath, Machine, Told, isAt, knownTo, leastBase, targetOf}
+use Rattle.model.specs.Estimate.{Kept, filled, withEstimates}
+
+-- ---- what is asked: a start; route and log are lent with it
+
+-- 12: "Is the junction below n?", 13: "Is there a target?", then 14: "Have route and log areas at least n entries?"
+unfoldable pub goRefusal : Known → (start route log : ℕ) → Option Refusal
+goRefusal k s r l =
+    ask (ltb s (k .n)) NoJunction (ask (isAt (k .target)) NoTarget (ask (leb (k .n) r && leb (k .n) l) LentLengths none))
+
+-- ---- what it answers and leaves
+
+-- the live times as totals: "A road is open if its live time isn't closed."
+abbrev pub liveOf : (live : List ℕ) → ℕ → Total
+liveOf live i = ofWord (getD live i 0)
+
+-- "on equal keys the smaller junction number": nothing of the time decides before it
+abbrev pub byNumber : ℕ → ℕ
+byNumber t = 0
+
+-- the search log's problem, at the live times and with the unit's estimates
+abbrev pub searchOf : Map → (live : List ℕ) → (start target : ℕ) → Problem
+searchOf M live s z = goOf M (liveOf live) byNumber s z
+
+-- "the start and .. every head of an open road from a logged junction other than the target"
+unfoldable pub goAsks : Map → (ℕ → Total) → (start target : ℕ) → List Entry → ℕ → Bool
+goAsks M live s z H v =
+    eqb s v
+    || anyBelow (M .base .arcs) (λ i.
+    eqb (M .base .head i) v && isNumber (live i) && isNumber (timeIn H (M .base .tail i)) && not (eqb (M .base .tail i) z))
+
+-- "with those above them"
+unfoldable pub goFills : Map → (ℕ → Total) → (start target : ℕ) → List Entry → ℕ → Bool
+unfolding goAsks anyBelow reaches
+goFills M live s z H v = anyBelow (M .vertices) (λ a. goAsks M live s z H a && fills M a v)
+
+-- the same at the end of the search
+abbrev pub asks : Map → (live : List ℕ) → (start target : ℕ) → ℕ → Bool
+asks M live s z = goFills M (liveOf live) s z (history (searchOf M live s z))
+
+-- "The answer is total, count and number of roads"; 15: "Does a chain of open roads exist? No: 15, with the count"
+abbrev pub goAnswer : Total → (count roads : ℕ) → Answer
+goAnswer none c k = Refused (NoPath c)
+goAnswer (some t) c k = Gone t c k
+
+-- by 15 "the route area untouched"
+abbrev pub goRoute : Total → (roads area : List ℕ) → List ℕ
+goRoute none r area = area
+goRoute (some t) r area = first r area
+
+-- "Elapsed holds logged junctions' times, otherwise none."
+abbrev pub goMade : Map → State → (start : ℕ) → Lent → Step
+goMade M s j l =
+    let z = targetOf (s .header .target) in
+    let a = s .areas .aimed in
+    let G = searchOf M (s .areas .live) j z in
+    record {
+      answer = goAnswer (totalOf G) (countOf G) (length (routeOf G));
+      state =
+          leaving s (s .header .target) (s .areas .live)
+          (withEstimates a (filled M z (asks M (s .areas .live) j z) (a .estimates)))
+          (record { elapsed = listed (M .vertices) (λ v. word (timeIn (history G) v)) });
+      lent = record { route = goRoute (totalOf G) (routeOf G) (l .route); log = first (vertices (logOf G)) (l .log) };
+    }
+
+-- ---- what the plain machine does
+
+-- "route, log and count by the next section, for these times and the estimates the machine would answer"
+unfoldable pub plainSearch : Map → (live : ℕ → Total) → (start target : ℕ) → Problem
+plainSearch M live s z = record {
+  size = M .vertices;
+  net = liveNet M live;
+  start = startAt s;
+  pot = leastBase M z;
+  goal = λ v. eqb v z;
+  tie = byNumber;
+}
+
+-- by "the least total, at the times in force, over chains of open roads"; "15 also with count and log"
+abbrev pub foundTold : (least : Total) → Problem → Machine → Told
+foundTold none G m = record { answer = Refused (NoPath (countOf G)); roads = []; log = vertices (logOf G); next = m }
+foundTold (some t) G m =
+    record { answer = Gone t (countOf G) (length (routeOf G)); roads = routeOf G; log = vertices (logOf G); next = m }
+
+-- `timeOf` is the least total at the times in force (law: `Proof3.least-totals`)
+abbrev pub goTold : Map → Machine → (start : ℕ) → Told
+goTold M m j = let z = targetOf (m .target) in foundTold (timeOf M (m .live) j z) (plainSearch M (m .live) j z) m
+
+-- ---- what is right about it
+
+-- a route, answered with total T, count c and k roads, that stand first in the route area
+pub record RouteRight (M : Map) (live : ℕ → Total) (start target T c k : ℕ) (area : List ℕ) : Type 0 where
+  -- "a chain of open roads from the start asked to the target in force, answered with its total at the times in force"
+  pub leads : Leads (liveNet M live) start (take k area) target
+  pub total : totalOver (liveNet M live) (take k area) ≡ some T
+  -- "Every other such chain between the same ends has at least as large a total."
+  pub least : (t : ℕ) → LivePath M live start target t → T ≤ t
+  -- "The count .. is at most the number of junctions whose least time from the start plus estimate is no more than the route's total."
+  pub count : c ≤ countBelow (λ v. noMore (timeOf M live start v ⊕ leastBase M target v) (some T)) (M .vertices)
+
+-- from the start to the target in force, the lengths of the two areas being r and l
+pub record TripRight (M : Map) (m : Machine) (start r l target : ℕ) (u : Step) : Type 0 where
+  -- "Every route is the one document 01 defines"
+  pub found : (T c k : ℕ) → u .answer ≡ Gone T c k → RouteRight M (m .live) start target T c k (u .lent .route)
+  -- "A go that passes the earlier questions says 'no chain' exactly when there is none": only then, and always then
+  pub lost : (c : ℕ) → u .answer ≡ Refused (NoPath c) → (t : ℕ) → LivePath M (m .live) start target t → ⊥
+  pub told : goRefusal (knownTo M m) start r l ≡ none → ((t : ℕ) → LivePath M (m .live) start target t → ⊥)
+      → (c : ℕ) × (u .answer ≡ Refused (NoPath c))
+
+abbrev pub GoRight : Map → Machine → (start : ℕ) → Lent → Step → Type 0
+GoRight M m j l u = (z : ℕ) → m .target ≡ At z → TripRight M m j (length (l .route)) (length (l .log)) z u
+
+-- ---- what it leaves in any state whose lengths fit: estimates, none that is filled, and elapsed, beside what it is lent
+
+pub record GoWrites (s : State) (r : Step) : Type 0 where
+  pub leaves : r .state
+      ≡ leaving s (s .header .target) (s .areas .live)
+      (withEstimates (s .areas .aimed) (r .state .areas .aimed .estimates)) (r .state .areas .trip)
+  pub kept : Kept (s .areas .aimed .estimates) (r .state .areas .aimed .estimates)

@@ -1,0 +1,22 @@
+-- The limits of document 01, each once. Definitions only.
+use Prim.Native.Nat.{ℕ}
+
+-- "n is 1 to 4,096"
+abbrev pub mostJunctions : ℕ
+mostJunctions = 4096
+
+-- "m is 0 to 16,384"
+abbrev pub mostRoads : ℕ
+mostRoads = 16384
+
+-- "At most 65,536 fit."
+abbrev pub mostPairs : ℕ
+mostPairs = 65536
+
+-- "a base time 1 to 1,000,000"
+abbrev pub mostTime : ℕ
+mostTime = 1000000
+
+-- "The largest least total is 4,095 × 1,000,000 = 4,095,000,000."
+abbrev pub mostTotal : ℕ
+mostTotal = 4095000000

@@ -1,0 +1,261 @@
+-- How the cases are written. Of the definitions under test it cites the types, and functions only in `writes`, `prepares`, `answers` and
+-- `played`. Definitions only.
+use mathlib.Core.Path.{_≡_}
+use mathlib.Core.Bool.{Bool}
+use mathlib.Core.List.{List, [], _++_, _∷_, map}
+use Prim.Native.Nat.{_%_, _*_, _+_, _-_, _/_, suc, zero, ℕ}
+use lib.ListN.{drop, getD, length, replicate, take}
+use Rattle.graph.specs.Least.{measured}
+use Rattle.graph.specs.Pairs.{down, up}
+use Rattle.graph.specs.Reach.{upTotal}
+use Rattle.graph.specs.Search.{back, backStep, before, below-or, bestBelow, better, consider, extend, firstVia, hasGoal, is, next}
+use Rattle.graph.specs.Search.{offerVia, offered, push, run, totalIn, wayIn}
+use Rattle.model.specs.Types.{Absent, Accepted, Answer, At, Estimated, Gone, Header, NoPath, Refusal, Refused, Target}
+use Rattle.model.specs.Bytes.{wordAt}
+use Rattle.model.specs.Card.{Rows, Written, writeCard, writeRefusal}
+use Rattle.model.specs.Areas.{Areas, areasOf}
+use Rattle.model.specs.State.{Lent, State, Step, prepare}
+use Rattle.model.specs.Calls.{Call, aimCall, estimateCall, goCall, setCall, step, steps}
+
+-- ---- words and cards
+
+-- the marks: none and closed; unasked
+abbrev pub ∞ : ℕ
+∞ = 4294967295
+
+abbrev pub □ : ℕ
+□ = 4294967294
+
+-- a road as document 01 writes it: tail – head – base time
+infix 70 _–_–_
+abbrev pub _–_–_ : ℕ → ℕ → ℕ → List ℕ
+a – b – t = a ∷ b ∷ t ∷ []
+
+-- the record of a pair: rank of low, rank of high, up, down
+abbrev pub pair : ℕ → ℕ → ℕ → ℕ → List ℕ
+pair low high up down = low ∷ high ∷ up ∷ down ∷ []
+
+abbrev row : List (List ℕ) → List ℕ
+row [] = []
+row (l ∷ r) = l ++ row r
+
+-- words as bytes, lowest byte first
+abbrev pub bytes : List ℕ → List ℕ
+bytes [] = []
+bytes (w ∷ l) = w % 256 ∷ w / 256 % 256 ∷ w / 65536 % 256 ∷ w / 16777216 ∷ bytes l
+
+-- the table of contents for bodies of so many bytes
+abbrev contents : (roads order : ℕ) → List ℕ
+contents a b = bytes (2 ∷ 1 ∷ 28 ∷ a ∷ 2 ∷ (28 + a) ∷ b ∷ [])
+
+abbrev pub card : (roads : List (List ℕ)) (order : List ℕ) → List ℕ
+card roads order = contents (12 * length roads) (4 * length order) ++ bytes (row roads ++ order)
+
+-- a card with bodies of zeros, of so many bytes
+abbrev pub blank : (roads order : ℕ) → List ℕ
+blank a b = contents a b ++ replicate (a + b) 0
+
+-- the card with w as its word k
+abbrev pub put : (k w : ℕ) → List ℕ → List ℕ
+put k w c = take (4 * k) c ++ bytes (w ∷ []) ++ drop (4 * k + 4) c
+
+-- ---- tables: what is given, and what is due
+
+pub record Case (A B : Type 0) : Type 0 where
+  pub given : A
+  pub due : B
+
+infix 68 _⇒_
+abbrev pub _⇒_ : {A B : Type 0} → A → B → Case A B
+a ⇒ b = record { given = a; due = b }
+
+-- what f answers to each that is given is what is due
+abbrev pub Agree : {A B : Type 0} → (A → B) → List (Case A B) → Type 0
+Agree {A} {B} f l = map (λ (c : Case A B). f (c .given)) l ≡ map (λ (c : Case A B). c .due) l
+
+-- for a test that stands written out as what is given
+abbrev pub same : Bool → Bool
+same b = b
+
+-- rows to write into an area
+pub record Writing : Type 0 where
+  pub rows : Rows
+  pub area : List ℕ
+
+unfoldable pub writes : Writing → Written
+unfolding writeRefusal
+writes w = writeCard (w .rows) (w .area)
+
+abbrev writing : (roads order : List ℕ) (bytes : ℕ) → Writing
+writing roads order k = record { rows = record { roads = roads; order = order }; area = replicate k 7 }
+
+abbrev pub written : (roads : List (List ℕ)) (order : List ℕ) → Case Writing Written
+written roads order = let c = card roads order in writing (row roads) order (length c) ⇒ record { answer = Accepted; area = c }
+
+-- a refused writing leaves the area as it was
+abbrev pub unwritten : (roads order : List ℕ) (bytes : ℕ) → Refusal → Case Writing Written
+unwritten roads order k q = writing roads order k ⇒ record { answer = Refused q; area = replicate k 7 }
+
+-- areas of these lengths, full of w
+abbrev full : (w ranks pairs live down estimates elapsed : ℕ) → Areas
+full w r p l d e t = areasOf (replicate r w) (replicate p w) (replicate l w) (replicate d w) (replicate e w) (replicate t w)
+
+abbrev pub headerOf : (n m pairs : ℕ) → Target → Header
+headerOf n m p z = record { n = n; m = m; pairs = p; target = z }
+
+abbrev nothing : Lent
+nothing = record { route = []; log = [] }
+
+pub record Preparing : Type 0 where
+  pub card : List ℕ
+  pub areas : Areas
+
+unfoldable pub prepares : Preparing → Step
+unfolding prepare wordAt measured up down
+prepares p = prepare (p .card) (p .areas)
+
+-- a refused preparing leaves w in each area, and a header of zeros
+abbrev pub unprepared : Refusal → (w : ℕ) → (card : List ℕ) (ranks pairs live down estimates elapsed : ℕ) → Case Preparing Step
+unprepared q w c r p l d e t =
+    record { card = c; areas = full 7 r p l d e t }
+    ⇒ record { answer = Refused q; state = record { header = headerOf 0 0 0 Absent; areas = full w r p l d e t }; lent = nothing }
+
+-- ---- calls
+
+-- k, k + 1, .., of the given length
+abbrev counted : (k length : ℕ) → List ℕ
+counted k zero = []
+counted k (suc n) = k ∷ counted (suc k) n
+
+-- what go is lent: a route and a log area of so many entries
+abbrev pub lent : (route log : ℕ) → Lent
+lent r l = record { route = counted 60 r; log = counted 80 l }
+
+-- calls that are each made on the same card and state
+pub record Calling : Type 0 where
+  pub card : List ℕ
+  pub state : State
+  pub calls : List Call
+
+unfoldable pub answers : Calling → List Step
+unfolding step
+answers g = map (λ (c : Call). step (g .card) (g .state) c) (g .calls)
+
+-- Each is refused and leaves everything as it was: a card of so many bytes, a header of these numbers, areas of these lengths.
+abbrev pub refused : Refusal → List Call → (n m pairs : ℕ) → Target → (bytes ranks pairs live down estimates elapsed : ℕ)
+    → Case Calling (List Step)
+refused q calls n m k z b r p l d e t =
+    let s : State = record { header = headerOf n m k z; areas = full 7 r p l d e t } in
+    record { card = replicate b 7; state = s; calls = calls }
+    ⇒ map (λ (c : Call). record { answer = Refused q; state = s; lent = c .lent }) calls
+
+-- ---- scripts
+
+-- a call, its answer, what it makes of the state, and what go's two areas then hold
+pub record Turn : Type 0 where
+  pub call : Call
+  pub answer : Answer
+  pub after : State → State
+  pub holds : Lent
+
+-- a call that is refused and alters nothing
+abbrev pub no : Refusal → Call → Turn
+no q c = record { call = c; answer = Refused q; after = λ s. s; holds = c .lent }
+
+-- another target, live times, down totals, estimates, elapsed
+abbrev becoming : State → Target → (live down estimates elapsed : List ℕ) → State
+becoming s z l d e t = record {
+  header = headerOf (s .header .n) (s .header .m) (s .header .pairs) z;
+  areas = areasOf (s .areas .built .ranks) (s .areas .built .pairs) l d e t;
+}
+
+-- an accepted set, with the live times after it
+abbrev pub set : (road time : ℕ) → (live : List ℕ) → Turn
+set i t live = record {
+  call = setCall i t;
+  answer = Accepted;
+  after = λ s. becoming s (s .header .target) live (s .areas .aimed .down) (s .areas .aimed .estimates) (s .areas .trip .elapsed);
+  holds = nothing;
+}
+
+-- an accepted aim, with the down totals after it; each estimate becomes unasked
+abbrev pub aim : (junction : ℕ) → (down : List ℕ) → Turn
+aim j down = record {
+  call = aimCall j;
+  answer = Accepted;
+  after = λ s. becoming s (At j) (s .areas .live) down (replicate (length down) □) (s .areas .trip .elapsed);
+  holds = nothing;
+}
+
+-- an estimate and its answer, with the estimates after it
+abbrev pub est : (junction time : ℕ) → (estimates : List ℕ) → Turn
+est j t estimates = record {
+  call = estimateCall j;
+  answer = Estimated t;
+  after = λ s. becoming s (s .header .target) (s .areas .live) (s .areas .aimed .down) estimates (s .areas .trip .elapsed);
+  holds = nothing;
+}
+
+-- the words stand first, the rest is untouched
+abbrev first : List ℕ → List ℕ → List ℕ
+first l area = l ++ drop (length l) area
+
+abbrev went : Answer → (start : ℕ) → Lent → (roads log estimates elapsed : List ℕ) → Turn
+went a j l roads log estimates elapsed = record {
+  call = goCall j l;
+  answer = a;
+  after = λ s. becoming s (s .header .target) (s .areas .live) (s .areas .aimed .down) estimates elapsed;
+  holds = record { route = first roads (l .route); log = first log (l .log) };
+}
+
+-- a go and its total, roads and log, with the estimates and elapsed after it
+abbrev pub go : (start : ℕ) → Lent → (total : ℕ) → (roads log estimates elapsed : List ℕ) → Turn
+go j l total roads log = went (Gone total (length log) (length roads)) j l roads log
+
+-- the same where no chain exists
+abbrev pub lost : (start : ℕ) → Lent → (log estimates elapsed : List ℕ) → Turn
+lost j l log = went (Refused (NoPath (length log))) j l [] log
+
+-- A map that is prepared with room for so many pairs, the ranks and records that this leaves, and the turns that follow.
+pub record Script : Type 0 where
+  pub roads : List (List ℕ)
+  pub order : List ℕ
+  pub room : ℕ
+  pub ranks : List ℕ
+  pub pairs : List (List ℕ)
+  pub turns : List Turn
+
+-- what the definitions answer and leave: preparing, then each call
+unfoldable pub played : Script → List Step
+unfolding wordAt prepare step measured upTotal offerVia offered below-or before better consider bestBelow next hasGoal push extend run is
+    firstVia backStep back totalIn wayIn up down
+played c =
+    let k = card (c .roads) (c .order) in
+    let n = length (c .order) in
+    let p = prepare k (full 7 n (4 * c .room) (length (c .roads)) n n n) in
+    p ∷ steps k (p .state) (map (λ (t : Turn). t .call) (c .turns))
+
+-- the state that an accepted preparing leaves
+abbrev prepared : Script → State
+prepared c =
+    let n = length (c .order) in
+    record {
+      header = headerOf n (length (c .roads)) (length (c .pairs)) Absent;
+      areas =
+          areasOf
+          (c .ranks) (row (c .pairs) ++ replicate (4 * (c .room - length (c .pairs))) 0)
+          (map (λ (r : List ℕ). getD r 2 0) (c .roads))
+          (replicate n ∞) (replicate n □)
+          (replicate n ∞);
+    }
+
+-- what the turns say, each going on from the state that the one before leaves
+abbrev after : State → List Turn → List Step
+after s [] = []
+after s (t ∷ l) = let s′ = t .after s in record { answer = t .answer; state = s′; lent = t .holds } ∷ after s′ l
+
+abbrev pub told : Script → List Step
+told c = record { answer = Accepted; state = prepared c; lent = nothing } ∷ after (prepared c) (c .turns)
+
+abbrev pub Holds : Script → Type 0
+Holds c = played c ≡ told c

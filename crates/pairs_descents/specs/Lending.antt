@@ -1,0 +1,36 @@
+-- The areas that the pass over the records is lent, and what its clauses say of them. Definitions only.
+use mathlib.Core.Path.{_≡_}
+use mathlib.Core.List.{List}
+use Prim.Native.Nat.{_*_, _+_, _<_, _≤_, ℕ}
+use denote.Triple.Both.{Both}
+use lib.ListN.{length}
+use Rattle.model.specs.Limits.{mostJunctions, mostPairs}
+use Rattle.network.specs.Lending.{Held, Slice}
+use Rattle.pairs_descents.specs.Downs.{Descended, Handed}
+
+-- the order, the records of the pairs, and the down totals
+pub record Lent : Type 0 where
+  pub order : List ℕ
+  pub pairs : List ℕ
+  pub down : List ℕ
+
+abbrev pub lentOf : (order pairs down : Held) → Lent
+lentOf o p d = record { order = o .now; pairs = p .now; down = d .now }
+
+abbrev pub lent : (order pairs down : Slice) → Both Lent Lent
+lent o p d = record { entry = lentOf (o .entry) (p .entry) (d .entry); exit = lentOf (o .exit) (p .exit) (d .exit) }
+
+-- record i may hand a total down, and does
+abbrev pub HandAsked : (n i : ℕ) → Lent → Type 0
+HandAsked n i a = (n ≤ mostJunctions) × (length (a .order) ≡ 4 * n) × (length (a .down) ≡ n) × (4 * i + 4 ≤ length (a .pairs))
+
+abbrev pub HandDone : (n i : ℕ) → Both Lent Lent → Type 0
+HandDone n i a = Handed n (a .entry .order) (a .entry .pairs) i (a .entry .down) (a .exit .down)
+
+-- the totals of a target may be asked, and are made
+abbrev pub DownsAsked : (n count target : ℕ) → Lent → Type 0
+DownsAsked n count target a = (target < n) × (n ≤ mostJunctions) × (length (a .order) ≡ 4 * n) × (length (a .down) ≡ n)
+    × (4 * count ≤ length (a .pairs)) × (count ≤ mostPairs)
+
+abbrev pub DownsMade : (count target : ℕ) → Lent → Type 0
+DownsMade count target a = Descended (a .order) (a .pairs) count (a .down) target

@@ -1,0 +1,39 @@
+-- Four words that stand side by side are written, and the rest of the area stays.
+use native.Mathlib.Omega.{arith}
+use lib.ListN.{length-set}
+use Rattle.pairs_records.proofs.Writes.{put}
+use Prim.Native.Nat.{_*_}
+use borrow.Author.Needs.{needs}
+use Rattle.pairs_records.proofs.put_record.Statement.{statement}
+use Rattle.pairs_records.proofs.put_record.Tie as tie
+
+slice-write-pairs-2 : tie.Need-slice-write-pairs-2
+slice-write-pairs-2 c = simp length-set (omega arith)
+
+slice-write-pairs-3 : tie.Need-slice-write-pairs-3
+slice-write-pairs-3 c = simp length-set (omega arith)
+
+slice-write-pairs-4 : tie.Need-slice-write-pairs-4
+slice-write-pairs-4 c = simp length-set (omega arith)
+
+returns : tie.Need-returns
+returns c = put (c .args .pairs .now) (4 * c .args .i) _ _ _ _ (search needs)
+
+pub put-record-spec : {M : Type 1} → statement M
+put-record-spec =
+    tie.close
+    (tie.spec
+    (λ c. search needs)
+    (λ c. search needs)
+    (λ c. search needs)
+    (λ c. search needs)
+    (λ c. search needs)
+    slice-write-pairs-2
+    (λ c. search needs)
+    (λ c. search needs)
+    slice-write-pairs-3
+    (λ c. search needs)
+    (λ c. search needs)
+    slice-write-pairs-4
+    (λ c. search needs)
+    returns)

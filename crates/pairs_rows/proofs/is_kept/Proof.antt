@@ -1,0 +1,16 @@
+-- A pair exists where either time does: the up time is asked first, then the down time.
+use Rattle.pairs_rows.proofs.Stored.{kept-by-down, kept-by-up}
+use borrow.Author.Needs.{needs}
+use Rattle.pairs_rows.proofs.is_kept.Statement.{statement}
+use Rattle.pairs_rows.proofs.is_kept.Tie as tie
+
+returns : tie.Need-returns
+returns c =
+    let after-is-none = c .before .before in
+    kept-by-down _ _ _ _ (after-is-none .is-none .ensures) (c .before .if1 .taken) (c .is-none2 .ensures)
+
+returns-2 : tie.Need-returns-2
+returns-2 c = kept-by-up _ _ _ (c .before .is-none .ensures) (c .if1 .left)
+
+pub is-kept-spec : {M : Type 1} → statement M
+is-kept-spec = tie.close (tie.spec (λ c κs. search needs) (λ c κs. search needs) returns returns-2)

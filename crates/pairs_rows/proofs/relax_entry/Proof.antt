@@ -1,0 +1,32 @@
+-- The entry that is written is the least of the one that was read and the sum.
+use mathlib.Core.Path.{_∙_, ap}
+use Prim.Native.Nat.{min, ℕ}
+use lib.ListN.{set}
+use Rattle.graph.specs.Total.{_⊕_}
+use Rattle.model.specs.Word.{ofWord, word}
+use Rattle.network.specs.Width.{fit}
+use borrow.Author.Needs.{needs}
+use Rattle.pairs_rows.proofs.relax_entry.Statement.{statement}
+use Rattle.pairs_rows.proofs.relax_entry.Tie as tie
+
+returns : tie.Need-returns
+returns c =
+    let after-of-word = c .before .before in
+    let start = after-of-word .before .before .before in
+    ap (set (start .args .row .now) (start .args .h))
+    (c .word .ensures ∙ c .before .or-sum .ensures ∙
+    ap (λ (x : ℕ). min x (word (fit (ofWord (start .args .a .0) ⊕ ofWord (start .args .b .0))))) (after-of-word .of-word .ensures))
+
+pub relax-entry-spec : {M : Type 1} → statement M
+relax-entry-spec =
+    tie.close
+    (tie.spec
+    (λ c. search needs)
+    (λ c. search needs)
+    (λ c κs. search needs)
+    (λ c κs. search needs)
+    (λ c κs. search needs)
+    (λ c. search needs)
+    (λ c. search needs)
+    (λ c. search needs)
+    returns)

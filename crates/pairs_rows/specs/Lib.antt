@@ -1,0 +1,5 @@
+pub mod Links
+pub mod Rows
+pub mod Entries
+pub mod Steps
+pub mod Lending

@@ -1,0 +1,220 @@
+-- The records in the area, appended, and the zeros after them. Assumes nothing.
+use mathlib.Core.Path.{_∙_, _≡_, ap, ap₂, refl, sym}
+use mathlib.Core.Bool.{Bool, false, true}
+use mathlib.Core.List.{List, [], _++_, _∷_, append-assoc, append-nil}
+use Prim.Native.Nat.{_*_, _+_, _-_, _/_, _<_, _≤_, min, suc, zero, ℕ}
+use lib.ListN.{drop, drop-of-length-le, getD, length, length-append, length-drop, replicate, set, take}
+use lib.Seq.{getD-set-other, getD-set-same, length-take-le, take-at}
+use native.Mathlib.Decide.{decLt, ℕ-discrete}
+use native.Mathlib.Numerals.{add-one}
+use native.Mathlib.Omega.{arith}
+use Rattle.graph.specs.Path.{Weights}
+use Rattle.graph.specs.Pairs.{down, up}
+use Rattle.graph.specs.Records.{Pair, begins-length, exists, pairOf, row, row-begins, row-blank, row-kept, row-low, rows}
+use Rattle.model.specs.Word.{noneWord, ofWord, ofWord-none, word}
+use Rattle.model.specs.Areas.{words}
+use Rattle.pairs_rows.specs.Rows.{block}
+use Rattle.network.specs.Width.{fit, fit-is, fit-ofWord}
+use Rattle.pairs_fronts.specs.Fronts.{Holds}
+use Rattle.pairs_storing.specs.Storing.{RowAppended, RowTimes}
+use Rattle.pairs_storing.specs.declared.Stored.the-variants.{All, Full}
+
+-- ---- one record more
+
+words-append : (l m : List Pair) → words (l ++ m) ≡ words l ++ words m
+words-append [] m = refl
+words-append (p ∷ l) m = ap (λ (x : List ℕ). p .low ∷ p .high ∷ word (p .upTime) ∷ word (p .downTime) ∷ x) (words-append l m)
+
+holds-more : {l : List Pair} {k : ℕ} {s : List ℕ} (p : Pair) (z rest : List ℕ) → Holds l k s → z ≡ take (4 * k) s ++ words (p ∷ []) ++ rest
+    → length z ≡ length s → 4 * k + 4 ≤ length s
+    → Holds (l ++ (p ∷ [])) (k + 1) z
+holds-more {l} {k} {s} p z rest h e n room =
+    let f : length (take (4 * k) s ++ words (p ∷ [])) ≡ 4 * (k + 1) = length-append (take (4 * k) s) (words (p ∷ []))
+    ∙ ap (λ (j : ℕ). j + 4) (length-take-le (4 * k) s (h .room)) ∙ four k in
+    record {
+      count-is = omega (arith, h .count-is, length-append l (p ∷ []));
+      room = omega arith;
+      words-are =
+          ap (take (4 * (k + 1))) e ∙ take-at (take (4 * k) s ++ words (p ∷ [])) rest (4 * (k + 1)) f
+          ∙ ap (λ (x : List ℕ). x ++ words (p ∷ [])) (h .words-are) ∙ sym (words-append l (p ∷ []));
+    }
+  where
+    four : (k : ℕ) → 4 * k + 4 ≡ 4 * (k + 1)
+    four k = omega arith
+
+-- ---- the answers
+
+all-same : {a b : ℕ} → All a ≡ All b → a ≡ b
+all-same e = cc
+
+all-full : {a : ℕ} → All a ≡ Full → ⊥
+all-full e = let z : _≡_ {A = ℕ} 0 1 = cc in omega arith
+
+-- ---- the loop over the highs
+
+-- the entries below h are handed out
+pub record Emptied (r h : ℕ) (row₀ row : List ℕ) : Type 0 where
+  pub done : (j : ℕ) → r < j → j < h → getD row j 0 ≡ noneWord
+  pub rest : (j : ℕ) → h ≤ j → getD row j 0 ≡ getD row₀ j 0
+
+emptied-start : (r : ℕ) (row₀ : List ℕ) → Emptied r (r + 1) row₀ row₀
+emptied-start r row₀ = record { done = λ j a b. absurd (omega arith); rest = λ j a. refl }
+
+emptied-turn : {r h : ℕ} {row₀ row : List ℕ} (row′ : List ℕ) → h < length row → row′ ≡ set row h noneWord → Emptied r h row₀ row
+    → Emptied r (h + 1) row₀ row′
+emptied-turn {r} {h} {row₀} {row} row′ l e m =
+    rw e (record {
+      done = λ j a b. at j a b (ℕ-discrete j h);
+      rest = λ j a. getD-set-other row h j noneWord 0 (λ q. omega arith) ∙ m .rest j (omega arith);
+    })
+  where
+    at : (j : ℕ) → r < j → j < h + 1 → Dec (j ≡ h) → getD (set row h noneWord) j 0 ≡ noneWord
+    at j a b (yes q) = ap (λ (x : ℕ). getD (set row h noneWord) x 0) q ∙ getD-set-same row h noneWord 0 l
+    at j a b (no q) = getD-set-other row h j noneWord 0 q ∙ m .done j a (omega arith)
+
+emptied-over : {r h : ℕ} {row₀ row : List ℕ} (g : ℕ) → h ≤ g → ((j : ℕ) → r < j → h ≤ j → j < g → getD row₀ j 0 ≡ noneWord)
+    → Emptied r h row₀ row → Emptied r g row₀ row
+emptied-over {r} {h} {row₀} {row} g l z m = record { done = λ j a b. at j a b (decLt j h); rest = λ j a. m .rest j (omega arith) }
+  where
+    at : (j : ℕ) → r < j → j < g → Dec (j < h) → getD row j 0 ≡ noneWord
+    at j a b (yes q) = m .done j a q
+    at j a b (no q) = m .rest j (omega arith) ∙ z j a (omega arith) b
+
+-- the records of the highs below h stand in the area
+pub record Appending (w : Weights) (n r h k : ℕ) (ups₀ downs₀ ups downs pairs : List ℕ) : Type 0 where
+  pub holds : Holds (rows w n r ++ row w r h) k pairs
+  pub ups-left : Emptied r h ups₀ ups
+  pub downs-left : Emptied r h downs₀ downs
+
+module _ {w : Weights} {n r count : ℕ} {touched ups₀ downs₀ pairs₀ : List ℕ} (g : RowTimes w n r count touched ups₀ downs₀ pairs₀) where
+  up-entry : (h : ℕ) → r < h → h < n → fit (up w r h) ≡ up w r h
+  up-entry h rh hn = fit-is (up w r h) (λ t e. g .narrow .ups r h t (omega arith) hn e)
+
+  down-entry : (h : ℕ) → r < h → h < n → fit (down w r h) ≡ down w r h
+  down-entry h rh hn = fit-is (down w r h) (λ t e. g .narrow .downs r h t (omega arith) hn e)
+
+  -- the two words of an entry are the times of the pair
+  entry-words : (h u d : ℕ) → r < h → h < n → u ≡ getD ups₀ h 0 → d ≡ getD downs₀ h 0 → (u ≡ word (up w r h)) × (d ≡ word (down w r h))
+  entry-words h u d rh hn eu ed = (
+    eu ∙ g .ups-are .at h rh hn ∙ ap word (up-entry h rh hn),
+    ed ∙ g .downs-are .at h rh hn ∙ ap word (down-entry h rh hn),
+  )
+
+  -- the test is that of the pair
+  tested : (h u d : ℕ) → r < h → h < n → u ≡ getD ups₀ h 0 → d ≡ getD downs₀ h 0
+      → exists (ofWord u) (ofWord d) ≡ exists (up w r h) (down w r h)
+  tested h u d rh hn eu ed =
+      ap₂ exists
+      (ap ofWord (eu ∙ g .ups-are .at h rh hn) ∙ fit-ofWord (up w r h) ∙ up-entry h rh hn)
+      (ap ofWord (ed ∙ g .downs-are .at h rh hn) ∙ fit-ofWord (down w r h) ∙ down-entry h rh hn)
+
+  pub append-start : Appending w n r (r + 1) count ups₀ downs₀ ups₀ downs₀ pairs₀
+  append-start =
+      let e : row w r (r + 1) ≡ [] = row-low w r (r + 1) (omega arith) in
+      record { holds = rw (e, append-nil (rows w n r)) (g .holds); ups-left = emptied-start r ups₀; downs-left = emptied-start r downs₀ }
+
+  -- ---- a block that is not touched
+
+  -- no pair with these highs is kept
+  blank : (d h : ℕ) → r < h → h + d ≤ n → ((j : ℕ) → h ≤ j → j < h + d → getD touched (j / block) 0 ≡ 0) → row w r (h + d) ≡ row w r h
+  blank zero h rh hn z = let e : h + 0 ≡ h = omega arith in ap (row w r) e
+  blank (suc d) h rh hn z =
+      let e : h + suc d ≡ suc (h + d) = omega arith in
+      let k : h + d < n = omega arith in
+      let t = z (h + d) (omega arith) (omega arith) in
+      let u : noneWord ≡ getD ups₀ (h + d) 0 = sym (g .marked .ups-none (h + d) (omega arith) k t) in
+      let v : noneWord ≡ getD downs₀ (h + d) 0 = sym (g .marked .downs-none (h + d) (omega arith) k t) in
+      let x : exists (ofWord noneWord) (ofWord noneWord) ≡ false = ap₂ exists ofWord-none ofWord-none in
+      let q : exists (up w r (h + d)) (down w r (h + d)) ≡ false = sym (tested (h + d) noneWord noneWord (omega arith) k u v) ∙ x in
+      ap (row w r) e ∙ row-blank w r (h + d) q ∙ blank d h rh (omega arith) (λ j a b. z j a (omega arith))
+
+  pub append-over : {k : ℕ} {ups downs pairs : List ℕ} (h to : ℕ) → r < h → h < n → to ≡ min (block * (h / block) + block) n
+      → getD touched (h / block) 0 ≡ 0
+      → Appending w n r h k ups₀ downs₀ ups downs pairs → Appending w n r to k ups₀ downs₀ ups downs pairs
+  append-over {k} {ups} {downs} {pairs} h to rh hn et t inv = record {
+    holds = rw same (inv .holds);
+    ups-left = emptied-over to (omega arith) (λ j a b c. g .marked .ups-none j a (omega arith) (all j b c)) (inv .ups-left);
+    downs-left = emptied-over to (omega arith) (λ j a b c. g .marked .downs-none j a (omega arith) (all j b c)) (inv .downs-left);
+  }
+    where
+      all : (j : ℕ) → h ≤ j → j < to → getD touched (j / block) 0 ≡ 0
+      all j a b = let q : j / block ≡ h / block = omega arith in ap (λ (x : ℕ). getD touched x 0) q ∙ t
+
+      same : row w r to ≡ row w r h
+      same =
+          let e : to ≡ h + (to - h) = omega arith in
+          ap (row w r) e ∙ blank (to - h) h rh (omega arith) (λ j a b. all j a (omega arith))
+
+  -- ---- the entry of h is handed out
+
+  module _ (h u d k : ℕ) (ups downs ups′ downs′ pairs : List ℕ) (b : Bool) (rh : r < h) (hn : h < n) (lu : h < length ups)
+      (ld : h < length downs) (eu : u ≡ getD ups h 0) (zu : ups′ ≡ set ups h noneWord)
+      (ed : d ≡ getD downs h 0) (zd : downs′ ≡ set downs h noneWord) (eb : b ≡ exists (ofWord u) (ofWord d))
+      (inv : Appending w n r h k ups₀ downs₀ ups downs pairs) where
+    up-first : u ≡ getD ups₀ h 0
+    up-first = eu ∙ inv .ups-left .rest h (omega arith)
+
+    down-first : d ≡ getD downs₀ h 0
+    down-first = ed ∙ inv .downs-left .rest h (omega arith)
+
+    pub append-skip : b ≡ false → Appending w n r (h + 1) k ups₀ downs₀ ups′ downs′ pairs
+    append-skip t = record {
+      holds = rw (add-one h, row-blank w r h (sym (tested h u d rh hn up-first down-first) ∙ sym eb ∙ t)) (inv .holds);
+      ups-left = emptied-turn ups′ lu zu (inv .ups-left);
+      downs-left = emptied-turn downs′ ld zd (inv .downs-left);
+    }
+
+    more : b ≡ true → row w r (suc h) ≡ row w r h ++ (pairOf w r h ∷ [])
+    more t = row-kept w r h (sym (tested h u d rh hn up-first down-first) ∙ sym eb ∙ t)
+
+    pub append-put : b ≡ true → (z rest : List ℕ) → z ≡ take (4 * k) pairs ++ (r ∷ h ∷ u ∷ d ∷ []) ++ rest → length z ≡ length pairs
+        → 4 * k + 4 ≤ length pairs
+        → Appending w n r (h + 1) (k + 1) ups₀ downs₀ ups′ downs′ z
+    append-put t z rest e l room =
+        let f = entry-words h u d rh hn up-first down-first in
+        let q : z ≡ take (4 * k) pairs ++ words (pairOf w r h ∷ []) ++ rest = rw (f .0, f .1) at e in
+        record {
+          holds = rw (add-one h, more t, ← (append-assoc (rows w n r) (row w r h) (pairOf w r h ∷ [])))
+              (holds-more (pairOf w r h) z rest (inv .holds) q l room);
+          ups-left = emptied-turn ups′ lu zu (inv .ups-left);
+          downs-left = emptied-turn downs′ ld zd (inv .downs-left);
+        }
+
+    pub append-full : b ≡ true → length pairs < 4 * k + 4 → RowAppended w n r ups′ downs′ pairs Full
+    append-full t full =
+        let e : rows w n (r + 1) ≡ rows w n r ++ row w r n = ap (rows w n) (add-one r) in
+        let a = ap length e ∙ length-append (rows w n r) (row w r n) in
+        let c = ap length (more t) ∙ length-append (row w r h) (pairOf w r h ∷ []) in
+        let i = inv .holds .count-is ∙ length-append (rows w n r) (row w r h) in
+        record {
+          appended = record {
+            all = λ j q. absurd (all-full (sym q));
+            full = λ q. omega (arith, a, c, i, begins-length (row-begins w r (suc h) n hn));
+          };
+          ups-none = λ j q. absurd (all-full (sym q));
+          downs-none = λ j q. absurd (all-full (sym q));
+        }
+
+  pub append-end : (h k : ℕ) (ups downs pairs : List ℕ) → h ≡ n → length ups ≡ length ups₀ → length downs ≡ length downs₀
+      → Appending w n r h k ups₀ downs₀ ups downs pairs
+      → RowAppended w n r ups downs pairs (All k)
+  append-end h k ups downs pairs e lu ld inv =
+      let i = inv .holds in
+      let s : Holds (rows w n (r + 1)) k pairs = rw (add-one r) (rw e at i) in
+      record {
+        appended = record { all = λ j q. rw (all-same q) at s; full = λ q. absurd (all-full q) };
+        ups-none = λ j q. record { wide = omega (arith, g .ups-are .wide); at = λ a ra an. inv .ups-left .done a ra (omega arith) };
+        downs-none = λ j q. record { wide = omega (arith, g .downs-are .wide); at = λ a ra an. inv .downs-left .done a ra (omega arith) };
+      }
+
+-- ---- zeros after the last
+
+-- the rest of the area from k on, filled as a part of it
+pub rest-filled : (m k : ℕ) (s y : List ℕ) → k ≡ m → y ≡ replicate (length (take (length s - k) (drop k s))) 0
+    → take k s ++ (y ++ drop (length s - k) (drop k s)) ≡ take m s ++ replicate (length s - m) 0
+rest-filled m k s y e f =
+    let n : length (drop k s) ≡ length s - k = length-drop k s in
+    let t : length (take (length s - k) (drop k s)) ≡ length s - k = length-take-le (length s - k) (drop k s) (omega arith) in
+    let z : drop (length s - k) (drop k s) ≡ [] = drop-of-length-le (drop k s) {i = length s - k} (omega arith) in
+    ap (λ (x : List ℕ). take k s ++ (y ++ x)) z ∙ ap (_++_ (take k s)) (append-nil y ∙ f ∙ ap (λ (j : ℕ). replicate j 0) t)
+    ∙ ap (λ (j : ℕ). take j s ++ replicate (length s - j) 0) e

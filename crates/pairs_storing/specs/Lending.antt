@@ -1,0 +1,21 @@
+-- The areas that appending a row is lent, and what its clauses say of them. Definitions only.
+use mathlib.Core.List.{List}
+use Prim.Native.Nat.{_*_, _<_, _≤_, ℕ}
+use lib.ListN.{length}
+use Rattle.graph.specs.Path.{Weights}
+use Rattle.model.specs.Limits.{mostJunctions, mostPairs}
+use Rattle.pairs_rows.specs.Lending.{Times}
+use Rattle.pairs_rows.specs.Rows.{block}
+use Rattle.pairs_storing.specs.declared.Stored.{Stored}
+use Rattle.pairs_storing.specs.Storing.{RowAppended, RowTimes}
+
+-- n ranks fit the row of times, and `count` records the area
+abbrev pub AppendAsked : (n r count : ℕ) → Times → (pairs : List ℕ) → Type 0
+AppendAsked n r count t pairs = (r < n) × (n ≤ mostJunctions) × (n ≤ block * length (t .touched)) × (n ≤ length (t .ups))
+    × (n ≤ length (t .downs)) × (4 * count ≤ length pairs) × (length pairs ≤ 4 * mostPairs)
+
+abbrev pub RowTimesIn : Weights → (n r count : ℕ) → Times → (pairs : List ℕ) → Type 0
+RowTimesIn w n r count t pairs = RowTimes w n r count (t .touched) (t .ups) (t .downs) pairs
+
+abbrev pub RowAppendedIn : Weights → (n r : ℕ) → Times → (pairs : List ℕ) → Stored → Type 0
+RowAppendedIn w n r t pairs answer = RowAppended w n r (t .ups) (t .downs) pairs answer

@@ -1,0 +1,16 @@
+-- `serve::text_of`: an area that has fewer bytes is its own beginning. Assumes nothing.
+use Rattle.program_serve.proofs.Talks.{first-bytes, whole-area}
+use borrow.Author.Needs.{needs}
+use Rattle.program_serve.proofs.text_of.Statement.{statement}
+use Rattle.program_serve.proofs.text_of.Tie as tie
+
+returns : tie.Need-returns
+returns c =
+    let start = c .before .before in
+    first-bytes (start .args .k) (start .args .out .now)
+
+returns-2 : tie.Need-returns-2
+returns-2 c = whole-area _ _ (c .if1 .left)
+
+pub text-of-spec : {M : Type 1} → statement M
+text-of-spec = tie.close (tie.spec (λ c. search needs) (λ c. search needs) (λ c. search needs) returns returns-2)

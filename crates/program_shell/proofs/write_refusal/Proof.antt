@@ -1,0 +1,29 @@
+-- By 7 the line is `no 0`, else that of the refusal. Assumes nothing.
+use Rattle.program_shell.proofs.Cards.{larger-line, refused-line}
+use borrow.Author.Needs.{needs}
+use Rattle.program_shell.proofs.write_refusal.Statement.{statement}
+use Rattle.program_shell.proofs.write_refusal.Tie as tie
+
+returns : tie.Need-returns
+returns c =
+    let after-write-unreadable = c .before .before in
+    let then1 = after-write-unreadable .before .before in
+    larger-line _ _ _ _ (then1 .if1 .taken) (after-write-unreadable .write-unreadable .ensures)
+
+returns-2 : tie.Need-returns-2
+returns-2 c =
+    let after-write-answer = c .before .before in
+    let else1 = after-write-answer .before .before .before in
+    refused-line _ _ _ _ (else1 .if1 .left) (after-write-answer .write-answer .ensures)
+
+pub write-refusal-spec : {M : Type 1} → statement M
+write-refusal-spec =
+    tie.close
+    (tie.spec
+    (λ c κs. search needs)
+    (λ c. search needs)
+    returns
+    (λ c. search needs)
+    (λ c κs. search needs)
+    (λ c. search needs)
+    returns-2)

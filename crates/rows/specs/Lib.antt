@@ -1,4 +1,0 @@
-pub mod Links
-pub mod Rows
-pub mod Entries
-pub mod Steps

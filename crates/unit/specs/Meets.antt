@@ -1,0 +1,67 @@
+-- What the functions of this crate promise: the contract of a call, by the areas at entry and at exit. Definitions only.
+use mathlib.Core.Path.{_≡_}
+use mathlib.Core.Bool.{_&&_, true}
+use mathlib.Core.Option.{Option, none}
+use mathlib.Core.List.{List}
+use Prim.Native.Nat.{ℕ}
+use lib.Dec.{ltb}
+use denote.Triple.Both.{Both}
+use Rattle.graph.specs.Total.{Total}
+use Rattle.model.specs.Types as model
+use Rattle.model.specs.Card.{andThen, ask}
+use Rattle.model.specs.Areas.{Areas, Each, lengths}
+use Rattle.model.specs.State.{Lent}
+use Rattle.model.specs.Machine.{targetOf}
+use Rattle.model.specs.Estimate.{withEstimates}
+use Rattle.model.specs.Calls.{Aim, Asked, Call, Estimate, Go, Set, calling, knownOf, refusalOf}
+use Rattle.model.specs.Contracts.{CallContract, after, before}
+use Rattle.network.specs.Lending.{Slice}
+use Rattle.unit_questions.specs.Lending.{fitsBy, untouched}
+use Rattle.unit.specs.declared.Header.{Header}
+use Rattle.unit.specs.declared.Answered.{Answered}
+use Rattle.unit.specs.Shape.{answeredIn, headerIn}
+
+-- ---- calls over all the areas
+
+-- what a call on a card does to the header, the unit's areas and those that it is lent is document 01's
+abbrev pub Meets : (card : List ℕ) → Header → Both Areas Areas → Both Lent Lent → Asked → Answered → Type 0
+Meets card h a l c r = CallContract card (before (headerIn h) (a .entry)) (calling c (l .entry)) (after (answeredIn r) (a .exit) (l .exit))
+
+-- a call that is lent nothing beside the unit's areas: whatever is lent with it stays untouched
+abbrev pub MeetsAlone : (card : List ℕ) → Header → Both Areas Areas → Asked → Answered → Type 0
+MeetsAlone card h a c r = (l : Lent) → Meets card h a (untouched l) c r
+
+-- ---- questions 9 to 14, of the header and of lengths
+
+-- 9 first, then the call's own questions; route and log are the lengths of what is lent
+abbrev pub asks : (base : ℕ → Total) → model.Header → (card : ℕ) → Each ℕ → Asked → (route log : ℕ) → Option model.Refusal
+asks base h card l c r k = ask (fitsBy h card l) model.Lengths (refusalOf (knownOf base h) c r k)
+
+-- the same of a go; then 9 for a target out of range, which no list of calls leaves
+abbrev pub asksGo : (base : ℕ → Total) → model.Header → (card : ℕ) → Each ℕ → (start route log : ℕ) → Option model.Refusal
+asksGo base h card l s r k =
+    andThen (asks base h card l (Go s) r k) (ask (ltb (targetOf (h .target)) (h .n)) model.Lengths none)
+
+-- ---- calls on lengths and on the areas that they read or write: what holds whatever stands in the others
+
+-- the areas of these lengths, with these live times
+abbrev pub withLive : Areas → List ℕ → Areas
+withLive a live = record { built = a .built; live = live; aimed = a .aimed; trip = a .trip }
+
+abbrev pub withAimed : Areas → (down estimates : List ℕ) → Areas
+withAimed a d e = record { built = a .built; live = a .live; aimed = record { down = d; estimates = e }; trip = a .trip }
+
+abbrev pub SetPart : (card : List ℕ) → Header → Each ℕ → (live : Slice) → (road time : ℕ) → Answered → Type 0
+SetPart card h l live i t r = (a : Areas) → lengths a ≡ l → a .live ≡ live .entry .now
+    → MeetsAlone card h (record { entry = a; exit = withLive a (live .exit .now) }) (Set i t) r
+
+abbrev pub AimPart : (card : List ℕ) → Header → Each ℕ → (pairs down estimates : Slice) → (junction : ℕ) → Answered → Type 0
+AimPart card h l pairs down estimates j r = (a : Areas) → lengths a ≡ l → a .built .pairs ≡ pairs .entry .now
+    → a .aimed ≡ record { down = down .entry .now; estimates = estimates .entry .now }
+    → MeetsAlone card h (record { entry = a; exit = withAimed a (down .exit .now) (estimates .exit .now) }) (Aim j) r
+
+abbrev pub EstimatePart : (card : List ℕ) → Header → Each ℕ → (ranks pairs down estimates : Slice) → (junction : ℕ) → Answered → Type 0
+EstimatePart card h l ranks pairs down estimates j r = (a : Areas) → lengths a ≡ l
+    → a .built ≡ record { ranks = ranks .entry .now; pairs = pairs .entry .now }
+    → a .aimed ≡ record { down = down .entry .now; estimates = estimates .entry .now }
+    → MeetsAlone card h (record { entry = a; exit = withAimed a (down .entry .now) (estimates .exit .now) }) (Estimate j) r

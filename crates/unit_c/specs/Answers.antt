@@ -1,0 +1,59 @@
+-- Headers and answers as C holds them. Definitions, and that a header comes back from its words.
+use mathlib.Core.Path.{_≡_, refl}
+use mathlib.Core.Bool.{cond}
+use Prim.Native.Nat.{ℕ}
+use lib.Dec.{eqb}
+use Rattle.network.specs.declared.Sizes.{Sizes}
+use Rattle.unit_answers.specs.declared.Answer.{Answer}
+use Rattle.unit_answers.specs.declared.Answer.the-variants.{Accepted, Estimated, Gone, Refused}
+use Rattle.unit.specs.declared.Target.{Target}
+use Rattle.unit.specs.declared.Target.the-variants.{Absent, At}
+use Rattle.unit.specs.declared.Header.{Header}
+use Rattle.unit.specs.declared.Answered.{Answered}
+use Rattle.unit_c.specs.declared.UnitHeader.{UnitHeader}
+use Rattle.unit_c.specs.declared.UnitAnswer.{UnitAnswer}
+
+-- ---- headers
+
+-- there is a target where `aimed` is not 0
+abbrev pub targetOf : (aimed target : ℕ) → Target
+targetOf a t = cond (eqb a 0) Absent (At (record { 0 = t }))
+
+-- the header that C's words stand for
+abbrev pub headerOf : UnitHeader → Header
+headerOf h = record { sizes = record { n = h .n; m = h .m; pairs = h .pairs }; target = targetOf (h .aimed) (h .target) }
+
+abbrev pub headerTo : Sizes → Target → UnitHeader
+headerTo s Absent = record { n = s .n; m = s .m; pairs = s .pairs; aimed = 0; target = 0 }
+headerTo s (At z) = record { n = s .n; m = s .m; pairs = s .pairs; aimed = 1; target = z .0 }
+
+-- the words that stand for a header
+abbrev pub headerWords : Header → UnitHeader
+headerWords h = headerTo (h .sizes) (h .target)
+
+header-to : (s : Sizes) (t : Target) → headerOf (headerTo s t) ≡ record { sizes = s; target = t }
+header-to s Absent = refl
+header-to s (At z) = refl
+
+-- so a caller that keeps the words it is handed makes a list of the unit's calls
+pub header-back : (h : Header) → headerOf (headerWords h) ≡ h
+header-back h = header-to (h .sizes) (h .target)
+
+-- ---- answers
+
+abbrev pub acceptedWords : UnitHeader → (total count roads : ℕ) → UnitAnswer
+acceptedWords h t c k = record { header = h; question = 0; place = 0; total = t; count = c; roads = k }
+
+abbrev pub answerTo : UnitHeader → Answer → UnitAnswer
+answerTo h (Refused q) = record { header = h; question = q .question; place = q .place; total = 0; count = q .count; roads = 0 }
+answerTo h Accepted = acceptedWords h 0 0 0
+answerTo h (Estimated t) = acceptedWords h (t .0) 0 0
+answerTo h (Gone t c k) = acceptedWords h t c k
+
+-- the words that stand for what is handed back
+abbrev pub answerWords : Answered → UnitAnswer
+answerWords r = answerTo (headerWords (r .header)) (r .answer)
+
+-- the words of something handed back that P holds of
+abbrev pub Tells : (P : Answered → Type 0) → UnitAnswer → Type 0
+Tells P w = (x : Answered) × (w ≡ answerWords x) × P x

@@ -1,0 +1,118 @@
+-- The two ends of preparing once questions 1 to 7 have passed: no room for the pairs, or all areas filled. Assumes nothing.
+use mathlib.Core.Path.{_∙_, _≡_, ap, ap₂, subst₂, sym}
+use mathlib.Core.Option.{none}
+use mathlib.Core.List.{List}
+use Prim.Native.Nat.{_*_, _<_, ℕ}
+use borrow.Author.Tests.{le-leb, lt-leb}
+use lib.ListN.{length, replicate}
+use native.Mathlib.Omega.{arith}
+use Rattle.graph.specs.Map.{Map, pairsOf, rank}
+use Rattle.model.specs.Types.{Absent, Accepted, AreaLengths, Refused, Room}
+use Rattle.model.specs.Word.{noneWord, unasked, word}
+use Rattle.model.specs.Bytes.{listed}
+use Rattle.model.specs.Layout.{cardSize, placeSize, roadSize}
+use Rattle.model.specs.Card.{cardRefusal, mapOn}
+use Rattle.model.specs.Areas.{Areas, Each, areasOf, freshAreas, lengths, lengthsFit, recordSize, recordsIn}
+use Rattle.model.specs.State.{answering, areasRefusal, noneLent, prepare, roomRefusal, unprepared}
+use Rattle.model.specs.Contracts.{PrepareContract, before}
+use Rattle.model.specs.Laws.{andThen-none, ask-none}
+use Rattle.model.specs.Accept.{card-facts}
+use Rattle.model.specs.Good.{LengthFacts, lengths-facts}
+use Rattle.model.specs.Ends.{listed-same}
+use Rattle.network.specs.Bodies.{Prepared, Sound, base-in, map-facts, mapIn}
+use Rattle.network.specs.declared.Sizes.{Sizes}
+use Rattle.pairs_contraction.specs.Contraction.{Contraction, contraction-overflow}
+use Rattle.pairs_contraction.specs.declared.Contracted.{Contracted}
+use Rattle.pairs_contraction.specs.declared.Contracted.the-variants.{Kept, Overflow}
+use Rattle.card_layout.specs.Parts.{card-sound, map-is, orderIn, roadsIn}
+use Rattle.unit_preparing.specs.Preparing.{Accepts, baseIn, handedBack}
+use Rattle.unit_preparing.proofs.Areas.{alike-same, zerosOf}
+
+-- ---- what questions 1 to 7 say
+
+module _ {card : List ℕ} {s : Sizes} {a : Areas} (ok : Accepts card s a) where
+  pub accepted : cardRefusal card ≡ none
+  unfolding areasRefusal
+  accepted = andThen-none (cardRefusal card) _ (ok .passes) .0
+
+  pub sized : LengthFacts (mapOn card .vertices) (mapOn card .base .arcs) 0 (lengths a)
+  unfolding areasRefusal
+  sized =
+      let M = mapOn card in
+      let fits = lengthsFit (M .vertices) (M .base .arcs) 0 (lengths a) in
+      let q = andThen-none (cardRefusal card) _ (ok .passes) .1 in
+      lengths-facts (M .vertices) (M .base .arcs) 0 (lengths a) (ask-none fits AreaLengths none q .0)
+
+  pub card-size : length card ≡ cardSize (s .n) (s .m)
+  card-size = let c = card-facts card accepted in omega (arith, c .size, ok .n-is, ok .m-is)
+
+-- the two bodies of the card, handed on
+pub record Bodies (card : List ℕ) (s : Sizes) (a : Areas) (roads order : List ℕ) : Type 0 where
+  pub accepts : Accepts card s a
+  pub roads-here : roads ≡ roadsIn card (s .m)
+  pub order-here : order ≡ orderIn card (s .n) (s .m)
+
+module _ {card : List ℕ} {s : Sizes} {a : Areas} {roads order : List ℕ} (b : Bodies card s a roads order) where
+  pub sound : Sound roads order
+  sound =
+      let ok = b .accepts in
+      subst₂ Sound (sym (b .roads-here)) (sym (b .order-here)) (card-sound card (accepted ok) (s .n) (s .m) (ok .n-is) (ok .m-is))
+
+  pub map-here : mapIn roads order ≡ mapOn card
+  map-here =
+      let ok = b .accepts in
+      ap₂ mapIn (b .roads-here) (b .order-here) ∙ map-is card (accepted ok) (s .n) (s .m) (ok .n-is) (ok .m-is)
+
+  pub order-long : length order ≡ placeSize * length (a .built .ranks)
+  order-long = omega (arith, map-facts sound .order-is, ap (λ (M : Map). M .vertices) map-here, sized (b .accepts) .ranks)
+
+  pub roads-long : length roads ≡ roadSize * length (a .live)
+  roads-long = omega (arith, map-facts sound .roads-are, ap (λ (M : Map). M .base .arcs) map-here, sized (b .accepts) .live)
+
+  -- ---- the pairs do not fit: what is left has the lengths of what was lent, and becomes zeros
+
+  pub no-room : {pairs : List ℕ} {z : Contracted} → Contraction (mapIn roads order) (length (a .built .pairs)) pairs z → z ≡ Overflow
+      → {left : Each ℕ} → left ≡ lengths a → {y : Areas} → y ≡ zerosOf left → PrepareContract card a y (handedBack s Overflow)
+  unfolding prepare roomRefusal
+  no-room c e k z =
+      let h = contraction-overflow c e in
+      let q : length (a .built .pairs) < recordSize * length (pairsOf (mapOn card)) = omega (
+        arith,
+        h,
+        ap (λ (M : Map). length (pairsOf M)) map-here,
+      ) in
+      rw (b .accepts .passes, lt-leb (recordSize * length (pairsOf (mapOn card))) (length (a .built .pairs)) q)
+      (ap (λ (x : Areas). answering (Refused Room) (unprepared x) noneLent) (z ∙ ap zerosOf k))
+
+  -- ---- the pairs fit
+
+  lives : listed (length (a .live)) (baseIn roads) ≡ listed (mapOn card .base .arcs) (λ i. word (mapOn card .base .cost i))
+  lives =
+      let f = map-facts sound in
+      let k : mapIn roads order .base .arcs ≡ mapOn card .base .arcs = ap (λ (M : Map). M .base .arcs) map-here in
+      ap (λ (n : ℕ). listed n (baseIn roads)) (sized (b .accepts) .live)
+      ∙ listed-same (mapOn card .base .arcs) (baseIn roads) (λ i. word (mapOn card .base .cost i))
+      (λ i l. sym (ap word (ap (λ (M : Map). M .base .cost i) (sym map-here) ∙ base-in roads order i (omega (arith, f .roads-are, k)))))
+
+  pub with-room : {ranks pairs live down estimates elapsed : List ℕ} {count : ℕ} → Prepared roads order ranks pairs count
+      → length pairs ≡ length (a .built .pairs) → live ≡ listed (length (a .live)) (baseIn roads)
+      → down ≡ replicate (length (a .aimed .down)) noneWord → estimates ≡ replicate (length (a .aimed .estimates)) unasked
+      → elapsed ≡ replicate (length (a .trip .elapsed)) noneWord
+      → PrepareContract card a (areasOf ranks pairs live down estimates elapsed) (handedBack s (Kept count))
+  unfolding prepare roomRefusal
+  with-room p k live-is down-is estimates-are elapsed-is =
+      let z = sized (b .accepts) in
+      let M = mapOn card in
+      let n-is = b .accepts .n-is in
+      let m-is = b .accepts .m-is in
+      let count-is = p .count-is ∙ ap (λ (M : Map). length (pairsOf M)) map-here in
+      let fresh = alike-same {y = freshAreas M (length (a .built .pairs))} (record {
+        ranks = p .ranks-are ∙ ap (λ (M : Map). listed (M .vertices) (rank M)) map-here;
+        pairs = p .pairs-are ∙ ap₂ recordsIn map-here k;
+        live = live-is ∙ lives;
+        down = down-is ∙ ap (λ (n : ℕ). replicate n noneWord) (z .down);
+        estimates = estimates-are ∙ ap (λ (n : ℕ). replicate n unasked) (z .estimates);
+        elapsed = elapsed-is ∙ ap (λ (n : ℕ). replicate n noneWord) (z .elapsed);
+      }) in
+      rw (b .accepts .passes, le-leb (recordSize * length (pairsOf M)) (length (a .built .pairs)) (omega (arith, p .room, count-is, k)))
+      (λ i. answering Accepted (before (record { n = n-is i; m = m-is i; pairs = count-is i; target = Absent }) (fresh i)) noneLent)

@@ -1,0 +1,121 @@
+-- The two bodies are sound and have the card's map, so ranks and contraction are that map's. Where its pairs do not fit, all areas have
+-- their lengths still and become zeros; where they fit, each of the others is filled by its own call.
+use mathlib.Core.Path.{refl}
+use native.Mathlib.Omega.{arith}
+use Rattle.model.specs.Areas.{Areas}
+use Rattle.pairs_contraction.specs.Contraction.{contraction-prepared}
+use Rattle.unit_preparing.specs.Preparing.{held}
+use Rattle.unit_preparing.proofs.Areas.{alike-same}
+use Rattle.unit_preparing.proofs.Prepares.{Bodies, card-size, no-room, order-long, roads-long, sized, sound, with-room}
+use borrow.Author.Needs.{needs}
+use Rattle.unit_preparing.proofs.prepare_areas.Statement.{statement}
+use Rattle.unit_preparing.proofs.prepare_areas.Tie as tie
+
+-- ---- the call, the areas that it was lent, and the bodies once both were handed on
+
+abbrev start : tie.After-slice-known6 → tie.Start
+start c = let entry = c .before .before .before .before .before .before .before in entry
+
+abbrev areas : tie.Start → Areas
+areas c = let a = c .args in held (a .ranks) (a .pairs) (a .live) (a .down) (a .estimates) (a .elapsed)
+
+bodies : (c : tie.After-order-of) →
+    let s = start (c .before .before) in
+    Bodies (s .args .card .now) (s .args .s) (areas s) (c .before .roads-of .result .now) (c .order-of .result .now)
+bodies c = record {
+  accepts = start (c .before .before) .pre;
+  roads-here = c .before .roads-of .ensures;
+  order-here = c .order-of .ensures;
+}
+
+-- ---- what the callees ask
+
+roads-of-requires : tie.Need-roads-of-requires
+roads-of-requires c κs = omega (arith, card-size (start c .pre))
+
+order-of-requires : tie.Need-order-of-requires
+order-of-requires c κs = omega (arith, card-size (start (c .before) .pre))
+
+fill-ranks-requires : tie.Need-fill-ranks-requires
+fill-ranks-requires c κs = let b = bodies (c .before) in ((_, sound b), order-long b)
+
+contract-requires : tie.Need-contract-requires
+contract-requires c κs =
+    let after-fill-ranks = c .before .before .before .before in
+    let after-order-of = after-fill-ranks .before .before in
+    let after-roads-of = after-order-of .before in
+    let b = bodies after-order-of in
+    (sound b, after-fill-ranks .fill-ranks .ensures (after-roads-of .roads-of .result .now), sized (b .accepts) .pairs-high)
+
+fill-live-requires : tie.Need-fill-live-requires
+fill-live-requires c κs =
+    let after-fill-ranks = c .before .before .before .before .before .before .before .before .before .before .before in
+    let after-order-of = after-fill-ranks .before .before in
+    roads-long (bodies after-order-of)
+
+-- ---- the two ends
+
+returns : tie.Need-returns
+returns c =
+    let after-clear = c .before .before .before .before .before .before .before .before .before .before .before .before in
+    let after-enum-told = after-clear .before .before .before .before .before .before .before in
+    let after-contract = after-enum-told .before .before .before .before in
+    let after-fill-ranks = after-contract .before .before .before .before .before in
+    let after-order-of = after-fill-ranks .before .before in
+    no-room (bodies after-order-of) (after-contract .contract .ensures) (after-enum-told .enum-told .given .1)
+    (alike-same (record {
+      ranks = after-fill-ranks .fill-ranks .kept .1 .0;
+      pairs = after-contract .contract .kept .1 .1 .1 .0;
+      live = refl;
+      down = refl;
+      estimates = refl;
+      elapsed = refl;
+    })) (after-clear .clear .ensures)
+
+returns-2 : tie.Need-returns-2
+returns-2 c =
+    let after-fill3 = c .before .before in
+    let after-fill2 = after-fill3 .before .before .before .before in
+    let after-fill = after-fill2 .before .before .before .before in
+    let after-fill-live = after-fill .before .before .before .before in
+    let after-count = after-fill-live .before .before .before in
+    let after-contract = after-count .before .before .before .before in
+    let after-fill-ranks = after-contract .before .before .before .before .before in
+    let after-order-of = after-fill-ranks .before .before in
+    let after-roads-of = after-order-of .before in
+    let b = bodies after-order-of in
+    let ranks-are = after-fill-ranks .fill-ranks .ensures (after-roads-of .roads-of .result .now) in
+    let room-is = after-contract .contract .kept .1 .1 .1 .0 in
+    let made = contraction-prepared (sound b) ranks-are room-is (after-count .count .given .1) (after-contract .contract .ensures) in
+    with-room b made room-is (after-fill-live .fill-live .ensures) (after-fill .fill .ensures) (after-fill2 .fill2 .ensures)
+    (after-fill3 .fill3 .ensures)
+
+pub prepare-areas-spec : {M : Type 1} → statement M
+prepare-areas-spec =
+    tie.close
+    (tie.spec
+    roads-of-requires
+    order-of-requires
+    fill-ranks-requires
+    contract-requires
+    (λ c. search needs)
+    (λ c κs. search needs)
+    (λ c. search needs)
+    fill-live-requires
+    (λ c κs. search needs)
+    (λ c κs. search needs)
+    (λ c κs. search needs)
+    (λ c. search needs)
+    (λ c. search needs)
+    (λ c. search needs)
+    (λ c. search needs)
+    (λ c. search needs)
+    (λ c. search needs)
+    returns
+    (λ c. search needs)
+    (λ c. search needs)
+    (λ c. search needs)
+    (λ c. search needs)
+    (λ c. search needs)
+    (λ c. search needs)
+    returns-2)

@@ -1,0 +1,96 @@
+// Questions 7, 9, 11 and 14 on numbers.
+ghost use mathlib.Core.Path.{_≡_};
+ghost use mathlib.Core.Bool.{_&&_};
+ghost use mathlib.Core.Option.{some};
+ghost use lib.Dec.{leb};
+ghost use Rattle.model.specs.Word.{ofWord};
+ghost use Rattle.model.specs.Limits.{mostJunctions, mostRoads};
+ghost use Rattle.model.specs.Areas.{lengths, lengthsFit, roomFits};
+ghost use Rattle.model.specs.State.{question9};
+ghost use Rattle.model.specs.Set.{settable};
+ghost use Rattle.network.specs.Lending.{areas};
+ghost use Rattle.unit_questions.specs.Lending.{lengthsIn};
+use network::Sizes;
+use network::Time;
+use network::TimeWord;
+
+// The lengths of the unit's areas.
+pub struct Lengths {
+    pub ranks: usize,
+    pub pairs: usize,
+    pub live: usize,
+    pub down: usize,
+    pub estimates: usize,
+    pub elapsed: usize,
+}
+
+// The lengths of the areas that are lent.
+pub fn lengths_of(
+    ranks: &[u32],
+    pairs: &[u32],
+    live: &[TimeWord],
+    down: &[TimeWord],
+    estimates: &[TimeWord],
+    elapsed: &[TimeWord],
+) -> Lengths
+    ensures { λ r. ⌜ lengthsIn r ≡ lengths (areas ranks pairs live down estimates elapsed .entry) ⌝ }
+{
+    Lengths {
+        ranks: ranks.len(),
+        pairs: pairs.len(),
+        live: live.len(),
+        down: down.len(),
+        estimates: estimates.len(),
+        elapsed: elapsed.len(),
+    }
+}
+
+// Words of records, with room for so many pairs.
+fn room_fits(pairs: u32, room: usize) -> bool
+    ensures { λ r. ⌜ r ≡ roomFits pairs room ⌝ }
+{
+    (room % network::RECORD == 0)
+        & (network::RECORD * (pairs as usize) <= room)
+        & (room <= network::MOST_PAIR_WORDS)
+}
+
+// Question 7, and of 9 what it says of the areas.
+pub fn lengths_fit(s: Sizes, l: Lengths) -> bool
+    ensures { λ r. ⌜ r ≡ lengthsFit (s .n) (s .m) (s .pairs) (lengthsIn l) ⌝ }
+{
+    let n = s.n as usize;
+    let m = s.m as usize;
+    (l.ranks == n)
+        & room_fits(s.pairs, l.pairs)
+        & (l.live == m)
+        & (l.down == n)
+        & (l.estimates == n)
+        & (l.elapsed == n)
+}
+
+// Question 9, of the header's numbers and the lengths. A header out of range is refused too: no list of calls leaves one.
+pub fn fits(s: Sizes, card: usize, l: Lengths) -> bool
+    ensures { λ r. ⌜ r ≡ (leb (s .n) mostJunctions && leb (s .m) mostRoads && question9 (s .n) (s .m) (s .pairs) card (lengthsIn l)) ⌝ }
+{
+    (s.n <= network::MOST_JUNCTIONS)
+        & (s.m <= network::MOST_ROADS)
+        & ((card == card_layout::card_size(s.n, s.m)) & lengths_fit(s, l))
+}
+
+// Question 11.
+pub fn allowed(base: Time, t: Time) -> bool
+    ensures { λ r. ⌜ r ≡ settable (some (base .0)) (ofWord (t .0)) ⌝ }
+{
+    if t.is_closed() {
+        return true;
+    }
+    (base.0 <= t.0) & (t.0 <= network::MOST_TIME)
+}
+
+// Question 14.
+pub fn lent_fit(n: u32, route: usize, log: usize) -> bool
+    ensures { λ r. ⌜ r ≡ (leb n route && leb n log) ⌝ }
+{
+    let n = n as usize;
+    (n <= route) & (n <= log)
+}

@@ -1,0 +1,284 @@
+-- A script of calls: the turns of its run, and the machine's answers. Assumes nothing.
+use mathlib.Core.Path.{_∙_, _≡_, ap, ap₂, refl, subst, sym}
+use mathlib.Core.Logic.{inl, inr}
+use mathlib.Core.Bool.{Bool, _&&_, false, true}
+use mathlib.Core.List.{List, [], _++_, _∷_, append-assoc, append-nil, map}
+use Prim.Native.Nat.{_*_, _+_, _-_, _<_, _≤_, suc, zero, ℕ}
+use borrow.Author.Tests.{ltb-false, ltb-true}
+use lib.Dec.{ltb}
+use lib.ListN.{drop, length, length-append, length-map, take}
+use lib.Seq.{drop-append-add, drop-drop, length-take-le, take-at}
+use native.Mathlib.Nat.{sub-zero}
+use native.Mathlib.Omega.{arith}
+use Rattle.graph.specs.Total.{Tested, and-true, decide}
+use Rattle.graph.specs.Map.{Map}
+use Rattle.model.specs.Types.{Accepted, Answer, Answered, Estimated, Gone, Header, Refused}
+use Rattle.model.specs.Card.{mapOn}
+use Rattle.model.specs.Areas.{Areas}
+use Rattle.model.specs.State.{Lent, State, Step, first, prepare}
+use Rattle.model.specs.Machine.{Machine, started}
+use Rattle.model.specs.Calls.{Asked, Call, Plain, calling, machineStep, plain, steps}
+use Rattle.model.specs.Demand3.{Demand3}
+use Rattle.model.specs.Contracts.{CallContract, PrepareContract, after, before}
+use Rattle.model.specs.Chain.{Chain, chain-demand3, chain-steps, left-prepared}
+use Rattle.unit_script.specs.Words.{answerWords, callAt, endAt, isCall, putAt, roomIn}
+use Rattle.unit_script.specs.Script.{Held, Made, OneContract, ReplayContract, answersOf, begun, callsIn, callsOf, held, holding, isNext}
+use Rattle.unit_script.specs.Script.{lend, machineAnswers, onward, scripted, told}
+use Rattle.unit_script.proofs.Words.{call-fits}
+
+-- ---- the words of an answer
+
+answer-length : (x : Answer) → length (answerWords x) ≡ 4
+answer-length (Refused q) = refl
+answer-length Accepted = refl
+answer-length (Estimated t) = refl
+answer-length (Gone t c k) = refl
+
+told-length : (l : List Answer) → length (told l) ≡ 4 * length l
+told-length [] = refl
+told-length (x ∷ l) = let h = told-length l in length-append (answerWords x) (told l) ∙ omega (arith, h, answer-length x)
+
+told-snoc : (l : List Answer) (x : Answer) → told (l ++ (x ∷ [])) ≡ told l ++ answerWords x
+told-snoc [] x = append-nil (answerWords x)
+told-snoc (y ∷ l) x = ap (_++_ (answerWords y)) (told-snoc l x) ∙ sym (append-assoc (answerWords y) (told l) (answerWords x))
+
+-- the words of one answer more
+written-turn : (l : List Answer) (x : Answer) (k : ℕ) (out₀ out out′ : List ℕ) → length l ≡ k → out ≡ first (told l) out₀
+    → out′ ≡ putAt out k (answerWords x) → out′ ≡ first (told (l ++ (x ∷ []))) out₀
+written-turn l x k out₀ out out′ n e f =
+    let q : length (told l) ≡ 4 * k = told-length l ∙ ap (λ (i : ℕ). 4 * i) n in
+    let o : out ≡ told l ++ drop (4 * k) out₀ = e ∙ ap (λ (i : ℕ). told l ++ drop i out₀) q in
+    let a : take (4 * k) out ≡ told l = ap (take (4 * k)) o ∙ take-at (told l) (drop (4 * k) out₀) (4 * k) q in
+    let d : drop (4 * k + 4) out ≡ drop (4 * k + 4) out₀ =
+    ap (drop (4 * k + 4)) o
+    ∙ ap (λ (i : ℕ). drop (i + 4) (told l ++ drop (4 * k) out₀)) (sym q)
+    ∙ drop-append-add (told l) (drop (4 * k) out₀) 4
+    ∙ drop-drop 4 (4 * k) out₀ in
+    let w : length (told (l ++ (x ∷ []))) ≡ 4 * k + 4 =
+    ap length (told-snoc l x) ∙ length-append (told l) (answerWords x) ∙ omega (arith, q, answer-length x) in
+    f
+    ∙ ap₂ (λ (u : List ℕ) (v : List ℕ). u ++ answerWords x ++ v) a d
+    ∙ ap₂ (λ (u : List ℕ) (i : ℕ). u ++ drop i out₀) (sym (told-snoc l x)) (sym w)
+
+-- ---- one call more
+
+map-snoc : {A B : Type 0} (f : A → B) (l : List A) (x : A) → map f (l ++ (x ∷ [])) ≡ map f l ++ (f x ∷ [])
+map-snoc f [] x = refl
+map-snoc f (y ∷ l) x = ap (_∷_ (f y)) (map-snoc f l x)
+
+chain-length : (card : List ℕ) (s : State) (l : List Call) (r : List Step) → Chain card s l r → length r ≡ length l
+chain-length card s [] [] w = refl
+chain-length card s [] (u ∷ r) w = absurd w
+chain-length card s (c ∷ l) [] w = absurd w
+chain-length card s (c ∷ l) (u ∷ r) w = ap suc (chain-length card (u .state) l r (w .1))
+
+held-snoc : (h : Held) (r : List Step) (u : Step) → held h (r ++ (u ∷ [])) ≡ onward (held h r) u
+held-snoc h [] u = refl
+held-snoc h (v ∷ r) u = held-snoc (onward h v) r u
+
+calls-snoc : (h : Held) (l : List Plain) (r : List Step) (p : Plain) (u : Step) → length r ≡ length l
+    → callsOf h (l ++ (p ∷ [])) (r ++ (u ∷ [])) ≡ callsOf h l r ++ (lend (held h r .lent) p ∷ [])
+calls-snoc h [] [] p u n = refl
+calls-snoc h [] (v ∷ r) p u n = let z : ⊥ = omega (arith, n) in absurd z
+calls-snoc h (q ∷ l) [] p u n = let z : ⊥ = omega (arith, n) in absurd z
+calls-snoc h (q ∷ l) (v ∷ r) p u n = ap (_∷_ (lend (h .lent) q)) (calls-snoc (onward h v) l r p u (omega (arith, n)))
+
+meets-snoc : (card : List ℕ) (h : Held) (l : List Plain) (r : List Step) (p : Plain) (u : Step) → length r ≡ length l
+    → Chain card (h .state) (callsOf h l r) r → CallContract card (held h r .state) (lend (held h r .lent) p) u
+    → Chain card (h .state) (callsOf h (l ++ (p ∷ [])) (r ++ (u ∷ []))) (r ++ (u ∷ []))
+meets-snoc card h [] [] p u n w m = (m, tt)
+meets-snoc card h [] (v ∷ r) p u n w m = let z : ⊥ = omega (arith, n) in absurd z
+meets-snoc card h (q ∷ l) [] p u n w m = let z : ⊥ = omega (arith, n) in absurd z
+meets-snoc card h (q ∷ l) (v ∷ r) p u n w m = (w .0, meets-snoc card (onward h v) l r p u (omega (arith, n)) (w .1) m)
+
+-- one call more, p, which meets its contract and leaves u
+made-more : {card : List ℕ} {l : List Plain} {out₀ out : List ℕ} {h₀ h : Held} → Made card l out₀ out h₀ h → (k : ℕ) → length l ≡ k
+    → (p : Plain) (u : Step) (out′ : List ℕ) → plain (lend (h .lent) p) ≡ p → CallContract card (h .state) (lend (h .lent) p) u
+    → out′ ≡ putAt out k (answerWords (u .answer)) → Made card (l ++ (p ∷ [])) out₀ out′ h₀ (onward h u)
+made-more {card} {l} {out₀} {out} {h₀} {h} w k n p u out′ f m e =
+    let r : List Step = w .results in
+    let many : length r ≡ length l =
+    chain-length card (h₀ .state) (w .calls) r (w .meets) ∙ sym (length-map (w .calls) plain) ∙ ap length (w .fed) in
+    let met : Chain card (h₀ .state) (callsOf h₀ l r) r = subst (λ (y : List Call). Chain card (h₀ .state) y r) (w .lends) (w .meets) in
+    record {
+      calls = callsOf h₀ (l ++ (p ∷ [])) (r ++ (u ∷ []));
+      results = r ++ (u ∷ []);
+      lends = refl;
+      fed =
+          ap (map plain) (calls-snoc h₀ l r p u many)
+          ∙ map-snoc plain (callsOf h₀ l r) (lend (held h₀ r .lent) p)
+          ∙ ap₂ (λ (y : List Plain) (z : Plain). y ++ (z ∷ [])) (ap (map plain) (sym (w .lends)) ∙ w .fed)
+          (ap (λ (y : Held). plain (lend (y .lent) p)) (sym (w .leaves)) ∙ f);
+      meets =
+          meets-snoc card h₀ l r p u many met
+          (subst (λ (y : Held). CallContract card (y .state) (lend (y .lent) p) u) (w .leaves) m);
+      leaves = ap (λ (y : Held). onward y u) (w .leaves) ∙ sym (held-snoc h₀ r u);
+      written =
+          written-turn (answersOf r) (u .answer) k out₀ out out′ (length-map r (λ (v : Step). v .answer) ∙ many ∙ n) (w .written) e
+          ∙ ap (λ (y : List Answer). first (told y) out₀) (sym (map-snoc (λ (v : Step). v .answer) r u));
+    }
+
+-- ---- one call, lent the first i and j entries of go's areas
+
+-- those entries
+abbrev pub part : (i j : ℕ) → Lent → Lent
+part i j l = record { route = take i (l .route); log = take j (l .log) }
+
+-- the areas, with m in the place of those entries
+abbrev pub back : (i j : ℕ) → Lent → Lent → Lent
+back i j l m = record { route = m .route ++ drop i (l .route); log = m .log ++ drop j (l .log) }
+
+back-first : (i j : ℕ) (l m : Lent) → length (m .route) ≡ i → length (m .log) ≡ j
+    → back i j l m ≡ record { route = first (m .route) (l .route); log = first (m .log) (l .log) }
+back-first i j l m e f = rw (← e, ← f)
+
+pub one-made : {card : List ℕ} {h : Header} {a b : Areas} (l m : Lent) (asked : Asked) (i j : ℕ) (x : Answered)
+    → i ≤ length (l .route) → j ≤ length (l .log)
+    → CallContract card (before h a) (calling asked (part i j l)) (after x b m)
+    → length (m .route) ≡ length (take i (l .route)) → length (m .log) ≡ length (take j (l .log))
+    → OneContract card h (record { entry = a; exit = b }) (record { entry = l; exit = back i j l m })
+    (record { asked = asked; route = i; log = j }) x
+one-made {card} {h} {a} {b} l m asked i j x li lj c nr nl = record {
+  left = after x b m;
+  answers = refl;
+  meets = c;
+  leaves = ap (holding (x .header) b)
+      (back-first i j l m (nr ∙ length-take-le i (l .route) li) (nl ∙ length-take-le j (l .log) lj));
+}
+
+-- ---- the turns of a run
+
+-- what is fed of a call of a script that is lent no more than there is
+fed-back : (l : Lent) (p : Plain) → p .route ≤ length (l .route) → p .log ≤ length (l .log) → plain (lend l p) ≡ p
+fed-back l p a b = rw (length-take-le (p .route) (l .route) a, length-take-le (p .log) (l .log) b)
+
+-- a script from a place on, where a call is next, and where none is
+module _ (script : List ℕ) (l : Lent) (at k room : ℕ) where
+  scripted-next : isNext script at k room ≡ true
+      → scripted script l at (room - k)
+      ≡ callAt script at (length (l .route)) (length (l .log)) ∷ scripted script l (endAt script at) (room - (k + 1))
+  scripted-next h =
+      let p = and-true (ltb k room) (isCall script at) h in
+      let lt : k < room = ltb-true k room (p .0) in
+      let e : room - k ≡ suc (room - (k + 1)) = omega arith in
+      ap (scripted script l at) e ∙ rw (p .1)
+
+  scripted-end : isNext script at k room ≡ false → scripted script l at (room - k) ≡ []
+  scripted-end h = go (decide (ltb k room)) (room - k) refl
+    where
+      ends : (n : ℕ) → isCall script at ≡ false → scripted script l at n ≡ []
+      ends zero e = refl
+      ends (suc n) e = rw e
+
+      go : Tested (ltb k room) → (n : ℕ) → n ≡ room - k → scripted script l at n ≡ []
+      go (inl q) n e = ends n (rw q at h)
+      go (inr q) n e =
+          let le : room ≤ k = ltb-false k room q in
+          let z : n ≡ 0 = omega arith in
+          ap (scripted script l at) z
+
+-- where a call is next there is room for its answer
+pub next-fits : (k room : ℕ) (whole : Bool) → ltb k room && whole ≡ true → k < room
+next-fits k room whole e = ltb-true k room (and-true (ltb k room) whole e .0)
+
+-- with room for so many answers the calls before call k, which stands at a place of the script, are made, and those from there on are left
+pub record Run (card script : List ℕ) (room at k : ℕ) (out₀ out : List ℕ) (h₀ h : Held) : Type 0 where
+  pub done : List Plain
+  pub many : length done ≡ k
+  pub made : Made card done out₀ out h₀ h
+  pub rest : scripted script (h₀ .lent) 0 room ≡ done ++ scripted script (h₀ .lent) at (room - k)
+
+pub run-start : {card script out₀ : List ℕ} (room : ℕ) {h₀ : Held} → Run card script room 0 0 out₀ out₀ h₀ h₀
+run-start {card} {script} {out₀} room {h₀} = record {
+  done = [];
+  many = refl;
+  made = record { calls = []; results = []; lends = refl; fed = refl; meets = tt; leaves = refl; written = refl };
+  rest = ap (scripted script (h₀ .lent) 0) (sym (sub-zero room));
+}
+
+module _ {card script : List ℕ} {room at k : ℕ} {out₀ out : List ℕ} {h₀ h : Held} (w : Run card script room at k out₀ out h₀ h) where
+  -- the next call p of the script, which ends at a place and handed x back
+  pub run-turn : isNext script at k room ≡ true → (p : Plain) (x : Answered) {end : ℕ} {b : Areas} {m : Lent} {out′ : List ℕ}
+      → length (h .lent .route) ≡ length (h₀ .lent .route) → length (h .lent .log) ≡ length (h₀ .lent .log)
+      → p ≡ callAt script at (length (h .lent .route)) (length (h .lent .log)) → end ≡ endAt script at
+      → OneContract card (h .state .header) (record { entry = h .state .areas; exit = b }) (record { entry = h .lent; exit = m }) p x
+      → out′ ≡ putAt out k (answerWords (x .answer))
+      → Run card script room end (k + 1) out₀ out′ h₀ (holding (x .header) b m)
+  run-turn next p x {end} {b} {m} {out′} er el e n c f =
+      let left : List Plain = scripted script (h₀ .lent) end (room - (k + 1)) in
+      let is : callAt script at (length (h₀ .lent .route)) (length (h₀ .lent .log)) ≡ p = sym (e ∙ ap₂ (callAt script at) er el) in
+      let fits = call-fits script at (length (h .lent .route)) (length (h .lent .log)) p e in
+      let one : Made card (w .done ++ (p ∷ [])) out₀ out′ h₀ (onward h (c .left)) =
+      made-more (w .made) k (w .many) p (c .left) out′ (fed-back (h .lent) p (fits .0) (fits .1)) (c .meets)
+      (f ∙ ap (λ (y : Answer). putAt out k (answerWords y)) (sym (c .answers))) in
+      let next-is : scripted script (h₀ .lent) at (room - k) ≡ p ∷ left =
+      scripted-next script (h₀ .lent) at k room next
+      ∙ ap₂ (λ (y : Plain) (i : ℕ). y ∷ scripted script (h₀ .lent) i (room - (k + 1))) is (sym n) in
+      record {
+        done = w .done ++ (p ∷ []);
+        many = length-append (w .done) (p ∷ []) ∙ ap (λ (i : ℕ). i + 1) (w .many);
+        made = subst (λ (y : Held). Made card (w .done ++ (p ∷ [])) out₀ out′ h₀ y) (sym (c .leaves)) one;
+        rest = w .rest ∙ ap (_++_ (w .done)) next-is ∙ sym (append-assoc (w .done) (p ∷ []) left);
+      }
+
+  pub run-end : room ≡ roomIn (length out₀) → isNext script at k room ≡ false → Made card (callsIn script (h₀ .lent) out₀) out₀ out h₀ h
+  run-end r stop =
+      let e : scripted script (h₀ .lent) 0 room ≡ w .done =
+      w .rest ∙ ap (_++_ (w .done)) (scripted-end script (h₀ .lent) at k room stop) ∙ append-nil (w .done) in
+      subst (λ (y : List Plain). Made card y out₀ out h₀ h) (sym (ap (scripted script (h₀ .lent) 0) (sym r) ∙ e)) (w .made)
+
+-- what holds before call k: the place is within the script, and the areas have the lengths that they had
+pub record AtTurn (card script : List ℕ) (room at k : ℕ) (out₀ out : List ℕ) (h₀ h : Held) : Type 0 where
+  pub within : at ≤ length script
+  pub live : length (h .state .areas .live) ≡ length (h₀ .state .areas .live)
+  pub down : length (h .state .areas .aimed .down) ≡ length (h₀ .state .areas .aimed .down)
+  pub estimates : length (h .state .areas .aimed .estimates) ≡ length (h₀ .state .areas .aimed .estimates)
+  pub elapsed : length (h .state .areas .trip .elapsed) ≡ length (h₀ .state .areas .trip .elapsed)
+  pub route : length (h .lent .route) ≡ length (h₀ .lent .route)
+  pub log : length (h .lent .log) ≡ length (h₀ .lent .log)
+  pub words : length out ≡ length out₀
+  pub run : Run card script room at k out₀ out h₀ h
+
+pub turn-start : {card script out₀ : List ℕ} (room : ℕ) {h₀ : Held} → AtTurn card script room 0 0 out₀ out₀ h₀ h₀
+turn-start room = record {
+  within = omega arith;
+  live = refl;
+  down = refl;
+  estimates = refl;
+  elapsed = refl;
+  route = refl;
+  log = refl;
+  words = refl;
+  run = run-start room;
+}
+
+-- ---- the machine's answers
+
+machine-answers : (M : Map) (m : Machine) (l : List Call) (r : List Step) → Demand3 M m l r → answersOf r ≡ machineAnswers M m (map plain l)
+machine-answers M m [] [] d = refl
+machine-answers M m [] (u ∷ r) d = absurd d
+machine-answers M m (c ∷ l) [] d = absurd d
+machine-answers M m (c ∷ l) (u ∷ r) d = ap₂ _∷_ (d .0 .same .answer) (machine-answers M (machineStep M m (plain c) .next) l r (d .1))
+
+-- from a preparing on the areas a, which left a′ and handed back y
+pub replay-made : {card : List ℕ} (a b : Areas) (l m : Lent) (script : List ℕ) {out₀ out : List ℕ} (a′ : Areas) (y x : Answered)
+    → PrepareContract card a a′ y → x .answer ≡ y .answer
+    → Made card (callsIn script l out₀) out₀ out (holding (y .header) a′ l) (holding (x .header) b m)
+    → ReplayContract card (record { entry = a; exit = b }) (record { entry = l; exit = m }) script out₀ out x
+replay-made {card} a b l m script {out₀} {out} a′ y x e f c =
+    let spelled : List Plain = callsIn script l out₀ in
+    let w : Made card spelled out₀ out (begun card a l) (holding (x .header) b m) =
+    subst (λ (u : Step). Made card spelled out₀ out (record { state = u .state; lent = l }) (holding (x .header) b m)) e c in
+    let demand : prepare card a .answer ≡ Accepted → Demand3 (mapOn card) (started (mapOn card)) (w .calls) (w .results) =
+    λ q. chain-demand3 card a q (w .calls) (w .results) (w .meets) in
+    record {
+      prepared = f ∙ ap (λ (u : Step). u .answer) e;
+      made = w;
+      exact = chain-steps card (prepare card a .state) (w .calls) (w .results) (left-prepared card a) (w .meets);
+      demand = demand;
+      machine = λ q.
+          w .written
+          ∙ ap (λ (z : List Answer). first (told z) out₀)
+          (machine-answers (mapOn card) (started (mapOn card)) (w .calls) (w .results) (demand q)
+          ∙ ap (machineAnswers (mapOn card) (started (mapOn card))) (w .fed));
+    }

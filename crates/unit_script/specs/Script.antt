@@ -1,0 +1,130 @@
+-- What a program that makes the calls of a script leaves. Definitions only.
+use mathlib.Core.Path.{_≡_}
+use mathlib.Core.Bool.{_&&_, Bool, cond}
+use mathlib.Core.List.{List, [], _++_, _∷_, map}
+use Prim.Native.Nat.{suc, zero, ℕ}
+use lib.Dec.{ltb}
+use lib.ListN.{length, take}
+use denote.Triple.Both.{Both}
+use Rattle.graph.specs.Map.{Map}
+use Rattle.model.specs.Types.{Accepted, Answer, Answered, Header}
+use Rattle.model.specs.Card.{mapOn}
+use Rattle.model.specs.Areas.{Areas}
+use Rattle.model.specs.State.{Lent, State, Step, first, prepare}
+use Rattle.model.specs.Machine.{Machine, started}
+use Rattle.model.specs.Calls.{Call, Plain, calling, machineStep, plain, steps}
+use Rattle.model.specs.Demand3.{Demand3}
+use Rattle.model.specs.Contracts.{CallContract, before}
+use Rattle.model.specs.Chain.{Chain}
+use Rattle.unit_script.specs.Words.{answerWords, callAt, endAt, isCall, roomIn}
+
+-- ---- a script, and the words of answers
+
+-- the calls of a script from a place on, at most so many, beside the areas l: they end at its end, at a kind that is none, or at a call
+-- that is cut short
+abbrev pub scripted : (script : List ℕ) → Lent → (at most : ℕ) → List Plain
+scripted script l at zero = []
+scripted script l at (suc k) =
+    cond (isCall script at) (callAt script at (length (l .route)) (length (l .log)) ∷ scripted script l (endAt script at) k) []
+
+-- the calls that are made of a script: those that it has, as far as their answers have room in out
+abbrev pub callsIn : (script : List ℕ) → Lent → (out : List ℕ) → List Plain
+callsIn script l out = scripted script l 0 (roomIn (length out))
+
+-- a call is made next, after k others and with room for so many answers: its answer has room, and it stands whole at its place
+abbrev pub isNext : (script : List ℕ) → (at k room : ℕ) → Bool
+isNext script at k room = ltb k room && isCall script at
+
+-- the words of a list of answers
+abbrev pub told : List Answer → List ℕ
+told [] = []
+told (x ∷ l) = answerWords x ++ told l
+
+-- the plain machine's answers to a list of calls
+abbrev pub machineAnswers : Map → Machine → List Plain → List Answer
+machineAnswers M m [] = []
+machineAnswers M m (p ∷ l) = machineStep M m p .answer ∷ machineAnswers M (machineStep M m p .next) l
+
+-- ---- calls one after the other
+
+-- the unit's header and areas, and go's two areas
+pub record Held : Type 0 where
+  pub state : State
+  pub lent : Lent
+
+abbrev pub holding : Header → Areas → Lent → Held
+holding h a l = record { state = before h a; lent = l }
+
+-- a call of a script as it is made: it is lent the first entries of the areas l
+abbrev pub lend : Lent → Plain → Call
+lend l p = calling (p .asked) (record { route = take (p .route) (l .route); log = take (p .log) (l .log) })
+
+-- what is held after a call that left u: what it was lent and left stands first in go's areas, the rest of which is untouched
+abbrev pub onward : Held → Step → Held
+onward h u = record {
+  state = u .state;
+  lent = record { route = first (u .lent .route) (h .lent .route); log = first (u .lent .log) (h .lent .log) };
+}
+
+-- what is held after calls that left `results`, one after the other
+abbrev pub held : Held → (results : List Step) → Held
+held h [] = h
+held h (u ∷ r) = held (onward h u) r
+
+-- these calls as they are made, each on what the one before left
+abbrev pub callsOf : Held → List Plain → (results : List Step) → List Call
+callsOf h [] r = []
+callsOf h (p ∷ l) [] = []
+callsOf h (p ∷ l) (u ∷ r) = lend (h .lent) p ∷ callsOf (onward h u) l r
+
+abbrev pub answersOf : List Step → List Answer
+answersOf = map (λ (u : Step). u .answer)
+
+-- A run that makes the calls l from h₀ and holds h at the end. The area out held out₀ before.
+pub record Made (card : List ℕ) (l : List Plain) (out₀ out : List ℕ) (h₀ h : Held) : Type 0 where
+  -- the calls in their order, and what each answered and left
+  pub calls : List Call
+  pub results : List Step
+  -- a call is lent of the areas as the calls before it left them
+  pub lends : calls ≡ callsOf h₀ l results
+  -- every call of l was made, and go's areas kept their lengths: what the plain machine is fed of the calls is l
+  pub fed : map plain calls ≡ l
+  -- each met its contract, from what the one before left
+  pub meets : Chain card (h₀ .state) calls results
+  -- header, areas and go's two areas at the end
+  pub leaves : h ≡ held h₀ results
+  -- the words of the answers stand first in out, the rest of which is untouched
+  pub written : out ≡ first (told (answersOf results)) out₀
+
+-- ---- the contracts
+
+-- one call p of a script, from the header h, which hands x back; what it was lent and left stands first in go's areas
+pub record OneContract (card : List ℕ) (h : Header) (a : Both Areas Areas) (l : Both Lent Lent) (p : Plain) (x : Answered) : Type 0 where
+  pub left : Step
+  pub answers : left .answer ≡ x .answer
+  pub meets : CallContract card (before h (a .entry)) (lend (l .entry) p) left
+  pub leaves : holding (x .header) (a .exit) (l .exit) ≡ onward (holding h (a .entry) (l .entry)) left
+
+-- the loop of calls, from the header h to the header k
+abbrev pub MakeContract : (card : List ℕ) → Header → Both Areas Areas → Both Lent Lent → (script out₀ out : List ℕ) → Header → Type 0
+MakeContract card h a l script out₀ out k =
+    Made card (callsIn script (l .entry) out₀) out₀ out (holding h (a .entry) (l .entry)) (holding k (a .exit) (l .exit))
+
+-- the areas and header that preparing on the areas a left, and go's two areas
+abbrev pub begun : (card : List ℕ) → Areas → Lent → Held
+begun card a l = record { state = prepare card a .state; lent = l }
+
+-- the contract of a replay that prepares on the areas a, lends go of the areas l, and hands x back
+pub record ReplayContract (card : List ℕ) (a : Both Areas Areas) (l : Both Lent Lent) (script out₀ out : List ℕ) (x : Answered)
+    : Type 0 where
+  pub prepared : x .answer ≡ prepare card (a .entry) .answer
+  -- the run, from what preparing left
+  pub made : Made card (callsIn script (l .entry) out₀) out₀ out
+      (begun card (a .entry) (l .entry)) (holding (x .header) (a .exit) (l .exit))
+  -- what its calls answered and left is what the step functions say
+  pub exact : made .results ≡ steps card (prepare card (a .entry) .state) (made .calls)
+  -- demand 3 of the whole list, as it was made and answered
+  pub demand : prepare card (a .entry) .answer ≡ Accepted → Demand3 (mapOn card) (started (mapOn card)) (made .calls) (made .results)
+  -- so the words written are those of the plain machine, fed the script
+  pub machine : prepare card (a .entry) .answer ≡ Accepted
+      → out ≡ first (told (machineAnswers (mapOn card) (started (mapOn card)) (callsIn script (l .entry) out₀))) out₀

@@ -1,0 +1,303 @@
+// A script of calls as words: makes them one after the other, and writes the words of their answers.
+ghost use mathlib.Core.Path.{_≡_};
+ghost use mathlib.Core.List.{[], _∷_};
+ghost use Prim.Native.Nat.{_*_, _+_, _≤_, min};
+ghost use lib.ListN.{getD, length};
+ghost use Rattle.unit_answers.specs.Shape.{answerIn, callIn};
+ghost use Rattle.network.specs.Lending.{areas};
+ghost use Rattle.unit_questions.specs.Lending.{lent};
+ghost use Rattle.unit.specs.Shape.{answeredIn, headerIn};
+ghost use Rattle.unit_script.specs.Words.{answerSize, answerWords, callAt, endAt, putAt, roomIn, scriptedIn, spelled, wordsOf};
+ghost use Rattle.unit_script.specs.Script.{MakeContract, OneContract, ReplayContract, isNext};
+use network::Junction;
+use network::Time;
+use network::TimeWord;
+use unit::Answered;
+use unit::Header;
+use unit_answers::Answer;
+use unit_answers::Call;
+
+// ---- the words of a call
+
+// A call of a script, and how many entries of route and log it is lent.
+struct Scripted {
+    call: Call,
+    route: usize,
+    log: usize,
+}
+
+// Set: `0 road time`.
+const SET_WORDS: usize = 3;
+// Aim: `1 junction`.
+const AIM_WORDS: usize = 2;
+// Estimate: `2 junction`.
+const ESTIMATE_WORDS: usize = 2;
+// Go: `3 start route log`.
+const GO_WORDS: usize = 4;
+
+// How many words a call has, its kind with them; 0 for a kind that is none.
+fn words_of(kind: u32) -> usize
+    ensures { λ r. ⌜ r ≡ wordsOf kind ⌝ }
+{
+    if kind == 0 {
+        return SET_WORDS;
+    }
+    if kind == 1 {
+        return AIM_WORDS;
+    }
+    if kind == 2 {
+        return ESTIMATE_WORDS;
+    }
+    if kind == 3 {
+        return GO_WORDS;
+    }
+    0
+}
+
+// As many as a word says, but at most so many.
+fn at_most(word: u32, most: usize) -> usize
+    ensures { λ r. ⌜ r ≡ min word most ⌝ }
+{
+    let n = word as usize;
+    if n < most { n } else { most }
+}
+
+// A call, and how many entries it is lent.
+fn lending(call: Call, route: usize, log: usize) -> Scripted
+    ensures { λ r. ⌜ scriptedIn r ≡ record { asked = callIn call; route = route; log = log } ⌝ }
+{
+    Scripted {
+        call: call,
+        route: route,
+        log: log,
+    }
+}
+
+// The call that a kind and three words spell, beside areas of so many entries. Go is lent as many of them as its last two words say, all of
+// an area that has fewer; any other call is lent all, and leaves them.
+fn spell(kind: u32, one: u32, two: u32, three: u32, route: usize, log: usize) -> Scripted
+    ensures { λ r. ⌜ scriptedIn r ≡ spelled kind one two three route log ⌝ }
+{
+    if kind == 0 {
+        return lending(Call::Set(one, Time::of_word(two)), route, log);
+    }
+    if kind == 1 {
+        return lending(Call::Aim(Junction(one)), route, log);
+    }
+    if kind == 2 {
+        return lending(Call::Estimate(Junction(one)), route, log);
+    }
+    lending(
+        Call::Go(Junction(one)),
+        at_most(two, route),
+        at_most(three, log),
+    )
+}
+
+// ---- at a place of a script
+
+// Word i from a place on, 0 past the end.
+fn word_at(script: &[u32], at: usize, i: usize) -> u32
+    requires { ⌜ at ≤ length (now script) ⌝ }
+    ensures { λ r. ⌜ r ≡ getD (now (script .entry)) (at + i) 0 ⌝ }
+{
+    if i < script.len() - at {
+        script[at + i]
+    } else {
+        0
+    }
+}
+
+// Where the call ends that stands whole there; the place itself if none does.
+fn end_at(script: &[u32], at: usize) -> usize
+    requires { ⌜ at ≤ length (now script) ⌝ }
+    ensures { λ r. ⌜ r ≡ endAt (now (script .entry)) at ⌝ }
+{
+    let w = words_of(word_at(script, at, 0));
+    if w <= script.len() - at { at + w } else { at }
+}
+
+// That call, beside areas of so many entries.
+fn call_at(script: &[u32], at: usize, route: usize, log: usize) -> Scripted
+    requires { ⌜ at ≤ length (now script) ⌝ }
+    ensures { λ r. ⌜ scriptedIn r ≡ callAt (now (script .entry)) at route log ⌝ }
+{
+    spell(
+        word_at(script, at, 0),
+        word_at(script, at, 1),
+        word_at(script, at, 2),
+        word_at(script, at, 3),
+        route,
+        log,
+    )
+}
+
+// Whether a call is made after k others, with room for so many answers: its answer has room, and it stands whole at its place.
+fn is_next(script: &[u32], at: usize, k: usize, room: usize) -> bool
+    requires { ⌜ at ≤ length (now script) ⌝ }
+    ensures { λ r. ⌜ r ≡ isNext (now (script .entry)) at k room ⌝ }
+{
+    (k < room) & (at < end_at(script, at))
+}
+
+// ---- the words of an answer
+
+// An answer is four words.
+const ANSWER_SIZE: usize = 4;
+
+// How many answers have room in an area of so many words.
+fn room_in(words: usize) -> usize
+    ensures { λ r. ⌜ r ≡ roomIn words ⌝ }
+{
+    words / ANSWER_SIZE
+}
+
+// Writes four words in the place of answer k.
+fn put_four(out: &mut [u64], k: usize, one: u64, two: u64, three: u64, four: u64)
+    requires { ⌜ answerSize * k + answerSize ≤ length (now out) ⌝ }
+    ensures { λ _. ⌜ now (out .exit) ≡ putAt (now (out .entry)) k (one ∷ two ∷ three ∷ four ∷ []) ⌝ }
+{
+    let i = ANSWER_SIZE * k;
+    out[i] = one;
+    out[i + 1] = two;
+    out[i + 2] = three;
+    out[i + 3] = four;
+}
+
+// Writes the words of answer k: the number of the question that refuses, or 0; estimate or total; count; number of roads.
+fn put_answer(out: &mut [u64], k: usize, x: Answer)
+    requires { ⌜ answerSize * k + answerSize ≤ length (now out) ⌝ }
+    ensures { λ _. ⌜ now (out .exit) ≡ putAt (now (out .entry)) k (answerWords (answerIn x)) ⌝ }
+{
+    match x {
+        Answer::Refused(q) => put_four(out, k, q.question as u64, 0, q.count as u64, 0),
+        Answer::Accepted => put_four(out, k, 0, 0, 0, 0),
+        Answer::Estimated(t) => put_four(out, k, 0, t.word() as u64, 0, 0),
+        Answer::Gone(t, c, r) => put_four(out, k, 0, t, c as u64, r as u64),
+    }
+}
+
+// ---- the calls of a script
+
+// Makes one call, which is lent the first entries of route and log.
+fn make_call(
+    header: Header,
+    card: &[u8],
+    ranks: &[u32],
+    pairs: &[u32],
+    live: &mut [TimeWord],
+    down: &mut [TimeWord],
+    estimates: &mut [TimeWord],
+    elapsed: &mut [TimeWord],
+    route: &mut [u32],
+    log: &mut [u32],
+    c: Scripted,
+) -> Answered
+    requires { ⌜ (c .route ≤ length (now route)) × (c .log ≤ length (now log)) ⌝ }
+    ensures { λ r. ⌜ OneContract (now (card .entry)) (headerIn header) (areas ranks pairs live down estimates elapsed) (lent route log)
+        (scriptedIn c) (answeredIn r) ⌝ }
+{
+    let call = c.call;
+    let roads = c.route;
+    let logged = c.log;
+    unit::call(
+        header,
+        card,
+        ranks,
+        pairs,
+        live,
+        down,
+        estimates,
+        elapsed,
+        &mut route[..roads],
+        &mut log[..logged],
+        call,
+    )
+}
+
+// Makes the calls of a script from a header and the areas that belong to it, and hands the last header back.
+fn make_calls(
+    start: Header,
+    card: &[u8],
+    ranks: &[u32],
+    pairs: &[u32],
+    live: &mut [TimeWord],
+    down: &mut [TimeWord],
+    estimates: &mut [TimeWord],
+    elapsed: &mut [TimeWord],
+    route: &mut [u32],
+    log: &mut [u32],
+    script: &[u32],
+    out: &mut [u64],
+) -> Header
+    ensures { λ h. ⌜ MakeContract (now (card .entry)) (headerIn start) (areas ranks pairs live down estimates elapsed) (lent route log)
+        (now (script .entry)) (now (out .entry)) (now (out .exit)) (headerIn h) ⌝ }
+{
+    let room = room_in(out.len());
+    let mut h = start;
+    let mut at = 0;
+    let mut k = 0;
+    while is_next(script, at, k, room) {
+        let c = call_at(script, at, route.len(), log.len());
+        let r = make_call(
+            h,
+            card,
+            ranks,
+            pairs,
+            live,
+            down,
+            estimates,
+            elapsed,
+            route,
+            log,
+            c,
+        );
+        h = r.header;
+        let x = r.answer;
+        put_answer(out, k, x);
+        at = end_at(script, at);
+        k += 1;
+    }
+    h
+}
+
+// Prepares the card and makes the calls of a script through `unit::call`; writes four words for each answer.
+// Hands back preparing's answer and the last header.
+pub fn replay(
+    card: &[u8],
+    ranks: &mut [u32],
+    pairs: &mut [u32],
+    live: &mut [TimeWord],
+    down: &mut [TimeWord],
+    estimates: &mut [TimeWord],
+    elapsed: &mut [TimeWord],
+    route: &mut [u32],
+    log: &mut [u32],
+    script: &[u32],
+    out: &mut [u64],
+) -> Answered
+    ensures { λ r. ⌜ ReplayContract (now (card .entry)) (areas ranks pairs live down estimates elapsed) (lent route log)
+        (now (script .entry)) (now (out .entry)) (now (out .exit)) (answeredIn r) ⌝ }
+{
+    let prepared = unit_switch_on::prepare(card, ranks, pairs, live, down, estimates, elapsed);
+    let header = prepared.header;
+    let answer = prepared.answer;
+    let last = make_calls(
+        header,
+        card,
+        ranks,
+        pairs,
+        live,
+        down,
+        estimates,
+        elapsed,
+        route,
+        log,
+        script,
+        out,
+    );
+    Answered {
+        header: last,
+        answer: answer,
+    }
+}
