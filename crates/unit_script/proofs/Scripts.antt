@@ -22,7 +22,8 @@ use Rattle.model.specs.Demand3.{Demand3}
 use Rattle.model.specs.Contracts.{CallContract, PrepareContract, after, before}
 use Rattle.model.specs.Chain.{Chain, chain-demand3, chain-steps, left-prepared}
 use Rattle.unit_script.specs.Words.{answerWords, callAt, endAt, isCall, putAt, roomIn}
-use Rattle.unit_script.specs.Script.{Held, Made, OneContract, ReplayContract, answersOf, begun, callsIn, callsOf, held, holding, isNext}
+use Rattle.unit_script.specs.Script.{Held, Made, OneContract, ReplayContract, answersOf, begun, callsIn, callsOf, held, holding}
+use Rattle.unit_script.specs.Script.{isNext}
 use Rattle.unit_script.specs.Script.{lend, machineAnswers, onward, scripted, told}
 use Rattle.unit_script.proofs.Words.{call-fits}
 

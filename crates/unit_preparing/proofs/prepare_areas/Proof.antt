@@ -14,7 +14,9 @@ use Rattle.unit_preparing.proofs.prepare_areas.Tie as tie
 -- ---- the call, the areas that it was lent, and the bodies once both were handed on
 
 abbrev start : tie.After-slice-known6 → tie.Start
-start c = let entry = c .before .before .before .before .before .before .before in entry
+start c =
+    let entry = c .before .before .before .before .before .before .before in
+    entry
 
 abbrev areas : tie.Start → Areas
 areas c = let a = c .args in held (a .ranks) (a .pairs) (a .live) (a .down) (a .estimates) (a .elapsed)

@@ -6,7 +6,9 @@ use Rattle.unit_questions.proofs.lengths_fit.Tie as tie
 
 returns : tie.Need-returns
 unfolding lengthsFit
-returns c = let after-room-fits = c .before .before .before .before in rw (after-room-fits .room-fits .ensures)
+returns c =
+    let after-room-fits = c .before .before .before .before in
+    rw (after-room-fits .room-fits .ensures)
 
 pub lengths-fit-spec : {M : Type 1} → statement M
 lengths-fit-spec = tie.close (tie.spec (λ c. search needs) (λ c. search needs) (λ c κs. search needs) returns)
