@@ -27,9 +27,11 @@ def crates():
 
 
 def functions(source):
-    """Name, number of parameters and lines of contract of each function of a file."""
-    for found in re.finditer(r'^ *(?:pub )?(?:extern "C" )?fn (\w+)(.*?)^ *\{', re.sub(r'//.*', '', source), re.M | re.S):
-        head = found.group(2)
+    """Name, number of parameters, lines of contract, the longest of these, and lines of body of each function of a file."""
+    code = re.sub(r'//.*', '', source)
+    for found in re.finditer(r'^( *)(?:pub )?(?:extern "C" )?fn (\w+)(.*?)^ *\{', code, re.M | re.S):
+        head = found.group(3)
+        body = code[found.end():].split(f'\n{found.group(1)}}}', 1)[0]
         depth, inside, at = 0, '', 0
         for at, letter in enumerate(head):
             depth += {'(': 1, ')': -1}.get(letter, 0)
@@ -40,7 +42,8 @@ def functions(source):
         rest = head[at:].split('\n')
         # a function without a contract opens its body on the line that ends its head
         clauses = [] if rest[0].rstrip().endswith('{') else [line for line in rest[1:] if line.strip()]
-        yield found.group(1), parameters, len(clauses), max([0, *map(len, clauses)])
+        lines = sum(1 for line in body.split('\n') if line.strip())
+        yield found.group(2), parameters, len(clauses), max([0, *map(len, clauses)]), lines
 
 
 def table():
@@ -63,27 +66,29 @@ def table():
 
 
 def every_function():
-    """Path, number of parameters, lines of contract and longest of these lines of each function of the tree."""
+    """Path, number of parameters, lines of contract, the longest of these, and lines of body of each function of the tree."""
     for crate in crates():
         for file in sorted(glob.glob(f'crates/{crate}/src/*.rt')):
-            for name, parameters, clauses, longest in functions(read(file)):
-                yield f'`{crate}::{name}`', parameters, clauses, longest
+            for name, *numbers in functions(read(file)):
+                yield f'`{crate}::{name}`', *numbers
 
 
 def long_contracts():
     """Contracts of more lines, or of longer lines, than a reader likes."""
-    return [name for name, _, clauses, longest in every_function() if clauses > CONTRACT_LINES or longest > CONTRACT_WIDTH]
+    return [name for name, _, clauses, longest, _ in every_function() if clauses > CONTRACT_LINES or longest > CONTRACT_WIDTH]
 
 
 def shapes():
     """Functions and lines that are longer than a reader likes."""
     all_functions = list(every_function())
-    wide = [f'{name} {parameters}' for name, parameters, _, _ in all_functions if parameters > 12]
-    lines, tall = max((clauses, name) for name, _, clauses, _ in all_functions)
-    width, broad = max((longest, name) for name, _, _, longest in all_functions)
+    wide = [f'{name} {parameters}' for name, parameters, *_ in all_functions if parameters > 12]
+    high = [f'{name} {body}' for name, *_, body in all_functions if body > 40]
+    lines, tall = max((clauses, name) for name, _, clauses, *_ in all_functions)
+    width, broad = max((longest, name) for name, _, _, longest, _ in all_functions)
     proofs = [line for file in glob.glob('crates/*/proofs/**/*.antt', recursive=True) for line in read(file).split('\n')]
     every = [line for file in glob.glob('crates/**/*.antt', recursive=True) + glob.glob('crates/**/*.rt', recursive=True) for line in read(file).split('\n')]
     yield f'- Functions of more than 12 parameters: {len(wide)}' + (': ' + ', '.join(wide) if wide else '') + '.'
+    yield f'- Functions of more than 40 lines: {len(high)}' + (': ' + ', '.join(high) if high else '') + '.'
     yield f'- Longest contract: {lines} lines, in {tall}; longest line of one: {width} characters, in {broad}.'
     yield f'- `.before` in proofs: {sum(line.count(".before") for line in proofs):,}; lines with more than two outside of a named place: ' \
         f'{sum(1 for line in proofs if not re.match(r" *let ", line) and re.search(r"(?:[.]before ?){3,}", line)):,}.'

@@ -3,3 +3,4 @@ pub mod Bytes
 pub mod Bodies
 pub mod Refusals
 pub mod Lending
+pub mod Locals

@@ -54,9 +54,6 @@ kept-overflow e = let z : _≡_ {A = ℕ} 0 1 = cc in omega arith
 pub long : (k n v : ℕ) → n ≤ k → n ≤ length (replicate k v)
 long k n v h = rw (length-replicate k v) h
 
-pub counted : (k v : ℕ) {a : ℕ} → a ≡ length (replicate k v) → k ≡ a
-counted k v e = sym (e ∙ length-replicate k v)
-
 -- a word for each block
 pub blocks : (k n v : ℕ) → n ≤ block * k → n ≤ block * length (replicate k v)
 blocks k n v h = rw (length-replicate k v) h

@@ -7,6 +7,7 @@ ghost use Rattle.pairs_hierarchy.specs.Lending.{EstimateAsked, EstimateT
 ghost use Rattle.pairs_hierarchy.specs.Walks.{standing};
 use network::Junction;
 use network::Rank;
+use network::Sizes;
 use network::Time;
 use network::TimeWord;
 use pairs_records::answer_of;
@@ -95,8 +96,7 @@ fn walk_pairs(
 
 // The estimate of a junction: the least base total to the target, or none. It and all reached from it through up times are filled.
 pub fn estimate(
-    n: u32,
-    count: u32,
+    sizes: Sizes,
     order: &[u8],
     ranks: &[u32],
     pairs: &[u32],
@@ -104,12 +104,12 @@ pub fn estimate(
     estimates: &mut [TimeWord],
     j: Junction,
 ) -> Time
-    requires { ⌜ EstimateAsked n count (j .0) (now ranks) (lentOf order pairs down estimates) ⌝ }
-    ensures { λ r. ⌜ EstimateTold count (j .0) (r .0) (now (ranks .entry)) (lent order pairs down estimates) ⌝ }
+    requires { ⌜ EstimateAsked (sizes .n) (sizes .pairs) (j .0) (now ranks) (lentOf order pairs down estimates) ⌝ }
+    ensures { λ r. ⌜ EstimateTold (sizes .pairs) (j .0) (r .0) (now (ranks .entry)) (lent order pairs down estimates) ⌝ }
 {
     let r = network::rank_of(ranks, j);
-    if n <= r.0 {
+    if sizes.n <= r.0 {
         return Time::NONE;
     }
-    estimate_rank(n, count, order, pairs, down, estimates, r)
+    estimate_rank(sizes.n, sizes.pairs, order, pairs, down, estimates, r)
 }

@@ -5,43 +5,45 @@ use mathlib.Core.Bool.{Bool, _&&_, _||_, false, not, true}
 use mathlib.Core.Option.{none, some}
 use mathlib.Core.List.{List, [], _∷_}
 use Prim.Native.Nat.{_*_, _<_, _≤_, ℕ}
-use borrow.Author.Tests.{eq-eqb, eqb-false, eqb-true, ne-eqb, not-true}
+use borrow.Author.Tests.{eq-eqb, eqb-false, eqb-true, lt-ltb, ne-eqb, not-true}
 use lib.Dec.{eqb}
 use lib.ListN.{getD, length}
+use native.Mathlib.Decide.{ℕ-discrete}
 use native.Mathlib.Omega.{arith}
 use Rattle.graph.specs.Total.{Tested, Total, and-true, decide, decideOption, isNumber, isNumber-true, none-some, true-false, true-isNumber}
 use Rattle.graph.specs.Least.{anyBelow, anyBelow-true, true-anyBelow}
-use Rattle.graph.specs.Search.{Entry, Problem, back, hasGoal, history, logOf, routeOf, timeIn, totalOf, vertices, wayIn}
+use Rattle.graph.specs.Search.{Entry, Problem, back, hasGoal, history, is, logOf, routeOf, timeIn, totalOf, vertices, wayIn}
 use Rattle.graph.specs.Walk.{timeIn-here}
 use Rattle.graph.specs.Complete.{history-reached, length-le, no-goal}
-use Rattle.graph.specs.Back.{back-route}
+use Rattle.graph.specs.Back.{back-route, true-is}
 use Rattle.graph.specs.Answer.{Ended, count-is, end, found, lost}
 use Rattle.graph.specs.Map.{Map, estimateOf, fills}
 use Rattle.graph.specs.Go.{goOf}
 use Rattle.model.specs.Limits.{mostTotal}
-use Rattle.model.specs.Word.{noneWord, word}
+use Rattle.model.specs.Word.{noneWord, word, word-none, word-some}
 use Rattle.model.specs.Layout.{roadSize}
 use Rattle.model.specs.Bytes.{listed, wordAt}
 use Rattle.model.specs.State.{first}
 use Rattle.model.specs.Estimate.{filled}
 use Rattle.model.specs.Go.{asks, goAsks, goFills, goRoute, liveOf}
 use Rattle.model.specs.Laws.{listed-at, true-and}
-use Rattle.model.specs.Ends.{filled-is, listed-same}
-use Rattle.search_keys.specs.Keys.{kept}
-use Rattle.search_ways.specs.Ways.{roadsBack, wayOf}
-use Rattle.search_labels.specs.Labelled.{word-none, word-some}
-use Rattle.search_labels.specs.Ended.{kept-times, roads-back, way-back-is}
-use Rattle.search_relaxing.specs.State.{Asked, Explored, Given, Ready, Work, asked-head, asked-start, goGiven, mapGiven}
+use Rattle.model.specs.Ends.{filled-is}
+use Rattle.search_labels.specs.Ways.{arcsBack, wayOf}
+use Rattle.search_labels.specs.Ended.{arcs-back, start-no-later, way-back-is}
+use Rattle.search_junctions.specs.State.{Given, Ready, goGiven, mapGiven}
+use Rattle.search_junctions.specs.Asking.{Asked, asked-head, asked-start}
+use Rattle.search_junctions.specs.Ways.{stepBack}
+use Rattle.search_junctions.specs.Facts.{codes, ready-time}
+use Rattle.search_run.specs.Runs.{Advanced, Written}
 use Rattle.search.specs.Searches.{Found}
-use Rattle.search_relaxing.specs.Facts.{codes}
 
 -- ---- who was asked: the definition's test
-module _ (g : Given) (s z : ℕ) (H : List Entry) (k : ℕ) where
+module _ (g : Given) (s z : ℕ) (H : List Entry) where
   or-cases : (a b : Bool) → a || b ≡ true → (a ≡ true) ⊎ (b ≡ true)
   or-cases true b h = inl refl
   or-cases false b h = inr h
 
-  asked-of : (a : ℕ) → goAsks (mapGiven g) (liveOf (g .live)) s z H a ≡ true → Asked (goGiven g s z) s z H z k a
+  asked-of : (a : ℕ) → goAsks (mapGiven g) (liveOf (g .live)) s z H a ≡ true → Asked (goGiven g s z) s z H a
   unfolding goAsks goOf
   asked-of a h = go (or-cases (eqb s a) (anyBelow (mapGiven g .base .arcs) road) h)
     where
@@ -52,7 +54,7 @@ module _ (g : Given) (s z : ℕ) (H : List Entry) (k : ℕ) where
       road i = eqb (N .base .head i) a && isNumber (liveOf (g .live) i) && isNumber (timeIn H (N .base .tail i))
           && not (eqb (N .base .tail i) z)
 
-      go : (eqb s a ≡ true) ⊎ (anyBelow (N .base .arcs) road ≡ true) → Asked (goGiven g s z) s z H z k a
+      go : (eqb s a ≡ true) ⊎ (anyBelow (N .base .arcs) road ≡ true) → Asked (goGiven g s z) s z H a
       go (inl q) = asked-start (sym (eqb-true s a q))
       go (inr q) =
           let w = anyBelow-true (N .base .arcs) road q in
@@ -64,22 +66,31 @@ module _ (g : Given) (s z : ℕ) (H : List Entry) (k : ℕ) where
           let d = isNumber-true (liveOf (g .live) i) (u .1) in
           let t = isNumber-true (timeIn H (N .base .tail i)) (y .1) in
           let nz : N .base .tail i ≡ z → ⊥ = eqb-false (N .base .tail i) z (not-true (eqb (N .base .tail i) z) (x .1)) in
-          asked-head i (t .0) (d .0) (w .1) (λ q. absurd (nz q)) nz (t .1) (d .1) (eqb-true (N .base .head i) a (u .0))
+          asked-head (N .base .tail i) (t .0) nz (t .1) (record {
+            road = i;
+            cost = d .0;
+            below = w .1;
+            inside = w .1;
+            from = refl;
+            opens = d .1;
+            to = eqb-true (N .base .head i) a (u .0);
+          })
 
-  asks-of : (a : ℕ) → Asked (goGiven g s z) s z H z k a → goAsks (mapGiven g) (liveOf (g .live)) s z H a ≡ true
+  asks-of : (a : ℕ) → Asked (goGiven g s z) s z H a → goAsks (mapGiven g) (liveOf (g .live)) s z H a ≡ true
   unfolding goAsks goOf
   asks-of a (asked-start q) = rw (eq-eqb s a (sym q))
-  asks-of a (asked-head i t d li r nz h co hd) =
+  asks-of a (asked-head u t nz h x) =
       let N = mapGiven g in
+      let i = x .road in
       let road : ℕ → Bool = λ i. eqb (N .base .head i) a && isNumber (liveOf (g .live) i) && isNumber (timeIn H (N .base .tail i))
       && not (eqb (N .base .tail i) z) in
       let one : road i ≡ true = rw (
-        eq-eqb (N .base .head i) a hd,
-        true-isNumber (liveOf (g .live) i) d co,
-        true-isNumber (timeIn H (N .base .tail i)) t h,
-        ne-eqb (N .base .tail i) z nz,
+        eq-eqb (N .base .head i) a (x .to),
+        true-isNumber (liveOf (g .live) i) (x .cost) (x .opens),
+        true-isNumber (timeIn H (N .base .tail i)) t (ap (timeIn H) (x .from) ∙ h),
+        ne-eqb (N .base .tail i) z (λ q. nz (sym (x .from) ∙ q)),
       ) in
-      or-right (eqb s a) (true-anyBelow (N .base .arcs) road i li one)
+      or-right (eqb s a) (true-anyBelow (N .base .arcs) road i (x .inside) one)
     where
       or-right : (b : Bool) {c : Bool} → c ≡ true → b || c ≡ true
       or-right true q = refl
@@ -116,31 +127,40 @@ module _ (G : Problem) (z : ℕ) (goals : (v : ℕ) → G .goal v ≡ eqb v z) w
           one (inl q) = absurd (true-false refl (rw q at f))
           one (inr q) = rw q
 
--- ---- from the end of the loop to the answer
-module _ {g : Given} {s z : ℕ} (r : Ready g s z) {e₀ log₀ : List ℕ} {W : Work} {log : List ℕ} {c : ℕ} (x : Explored g s z e₀ log₀ W log c)
-    (elapsed : List ℕ) (finished : elapsed ≡ listed (length (W .times)) (kept (W .keys) (W .times)))
-    (timed : length (W .times) ≡ g .sizes .n) where
+-- ---- one step back is the tail of the road that gave the time
+step-is : {g : Given} {s z : ℕ} (r : Ready g s z) (vias : List ℕ) (v : ℕ) → getD vias v 0 < goGiven g s z .net .arcs
+    → stepBack (g .roads) vias (g .sizes .n) (g .sizes .m) v ≡ goGiven g s z .net .tail (getD vias v 0)
+unfolding stepBack
+step-is {g} {s} {z} r vias v li =
+    let k = codes r in
+    let i = getD vias v 0 in
+    let lm : i < g .sizes .m = rw (k .reads .arcs-are) at li in
+    let t = k .reads .tails i lm in
+    let b : wordAt (g .roads) (roadSize * i) < g .sizes .n = omega (arith, k .ok .well-formed .inside .tails i li, t, k .reads .size-is) in
+    rw (lt-ltb i (g .sizes .m) lm, lt-ltb (wordAt (g .roads) (roadSize * i)) (g .sizes .n) b) (sym t)
+
+-- ---- from what a whole run leaves to the answer
+module _ {g : Given} {s z : ℕ} (r : Ready g s z) {l l′ : Written} {c : ℕ} {complete : Bool}
+    (x : Advanced g s z (history (goGiven g s z)) l l′ c complete) where
   total-time : timeIn (history (goGiven g s z)) z ≡ totalOf (goGiven g s z)
   total-time = target-time (goGiven g s z) z (codes r .goals) (history (goGiven g s z)) (totalOf (goGiven g s z))
       (end (codes r .ok .well-formed))
 
   total-fits : (t : ℕ) → totalOf (goGiven g s z) ≡ some t → t ≤ mostTotal
-  total-fits t q = codes r .ok .times (history-reached (goGiven g s z)) z t (total-time ∙ q)
+  total-fits t q = ready-time r (history-reached (goGiven g s z)) z t (total-time ∙ q)
 
-  elapsed-is : elapsed ≡ listed (mapGiven g .vertices) (λ v. word (timeIn (history (goGiven g s z)) v))
-  elapsed-is =
-      finished ∙ ap (λ (k : ℕ). listed k (kept (W .keys) (W .times))) (timed ∙ sym (r .n-is))
-      ∙ listed-same (mapGiven g .vertices) (kept (W .keys) (W .times)) (λ v. word (timeIn (history (goGiven g s z)) v))
-      (λ v lv. kept-times (codes r .ok) (W .times) (W .keys) (W .vias) (x .held .labels) v (rw (codes r .size-is) (rw (r .n-is) at lv)))
+  elapsed-is : l′ .elapsed ≡ listed (mapGiven g .vertices) (λ v. word (timeIn (history (goGiven g s z)) v))
+  elapsed-is = x .elapsed-is ∙ ap (λ (k : ℕ). listed k (λ v. word (timeIn (history (goGiven g s z)) v))) (sym (r .n-is))
 
-  total-word : (total : ℕ) → total ≡ getD elapsed z 0 → total ≡ word (totalOf (goGiven g s z))
+  total-word : (total : ℕ) → total ≡ getD (l′ .elapsed) z 0 → total ≡ word (totalOf (goGiven g s z))
   total-word total q =
       q ∙ ap (λ (l : List ℕ). getD l z 0) elapsed-is
       ∙ listed-at (mapGiven g .vertices) (λ v. word (timeIn (history (goGiven g s z)) v)) z (rw (r .n-is) (r .target)) ∙ ap word total-time
 
-  estimates-are : W .estimates ≡ filled (mapGiven g) z (asks (mapGiven g) (g .live) s z) e₀
+  estimates-are : l′ .estimates ≡ filled (mapGiven g) z (asks (mapGiven g) (g .live) s z) (l .estimates)
   unfolding goFills
-  estimates-are = filled-is (mapGiven g) z (asks (mapGiven g) (g .live) s z) e₀ (W .estimates) (x .held .filling .size) right-at kept-at
+  estimates-are =
+      filled-is (mapGiven g) z (asks (mapGiven g) (g .live) s z) (l .estimates) (l′ .estimates) (x .filling .size) right-at kept-at
     where
       M : Map
       M = mapGiven g
@@ -151,23 +171,36 @@ module _ {g : Given} {s z : ℕ} (r : Ready g s z) {e₀ log₀ : List ℕ} {W :
       asked : ℕ → Bool
       asked = goAsks M (liveOf (g .live)) s z H
 
-      right-at : (v : ℕ) → v < M .vertices → asks M (g .live) s z v ≡ true → getD (W .estimates) v 0 ≡ word (estimateOf M z v)
+      right-at : (v : ℕ) → v < M .vertices → asks M (g .live) s z v ≡ true → getD (l′ .estimates) v 0 ≡ word (estimateOf M z v)
       right-at v lv q =
           let w = anyBelow-true (M .vertices) (λ a. asked a && fills M a v) q in
           let y = and-true (asked (w .0)) (fills M (w .0) v) (w .2) in
-          x .held .filling .right (w .0) (w .1) (asked-of g s z H (x .upto) (w .0) (y .0)) v lv (y .1)
+          x .filling .right (w .0) (w .1) (asked-of g s z H (w .0) (y .0)) v lv (y .1)
 
-      kept-at : (v : ℕ) → v < M .vertices → asks M (g .live) s z v ≡ false → getD (W .estimates) v 0 ≡ getD e₀ v 0
+      kept-at : (v : ℕ) → v < M .vertices → asks M (g .live) s z v ≡ false → getD (l′ .estimates) v 0 ≡ getD (l .estimates) v 0
       kept-at v lv q =
-          x .held .filling .kept v lv
+          x .filling .kept v lv
           (λ a la y f. true-false (true-anyBelow (M .vertices) (λ a. asked a && fills M a v) a la
-          (true-and (asked a) (fills M a v) (asks-of g s z H (x .upto) a y) f)) q)
+          (true-and (asked a) (fills M a v) (asks-of g s z H a y) f)) q)
 
-  module _ (total : ℕ) (read : total ≡ getD elapsed z 0) (route₀ : List ℕ) where
+  -- the start's time is its start time, and no other junction has one
+  begins-is : (v t : ℕ) → timeIn (history (goGiven g s z)) v ≡ some t → eqb v s ≡ is (goGiven g s z .start v) t
+  unfolding is
+  begins-is v t h = at (ℕ-discrete v s)
+    where
+      at : Dec (v ≡ s) → eqb v s ≡ is (goGiven g s z .start v) t
+      at (yes q) =
+          let e : goGiven g s z .start v ≡ some 0 = ap (goGiven g s z .start) q ∙ codes r .start-here in
+          let b = start-no-later (history-reached (goGiven g s z)) v t 0 h e in
+          eq-eqb v s q ∙ sym (true-is (goGiven g s z .start v) t (e ∙ ap some (omega arith)))
+      at (no q) = ne-eqb v s q ∙ sym (ap (λ (y : Total). is y t) (codes r .start-elsewhere v q))
+
+  module _ (total : ℕ) (read : total ≡ getD (l′ .elapsed) z 0) (route₀ : List ℕ) where
     -- what does not depend on the route
     found-with : (number : ℕ) (route : List ℕ) → number ≡ length (routeOf (goGiven g s z))
         → route ≡ goRoute (totalOf (goGiven g s z)) (routeOf (goGiven g s z)) route₀
-        → Found (g .roads) (g .order) (g .live) s z e₀ route₀ log₀ (W .estimates) elapsed route log total c number
+        → Found (g .roads) (g .order) (g .live) s z (l .estimates) route₀ (l .log) (l′ .estimates) (l′ .elapsed) route (l′ .log)
+        total c number
     unfolding logOf
     found-with number route a b = record {
       total-is = total-word total read;
@@ -182,39 +215,43 @@ module _ {g : Given} {s z : ℕ} (r : Ready g s z) {e₀ log₀ : List ℕ} {W :
 
     -- no path
     pub answer-lost : eqb total noneWord ≡ true
-        → Found (g .roads) (g .order) (g .live) s z e₀ route₀ log₀ (W .estimates) elapsed route₀ log total c 0
+        → Found (g .roads) (g .order) (g .live) s z (l .estimates) route₀ (l .log) (l′ .estimates) (l′ .elapsed) route₀ (l′ .log) total c 0
     unfolding routeOf
     answer-lost q =
-        let p = word-none total (totalOf (goGiven g s z)) (total-word total read) total-fits (eqb-true total noneWord q) in
+        let p = word-none total (totalOf (goGiven g s z)) (total-word total read) (λ t e. omega (arith, total-fits t e))
+        (eqb-true total noneWord q) in
         let w = way-lost (goGiven g s z) z (codes r .goals) (history (goGiven g s z)) (totalOf (goGiven g s z))
         (end (codes r .ok .well-formed)) p in
         found-with 0 route₀ (ap length (sym w)) (ap (λ (T : Total). goRoute T (routeOf (goGiven g s z)) route₀) (sym p))
 
     -- the route
     pub answer-found : (number : ℕ) (route : List ℕ) → eqb total noneWord ≡ false
-        → number ≡ roadsBack (g .roads) (W .vias) (g .sizes .n) (g .sizes .m) s (g .sizes .n) z
-        → route ≡ first (wayOf (g .roads) (W .vias) (g .sizes .n) (g .sizes .m) number z) route₀
-        → Found (g .roads) (g .order) (g .live) s z e₀ route₀ log₀ (W .estimates) elapsed route log total c number
+        → number ≡ arcsBack (λ u. eqb u s) (stepBack (g .roads) (l′ .ways) (g .sizes .n) (g .sizes .m)) (g .sizes .n) z
+        → route ≡ first (wayOf (λ u. getD (l′ .ways) u 0) (stepBack (g .roads) (l′ .ways) (g .sizes .n) (g .sizes .m)) number z) route₀
+        → Found (g .roads) (g .order) (g .live) s z (l .estimates) route₀ (l .log) (l′ .estimates) (l′ .elapsed) route (l′ .log)
+        total c number
     unfolding routeOf
     answer-found number route q a b =
         let k = codes r in
         let G = goGiven g s z in
+        let before = stepBack (g .roads) (l′ .ways) (g .sizes .n) (g .sizes .m) in
         let p = word-some total (totalOf G) (total-word total read) (eqb-false total noneWord q) in
         let w : wayIn G (history G) ≡ back G (history G) z = way-found G z (k .goals) (history G) (totalOf G) (end (k .ok .well-formed))
         (p .0) (p .1) in
         let h : timeIn (history G) z ≡ some (p .0) = total-time ∙ p .1 in
-        let lz : z < G .size = rw (k .size-is) (r .target) in
+        let lz : z < G .size = rw (k .reads .size-is) (r .target) in
         let short = back-route G (history-reached G) z (p .0) h .1 in
-        let le : length (back G (history G) z) ≤ G .size = omega (arith, short, length-le (k .ok .well-formed) (history-reached G)) in
-        let tails : (i : ℕ) → i < G .net .arcs → G .net .tail i ≡ wordAt (g .roads) (roadSize * i) =
-        λ i l. k .tails i (rw (k .arcs-are) at l) in
+        let le : length (back G (history G) z) ≤ g .sizes .n = omega (
+          arith,
+          short,
+          length-le (k .ok .well-formed) (history-reached G),
+          k .reads .size-is,
+        ) in
+        let steps : (v : ℕ) → v < G .size → getD (l′ .ways) v 0 < G .net .arcs → before v ≡ G .net .tail (getD (l′ .ways) v 0) =
+        λ v lv li. step-is r (l′ .ways) v li in
         let y : number ≡ length (back G (history G) z) = a
-        ∙ rw (← (k .size-is), ← (k .arcs-are)) (roads-back (k .ok) (W .times) (W .keys) (W .vias) (x .held .labels) s (k .starts) (g .roads)
-        tails (G .size) z (p .0) lz h le) in
-        let u : wayOf (g .roads) (W .vias) (g .sizes .n) (g .sizes .m) number z ≡ back G (history G) z = rw (
-          ← (k .size-is),
-          ← (k .arcs-are),
-        ) (way-back-is (k .ok) (W .times) (W .keys) (W .vias) (x .held .labels) s (k .starts) (g .roads) tails number z (p .0) lz h
-        (sym y)) in
+        ∙ arcs-back (k .ok .well-formed) (x .ways) (λ v t lv e. begins-is v t e) steps (g .sizes .n) z (p .0) lz h le in
+        let u : wayOf (λ u. getD (l′ .ways) u 0) before number z ≡ back G (history G) z =
+        way-back-is (k .ok .well-formed) (x .ways) (λ v t lv e. begins-is v t e) steps number z (p .0) lz h (sym y) in
         found-with number route (y ∙ ap length (sym w))
         (b ∙ ap (λ (l : List ℕ). first l route₀) (u ∙ sym w) ∙ ap (λ (T : Total). goRoute T (routeOf G) route₀) (sym (p .1)))

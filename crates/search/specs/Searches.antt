@@ -1,14 +1,13 @@
--- What a search answers and leaves (document 01: the search log), with the laws that a caller takes from it. Assumes nothing.
-use mathlib.Core.Path.{_∙_, _≡_, ap, sym}
+-- What a search answers and leaves (document 01: the search log). Definitions only.
+use mathlib.Core.Path.{_≡_}
 use mathlib.Core.Bool.{true}
-use mathlib.Core.Option.{none, some}
+use mathlib.Core.Option.{some}
 use mathlib.Core.List.{List}
 use Prim.Native.Nat.{_<_, _≤_, ℕ}
 use lib.ListN.{length}
-use Rattle.graph.specs.Total.{Total}
 use Rattle.graph.specs.Search.{countOf, history, logOf, routeOf, timeIn, totalOf, vertices}
 use Rattle.model.specs.Limits.{mostTotal}
-use Rattle.model.specs.Word.{noneWord, word}
+use Rattle.model.specs.Word.{word}
 use Rattle.model.specs.Bytes.{listed}
 use Rattle.model.specs.State.{first}
 use Rattle.model.specs.Set.{settable}
@@ -16,9 +15,8 @@ use Rattle.model.specs.Estimate.{Kept, filled}
 use Rattle.model.specs.Go.{asks, goRoute, liveOf}
 use Rattle.model.specs.Good.{AimFacts}
 use Rattle.network.specs.Bodies.{Prepared, mapIn}
-use Rattle.search_labels.specs.Labelled.{word-none, word-some}
-use Rattle.search_relaxing.specs.State.{Given, goIn}
-use Rattle.search.specs.Logs.{Written}
+use Rattle.search_junctions.specs.State.{Given, goIn}
+use Rattle.search_run.specs.Runs.{Written}
 
 -- Total or none, count, number of roads; estimates, elapsed, route and log as go leaves them. e₀, route₀ and log₀ are the areas before.
 pub record Found (roads order live : List ℕ) (s z : ℕ) (e₀ route₀ log₀ e elapsed route log : List ℕ) (total count number : ℕ) : Type 0 where
@@ -45,12 +43,3 @@ pub record Searches (roads order ranks pairs live down : List ℕ) (count s z : 
 abbrev pub SearchesIn : Given → (s z : ℕ) → (l l′ : Written) → (total logged number : ℕ) → Type 0
 SearchesIn g s z l l′ = Searches (g .roads) (g .order) (g .ranks) (g .pairs) (g .live) (g .down) (g .sizes .pairs) s z
     (l .estimates) (l .ways) (l .log) (l′ .estimates) (l′ .elapsed) (l′ .ways) (l′ .log)
-
--- the word of the total tells whether there is a path
-module _ {roads order live : List ℕ} {s z : ℕ} {e₀ route₀ log₀ e elapsed route log : List ℕ} {total count number : ℕ}
-    (f : Found roads order live s z e₀ route₀ log₀ e elapsed route log total count number) where
-  pub found-none : total ≡ noneWord → totalOf (goIn roads order live s z) ≡ none
-  found-none q = word-none total (totalOf (goIn roads order live s z)) (f .total-is) (f .fits) q
-
-  pub found-some : (total ≡ noneWord → ⊥) → totalOf (goIn roads order live s z) ≡ some total
-  found-some ne = let r = word-some total (totalOf (goIn roads order live s z)) (f .total-is) ne in r .1 ∙ ap some (sym (r .2))

@@ -9,19 +9,20 @@ use lib.ListN.{getD, length, set}
 use lib.Seq.{getD-set-other, getD-set-same}
 use native.Mathlib.Decide.{ℕ-discrete}
 use native.Mathlib.Omega.{arith}
-use Rattle.graph.specs.Total.{decideOption, none-some, some-some}
+use Rattle.graph.specs.Total.{Tested, decide, none-some, some-some}
 use Rattle.graph.specs.Least.{IsLeast, least-map, least-unique}
 use Rattle.graph.specs.Network.{arcOf}
-use Rattle.graph.specs.Search.{Entry, Problem, back, firstVia, is, offerVia, offered, timeIn}
+use Rattle.graph.specs.Search.{Entry, Problem, firstVia, is, offerVia, offered, timeIn}
 use Rattle.graph.specs.Walk.{Offer, byArc, byStart, offerVia-some, offered-least, some-offerVia, timeIn-here, timeIn-there}
 use Rattle.graph.specs.Choice.{Candidate, NextIs, Prior, chosen, finished}
-use Rattle.graph.specs.Back.{back-start, back-there, back-via, firstVia-least}
-use Rattle.search_keys.specs.Keys.{LeastKey, settledKey}
-use Rattle.search_labels.specs.Labelled.{Gives, Labelled, Labels, Offers, Searchable, Way, label-candidate}
-use Rattle.search_labels.specs.Labelled.{label-hopeless, label-logged, label-unseen, way-begins, way-through, mostOffer}
+use Rattle.graph.specs.Back.{back-start, back-there, back-via, firstVia-least, is-true, true-is}
+use Rattle.search_queue.specs.Order.{FirstOf, Order, Waiting, settledKey}
+use Rattle.search_labels.specs.Labelling.{Labelling}
+use Rattle.search_labels.specs.Labelled.{Chooses, Gives, Labelled, Labels, Offers, Way, label-candidate}
+use Rattle.search_labels.specs.Labelled.{label-hopeless, label-logged, label-unseen, way-begins, way-through}
 use Rattle.search_labels.specs.Relax.{label-same}
 
--- ---- where all roads are relaxed, the offers are the definition's
+-- ---- where all arcs are relaxed, the offers are the definition's
 module _ {G : Problem} {H : List Entry} {c k : ℕ} (full : G .net .arcs ≤ k) where
   offer-of : {v : ℕ} (t : ℕ) → Offers G H c k v t → Offer G H v t
   offer-of t (inl q) = byStart q
@@ -48,51 +49,55 @@ module _ {G : Problem} {H : List Entry} {c k : ℕ} (full : G .net .arcs ≤ k) 
 
   -- a candidate's label has its time and its key
   candidate-label : {d : Entry} → Candidate G H d → {t q i : ℕ} → Labelled G H c k (d .vertex) t q i → (t ≡ d .time) × (q ≡ d .key)
-      × (d .time ≤ mostOffer)
+      × (q < settledKey)
   candidate-label m (label-logged h s w) = absurd (none-some (m .unlogged) h)
   candidate-label m (label-hopeless h p a b) = absurd (none-some p (m .pot-is))
   candidate-label {d} m (label-unseen h bare a b) =
       absurd (bare (d .time) (offers-of (d .time) (offered-least G H (d .vertex) .attained (d .time) (m .time-is))))
-  candidate-label {d} m (label-candidate {t} {p} h pot least fits first key) =
+  candidate-label {d} m (label-candidate {t} {p} h pot least low keyed first key) =
       let e : t ≡ d .time = some-some (offered-is least) (m .time-is) in
       let f : p ≡ m .estimate = some-some pot (m .pot-is) in
-      (e, omega (arith, key, m .key-is), omega arith)
+      (e, omega (arith, key, m .key-is), keyed)
 
   label-candidate-of : {v t q i : ℕ} → v < G .size → q < settledKey → Labelled G H c k v t q i
       → Candidate G H (record { vertex = v; time = t; key = q })
   label-candidate-of lv l (label-logged h s w) = absurd (omega arith)
   label-candidate-of lv l (label-hopeless h p a b) = absurd (omega arith)
   label-candidate-of lv l (label-unseen h bare a b) = absurd (omega arith)
-  label-candidate-of lv l (label-candidate {p} h pot least fits first key) =
+  label-candidate-of lv l (label-candidate {p} h pot least low keyed first key) =
       record { below = lv; unlogged = h; estimate = p; pot-is = pot; key-is = key; time-is = offered-is least }
 
   -- ---- choosing
-  module _ (ok : Searchable G) (times keys vias : List ℕ) (labels : Labels G H c k times keys vias) where
-    -- no key is one of a candidate
-    pub next-none : ((v : ℕ) → v < G .size → settledKey ≤ getD keys v 0) → NextIs G H none
-    next-none high = finished (λ d m.
+  module _ (l : Labelling) {o : Order} (order : Chooses G (l .times) (l .keys) o) (labels : Labels G H c k l) where
+    -- no vertex waits
+    pub next-none : ((v : ℕ) → v < G .size → Waiting o v → ⊥) → NextIs G H none
+    next-none nobody = finished (λ d m.
         let e = candidate-label m (labels (d .vertex) (m .below)) in
-        let b = ok .pots (d .vertex) (m .estimate) (m .below) (m .pot-is) in
-        let z : ⊥ = omega (arith, high (d .vertex) (m .below), e .1, m .key-is, b, e .2) in z)
+        nobody (d .vertex) (m .below) (omega (arith, order .key-is (d .vertex) (m .below), e .2)))
 
-    -- the least key, on equal keys the smaller number
-    pub next-chosen : (v : ℕ) → LeastKey keys (G .size) v
-        → NextIs G H (some (record { vertex = v; time = getD times v 0; key = getD keys v 0 }))
-    next-chosen v l = chosen (label-candidate-of (l .inside) (l .candidate) (labels v (l .inside))) prior
+    -- the first vertex that waits
+    pub next-chosen : (v : ℕ) → FirstOf o (G .size) v
+        → NextIs G H (some (record { vertex = v; time = getD (l .times) v 0; key = getD (l .keys) v 0 }))
+    next-chosen v f = chosen (label-candidate-of (f .inside) (omega (arith, f .waits, key-v)) (labels v (f .inside))) prior
       where
-        prior : (d : Entry) → Candidate G H d → Prior G (record { vertex = v; time = getD times v 0; key = getD keys v 0 }) d
+        key-v : o .key v ≡ getD (l .keys) v 0
+        key-v = order .key-is v (f .inside)
+
+        prior : (d : Entry) → Candidate G H d → Prior G (record { vertex = v; time = getD (l .times) v 0; key = getD (l .keys) v 0 }) d
         prior d m =
             let e = candidate-label m (labels (d .vertex) (m .below)) in
-            let o = l .best (d .vertex) (m .below) in
+            let key-d : o .key (d .vertex) ≡ d .key = order .key-is (d .vertex) (m .below) ∙ e .1 in
+            let tie-d : o .tie (d .vertex) ≡ G .tie (d .time) = order .tie-is (d .vertex) (m .below) ∙ ap (G .tie) (e .0) in
+            let tie-v : o .tie v ≡ G .tie (getD (l .times) v 0) = order .tie-is v (f .inside) in
+            let b = f .best (d .vertex) (m .below) (omega (arith, key-d, e .1, e .2)) in
             record {
-              keys = omega (arith, o .keys-le, e .1);
-              ties = λ q. omega (arith, ok .no-ties (getD times v 0), ok .no-ties (d .time));
-              numbers = λ q r. o .numbers (omega (arith, e .1));
+              keys = omega (arith, b .keys-le, key-v, key-d);
+              ties = λ q. omega (arith, b .ties-le (omega (arith, key-v, key-d, q)), tie-v, tie-d);
+              numbers = λ q r. b .numbers (omega (arith, key-v, key-d, q)) (omega (arith, tie-v, tie-d, r));
             }
 
--- ---- logging
-module _ {G : Problem} (ok : Searchable G) (H : List Entry) (c k : ℕ) (full : G .net .arcs ≤ k) (e : Entry)
-    (new : timeIn H (e .vertex) ≡ none) where
+-- ---- logging: e is the newest entry
+module _ (G : Problem) (H : List Entry) (e : Entry) (new : timeIn H (e .vertex) ≡ none) where
   other : (u s : ℕ) → timeIn H u ≡ some s → e .vertex ≡ u → ⊥
   other u s h q = none-some new (ap (timeIn H) q ∙ h)
 
@@ -100,74 +105,76 @@ module _ {G : Problem} (ok : Searchable G) (H : List Entry) (c k : ℕ) (full : 
   unfolding offerVia
   offer-same u i ne = rw (timeIn-there e H (G .net .tail i) ne)
 
+  way-older : {u : ℕ} → (e .vertex ≡ u → ⊥) → (i : ℕ) → Way G H u i → Way G (e ∷ H) u i
+  way-older {u} ne i (way-begins t h s b) = way-begins t (timeIn-there e H u ne ∙ h) s (back-there G e H u ne ∙ b)
+  way-older {u} ne i (way-through t s g o l h b) =
+      let x = other (G .net .tail i) s h in
+      way-through t s (timeIn-there e H u ne ∙ g) o l (timeIn-there e H (G .net .tail i) x ∙ h)
+      (back-there G e H u ne ∙ b ∙ ap (λ (r : List ℕ). r ++ (i ∷ [])) (sym (back-there G e H (G .net .tail i) x)))
+
+  -- the way back from e, if its time is the start time, and if an arc gives it
+  way-start : {i : ℕ} → G .start (e .vertex) ≡ some (e .time) → Way G (e ∷ H) (e .vertex) i
+  way-start s =
+      way-begins (e .time) (timeIn-here e H (e .vertex) refl) (true-is (G .start (e .vertex)) (e .time) s)
+      (back-start G e H (e .vertex) refl s)
+
+  way-arc : {i : ℕ} → is (G .start (e .vertex)) (e .time) ≡ false → firstVia (G .net) H (e .vertex) (e .time) ≡ some i → i < G .net .arcs
+      → offerVia (G .net) H (e .vertex) i ≡ some (e .time) → Way G (e ∷ H) (e .vertex) i
+  way-arc {i} q via li gives =
+      let r = offerVia-some (G .net) H (e .vertex) i (e .time) gives in
+      let x = other (G .net .tail i) (r .1 .0) (r .1 .2) in
+      way-through (e .time) (r .1 .0) (timeIn-here e H (e .vertex) refl) q li (timeIn-there e H (G .net .tail i) x ∙ r .1 .2)
+      (back-via G e H (e .vertex) i refl q via ∙ ap (λ (r : List ℕ). r ++ (i ∷ [])) (sym (back-there G e H (G .net .tail i) x)))
+
+module _ {G : Problem} {H : List Entry} {c k : ℕ} (full : G .net .arcs ≤ k) (e : Entry) (new : timeIn H (e .vertex) ≡ none) where
   logged-into : {u : ℕ} (i t : ℕ) → Gives G H c k u i t → Gives G (e ∷ H) (e .vertex) 0 u i t
   logged-into {u} i t g =
       let r = offerVia-some (G .net) H u i t (g .offer) in
-      let ne = other (G .net .tail i) (r .1 .0) (r .1 .2) in
-      record { below = g .below; relaxed = λ q. absurd (ne (sym q)); offer = offer-same u i ne ∙ g .offer }
+      let ne = other G H e new (G .net .tail i) (r .1 .0) (r .1 .2) in
+      record { below = g .below; relaxed = λ q. absurd (ne (sym q)); offer = offer-same G H e new u i ne ∙ g .offer }
 
   logged-back : {u : ℕ} (i t : ℕ) → Gives G (e ∷ H) (e .vertex) 0 u i t → Gives G H c k u i t
   logged-back {u} i t g =
       record {
         below = g .below;
         relaxed = λ q. omega (arith, g .below);
-        offer = sym (offer-same u i (λ q. (let z : i < 0 = g .relaxed (sym q) in omega arith))) ∙ g .offer;
+        offer = sym (offer-same G H e new u i (λ q. (let z : i < 0 = g .relaxed (sym q) in omega arith))) ∙ g .offer;
       }
 
-  way-older : {u : ℕ} → (e .vertex ≡ u → ⊥) → (i : ℕ) → Way G H u i → Way G (e ∷ H) u i
-  way-older {u} ne i (way-begins t s b) = way-begins t s (back-there G e H u ne ∙ b)
-  way-older {u} ne i (way-through s o l h b) =
-      let x = other (G .net .tail i) s h in
-      way-through s o l (timeIn-there e H (G .net .tail i) x ∙ h)
-      (back-there G e H u ne ∙ b ∙ ap (λ (r : List ℕ). r ++ (i ∷ [])) (sym (back-there G e H (G .net .tail i) x)))
-
-  -- the way back from the newest entry
-  way-new : {i : ℕ} → IsLeast (Offers G H c k (e .vertex)) (some (e .time)) → (G .start (e .vertex) ≡ some (e .time))
-      ⊎ IsLeast (λ j. Gives G H c k (e .vertex) j (e .time)) (some i)
+  -- a start time that is not the entry's leaves the way to the first arc
+  way-new : {i : ℕ} → (G .start (e .vertex) ≡ some (e .time)) ⊎ IsLeast (λ j. Gives G H c k (e .vertex) j (e .time)) (some i)
       → Way G (e ∷ H) (e .vertex) i
-  unfolding is
-  way-new least (inl s) = way-begins (e .time) s (back-start G e H (e .vertex) refl s)
-  way-new {i} least (inr f) = go (decideOption (G .start (e .vertex)))
+  way-new (inl s) = way-start G H e new s
+  way-new {i} (inr f) = go (decide (is (G .start (e .vertex)) (e .time)))
     where
       via : firstVia (G .net) H (e .vertex) (e .time) ≡ some i
       via =
           least-unique (firstVia-least (G .net) H (e .vertex) (e .time))
           (least-map (λ j g. (g .below, g .offer)) (λ j g. record { below = g .0; relaxed = λ q. omega (arith, g .0); offer = g .1 }) f)
 
-      unstarted : G .start (e .vertex) ≡ none → is (G .start (e .vertex)) (e .time) ≡ false
-      unstarted q = rw q
-
-      go : (G .start (e .vertex) ≡ none) ⊎ ((a : ℕ) × (G .start (e .vertex) ≡ some a)) → Way G (e ∷ H) (e .vertex) i
-      go (inl q) =
-          let g = f .attained i refl in
-          let r = offerVia-some (G .net) H (e .vertex) i (e .time) (g .offer) in
-          let x = other (G .net .tail i) (r .1 .0) (r .1 .2) in
-          way-through (r .1 .0) q (g .below) (timeIn-there e H (G .net .tail i) x ∙ r .1 .2)
-          (back-via G e H (e .vertex) i refl (unstarted q) via
-          ∙ ap (λ (r : List ℕ). r ++ (i ∷ [])) (sym (back-there G e H (G .net .tail i) x)))
-      go (inr q) =
-          let a : q .0 ≡ 0 = ok .zero-start (e .vertex) (q .0) (q .1) in
-          let b : e .time ≤ q .0 = least .bound (q .0) (inl (q .1)) in
-          let s : G .start (e .vertex) ≡ some (e .time) = q .1 ∙ ap some (omega arith) in
-          way-begins (e .time) s (back-start G e H (e .vertex) refl s)
+      go : Tested (is (G .start (e .vertex)) (e .time)) → Way G (e ∷ H) (e .vertex) i
+      go (inl q) = way-start G H e new (is-true (G .start (e .vertex)) (e .time) q)
+      go (inr q) = let g = f .attained i refl in way-arc G H e new q via (g .below) (g .offer)
 
   label-log : {t q i : ℕ} → t ≡ e .time → q < settledKey → Labelled G H c k (e .vertex) t q i
       → Labelled G (e ∷ H) (e .vertex) 0 (e .vertex) t settledKey i
   label-log z l (label-logged h s w) = absurd (omega arith)
   label-log z l (label-hopeless h p a b) = absurd (omega arith)
   label-log z l (label-unseen h bare a b) = absurd (omega arith)
-  label-log z l (label-candidate h pot least fits first key) =
-      rw z (label-logged (timeIn-here e H (e .vertex) refl) refl (way-new (rw z at least) (rw z at first)))
+  label-log z l (label-candidate h pot least low keyed first key) =
+      rw z (label-logged (timeIn-here e H (e .vertex) refl) refl (way-new (rw z at first)))
 
-  -- the junction of the entry is settled, the other labels stay
-  pub labels-log : (times keys vias : List ℕ) → Labels G H c k times keys vias → e .vertex < length keys
-      → getD times (e .vertex) 0 ≡ e .time → getD keys (e .vertex) 0 < settledKey
-      → Labels G (e ∷ H) (e .vertex) 0 times (set keys (e .vertex) settledKey) vias
-  labels-log times keys vias labels lk z l v lv = at (ℕ-discrete v (e .vertex))
+  -- the vertex of the entry is settled, the other labels stay
+  pub labels-log : (l l′ : Labelling) → Labels G H c k l → l′ .times ≡ l .times → l′ .vias ≡ l .vias
+      → l′ .keys ≡ set (l .keys) (e .vertex) settledKey → e .vertex < length (l .keys) → getD (l .times) (e .vertex) 0 ≡ e .time
+      → getD (l .keys) (e .vertex) 0 < settledKey → Labels G (e ∷ H) (e .vertex) 0 l′
+  labels-log l l′ labels times-are vias-are keys-are lk z lt v lv = at (ℕ-discrete v (e .vertex))
     where
-      at : Dec (v ≡ e .vertex) → Labelled G (e ∷ H) (e .vertex) 0 v (getD times v 0) (getD (set keys (e .vertex) settledKey) v 0)
-          (getD vias v 0)
-      at (yes q) = rw (q, getD-set-same keys (e .vertex) settledKey 0 lk) (label-log z l (labels (e .vertex) (rw q at lv)))
+      at : Dec (v ≡ e .vertex) → Labelled G (e ∷ H) (e .vertex) 0 v (getD (l′ .times) v 0) (getD (l′ .keys) v 0) (getD (l′ .vias) v 0)
+      at (yes q) =
+          rw (times-are, vias-are, keys-are, q, getD-set-same (l .keys) (e .vertex) settledKey 0 lk)
+          (label-log z lt (labels (e .vertex) (rw q at lv)))
       at (no q) =
-          rw (getD-set-other keys (e .vertex) v settledKey 0 q)
-          (label-same (way-older (λ r. q (sym r))) logged-into logged-back (sym (timeIn-there e H v (λ r. q (sym r)))) (labels v lv))
+          rw (times-are, vias-are, keys-are, getD-set-other (l .keys) (e .vertex) v settledKey 0 q)
+          (label-same (way-older G H e new (λ r. q (sym r))) logged-into logged-back (sym (timeIn-there e H v (λ r. q (sym r))))
+          (labels v lv))

@@ -1,21 +1,26 @@
--- Labels while roads are relaxed. Assumes nothing.
+-- Labels while arcs are relaxed. Assumes nothing.
 use mathlib.Core.Path.{_∙_, _≡_, ap, refl, sym}
 use mathlib.Core.Logic.{_⊎_, inl, inr}
 use mathlib.Core.Option.{none, some}
 use mathlib.Core.List.{List}
 use Prim.Native.Nat.{_+_, _<_, _≤_, ℕ}
+use borrow.Author.Tests.{ne-eqb}
+use lib.ListN.{getD}
+use lib.Seq.{getD-set-other, getD-set-same}
 use native.Mathlib.Decide.{decLt, ℕ-discrete}
 use native.Mathlib.Omega.{arith}
 use Rattle.graph.specs.Total.{none-some, some-some}
 use Rattle.graph.specs.Least.{IsLeast, least-map, least-number}
+use Rattle.graph.specs.Walk.{offerVia-some}
 use Rattle.graph.specs.Search.{Entry, Problem, offerVia, timeIn}
-use Rattle.model.specs.Limits.{mostTotal}
-use Rattle.model.specs.Word.{word}
-use Rattle.search_labels.specs.Improved.{Improved, behind, earlier, later, lost, settled, tied}
-use Rattle.search_labels.specs.Labelled.{Gives, Labelled, Labels, Offers, Way, label-candidate}
-use Rattle.search_labels.specs.Labelled.{label-hopeless, label-logged, label-unseen, word-none, word-some, mostOffer}
+use Rattle.graph.specs.History.{Reached}
+use Rattle.model.specs.Word.{noneWord, word, word-none, word-some}
+use Rattle.search_queue.specs.Order.{settledKey}
+use Rattle.search_labels.specs.Labelling.{Improved, Labelling, Room, Taken, behind, earlier, later, lost, settled, tied}
+use Rattle.search_labels.specs.Labelled.{Gives, Labelled, Labels, Offers, Searchable, Way, label-candidate}
+use Rattle.search_labels.specs.Labelled.{label-hopeless, label-logged, label-unseen}
 
--- ---- the same label for another history, where v is logged alike and the same roads give it the same times
+-- ---- the same label for another history, where v is logged alike and the same arcs give it the same times
 module _ {G : Problem} {H L : List Entry} {c k d l v : ℕ}
     (ways : (i : ℕ) → Way G H v i → Way G L v i)
     (into : (i t : ℕ) → Gives G H c k v i t → Gives G L d l v i t)
@@ -32,39 +37,32 @@ module _ {G : Problem} {H L : List Entry} {c k d l v : ℕ}
   label-same e (label-logged h s w) = label-logged (sym e ∙ h) s (ways _ w)
   label-same e (label-hopeless h p a b) = label-hopeless (sym e ∙ h) p a b
   label-same e (label-unseen h bare a b) = label-unseen (sym e ∙ h) (λ s o. bare s (offers-back s o)) a b
-  label-same e (label-candidate {t} {i} h p least fits first b) =
-      label-candidate (sym e ∙ h) p (least-map offers-into offers-back least) fits (origin first) b
+  label-same e (label-candidate {t} {i} h p least low keyed first b) =
+      label-candidate (sym e ∙ h) p (least-map offers-into offers-back least) low keyed (origin first) b
     where
       origin : (G .start v ≡ some t) ⊎ IsLeast (λ j. Gives G H c k v j t) (some i) → (G .start v ≡ some t)
           ⊎ IsLeast (λ j. Gives G L d l v j t) (some i)
       origin (inl q) = inl q
       origin (inr f) = inr (least-map (λ j g. into j t g) (λ j g. back j t g) f)
 
--- ---- roads that need no relaxing: none of c between a and b
-module _ {G : Problem} {H : List Entry} {c a b : ℕ} (le : a ≤ b) (none-of : (i : ℕ) → a ≤ i → i < b → G .net .tail i ≡ c → ⊥) where
+-- ---- arcs that need no relaxing: those of c between a and b are closed
+module _ {G : Problem} {H : List Entry} {c a b : ℕ} (le : a ≤ b)
+    (closed : (i : ℕ) → a ≤ i → i < b → G .net .tail i ≡ c → G .net .cost i ≡ none) where
   gives-more : {v : ℕ} (i t : ℕ) → Gives G H c a v i t → Gives G H c b v i t
   gives-more i t g = record { below = g .below; relaxed = λ q. omega (arith, g .relaxed q); offer = g .offer }
 
   gives-less : {v : ℕ} (i t : ℕ) → Gives G H c b v i t → Gives G H c a v i t
-  gives-less i t g = record { below = g .below; relaxed = λ q. at q (decLt i a); offer = g .offer }
+  gives-less {v} i t g = record { below = g .below; relaxed = λ q. at q (decLt i a); offer = g .offer }
     where
       at : G .net .tail i ≡ c → Dec (i < a) → i < a
       at q (yes l) = l
-      at q (no l) = absurd (none-of i (omega arith) (g .relaxed q) q)
+      at q (no l) =
+          absurd (none-some (closed i (omega arith) (g .relaxed q) q) (offerVia-some (G .net) H v i t (g .offer) .1 .3))
 
-  pub labels-skip : (times keys vias : List ℕ) → Labels G H c a times keys vias → Labels G H c b times keys vias
-  labels-skip times keys vias h v lv = label-same (λ i w. w) gives-more gives-less refl (h v lv)
+  pub labels-skip : (l : Labelling) → Labels G H c a l → Labels G H c b l
+  labels-skip l h v lv = label-same (λ i w. w) gives-more gives-less refl (h v lv)
 
--- where all roads are relaxed, it does not matter of which vertex the last ones were
-pub labels-full : {G : Problem} {H : List Entry} {c d k l : ℕ} → G .net .arcs ≤ k → G .net .arcs ≤ l → (times keys vias : List ℕ)
-    → Labels G H c k times keys vias → Labels G H d l times keys vias
-labels-full {G} {H} {c} {d} {k} {l} a b times keys vias h v lv =
-    label-same (λ i w. w)
-    (λ i t g. record { below = g .below; relaxed = λ q. omega (arith, g .below); offer = g .offer })
-    (λ i t g. record { below = g .below; relaxed = λ q. omega (arith, g .below); offer = g .offer })
-    refl (h v lv)
-
--- ---- road i of c is relaxed
+-- ---- arc i of c is relaxed
 module _ {G : Problem} {H : List Entry} {c i : ℕ} (li : i < G .net .arcs) where
   gives-old : {v : ℕ} (j s : ℕ) → Gives G H c i v j s → Gives G H c (i + 1) v j s
   gives-old j s g = record { below = g .below; relaxed = λ q. omega (arith, g .relaxed q); offer = g .offer }
@@ -80,8 +78,12 @@ module _ {G : Problem} {H : List Entry} {c i : ℕ} (li : i < G .net .arcs) wher
   pub label-passed : {v : ℕ} → offerVia (G .net) H v i ≡ none → {t q j : ℕ} → Labelled G H c i v t q j → Labelled G H c (i + 1) v t q j
   label-passed e h = label-same (λ i w. w) gives-old (gives-other e) refl h
 
+  -- it gives no vertex a time
+  pub labels-passed : ((v : ℕ) → offerVia (G .net) H v i ≡ none) → (l : Labelling) → Labels G H c i l → Labels G H c (i + 1) l
+  labels-passed e l h v lv = label-passed (e v) (h v lv)
+
   -- it gives v the time w
-  module _ {v w : ℕ} (gives : offerVia (G .net) H v i ≡ some w) (low : w ≤ mostOffer) where
+  module _ {v w : ℕ} (gives : offerVia (G .net) H v i ≡ some w) (low : w < noneWord) where
     gives-new : Gives G H c (i + 1) v i w
     gives-new = record { below = li; relaxed = λ q. omega arith; offer = gives }
 
@@ -93,9 +95,10 @@ module _ {G : Problem} {H : List Entry} {c i : ℕ} (li : i < G .net .arcs) wher
         at (no q) = inl (record { below = g .below; relaxed = λ e. omega (arith, g .relaxed e); offer = g .offer })
 
     -- a time above w, or none, gives way to it
-    over : {p : ℕ} → timeIn H v ≡ none → G .pot v ≡ some p → ((s : ℕ) → Offers G H c i v s → w < s) → Labelled G H c (i + 1) v w (w + p) i
-    over {p} un pot above =
-        label-candidate un pot (least-number (inr (i, gives-new)) (λ s o. low-of s o)) low
+    over : {p : ℕ} → timeIn H v ≡ none → G .pot v ≡ some p → w + p < settledKey → ((s : ℕ) → Offers G H c i v s → w < s)
+        → Labelled G H c (i + 1) v w (w + p) i
+    over {p} un pot keyed above =
+        label-candidate un pot (least-number (inr (i, gives-new)) (λ s o. low-of s o)) low keyed
         (inr (least-number gives-new (λ j g. first-of j (split j w g)))) refl
       where
         low-of : (s : ℕ) → Offers G H c (i + 1) v s → w ≤ s
@@ -110,11 +113,11 @@ module _ {G : Problem} {H : List Entry} {c i : ℕ} (li : i < G .net .arcs) wher
         first-of j (inl o) = absurd (omega (arith, above w (inr (j, o))))
         first-of j (inr e) = omega (arith, e .0)
 
-    -- a time of at most w stays; of the roads that give it, the first
-    under : {t q j p : ℕ} → timeIn H v ≡ none → G .pot v ≡ some p → IsLeast (Offers G H c i v) (some t) → t ≤ mostOffer → q ≡ t + p → t ≤ w
-        → (G .start v ≡ some t) ⊎ IsLeast (λ j. Gives G H c (i + 1) v j t) (some j) → Labelled G H c (i + 1) v t q j
-    under {t} {q} {j} {p} un pot least fits key le first =
-        label-candidate un pot (record { attained = λ s e. old s (least .attained s e); bound = λ s o. low-of s o }) fits first key
+    -- a time of at most w stays; of the arcs that give it, the first
+    under : {t q j p : ℕ} → timeIn H v ≡ none → G .pot v ≡ some p → IsLeast (Offers G H c i v) (some t) → t < noneWord → q < settledKey
+        → q ≡ t + p → t ≤ w → (G .start v ≡ some t) ⊎ IsLeast (λ j. Gives G H c (i + 1) v j t) (some j) → Labelled G H c (i + 1) v t q j
+    under {t} {q} {j} {p} un pot least fits keyed key le first =
+        label-candidate un pot (record { attained = λ s e. old s (least .attained s e); bound = λ s o. low-of s o }) fits keyed first key
       where
         old : (s : ℕ) → Offers G H c i v s → Offers G H c (i + 1) v s
         old s (inl e) = inl e
@@ -128,7 +131,7 @@ module _ {G : Problem} {H : List Entry} {c i : ℕ} (li : i < G .net .arcs) wher
             at (inl o) = least .bound s (inr (g .0, o))
             at (inr e) = omega arith
 
-    -- the road that stays, and the one that takes over at an equal time
+    -- the arc that stays, and the one that takes over at an equal time
     origin-stays : {t j : ℕ} → (t ≡ w → j ≤ i) → (G .start v ≡ some t) ⊎ IsLeast (λ j. Gives G H c i v j t) (some j)
         → (G .start v ≡ some t) ⊎ IsLeast (λ j. Gives G H c (i + 1) v j t) (some j)
     origin-stays le (inl q) = inl q
@@ -148,8 +151,8 @@ module _ {G : Problem} {H : List Entry} {c i : ℕ} (li : i < G .net .arcs) wher
         at x (inl o) = let b : j ≤ x = f .bound x o in omega arith
         at x (inr d) = omega (arith, d .0)
 
-    -- the label after the road, as code improves it
-    module _ {e : ℕ} (e-is : e ≡ word (G .pot v)) (pots : (p : ℕ) → G .pot v ≡ some p → p ≤ mostTotal) where
+    -- the label after the arc, as code improves it
+    module _ {e : ℕ} (e-is : e ≡ word (G .pot v)) (fits : (p : ℕ) → G .pot v ≡ some p → (p < noneWord) × (w + p < settledKey)) where
       pub label-improved : {t q j t′ q′ j′ : ℕ} → Improved w e i t q j t′ q′ j′ → Labelled G H c i v t q j
           → Labelled G H c (i + 1) v t′ q′ j′
       label-improved (lost z) (label-logged h s y) = label-logged h s y
@@ -164,35 +167,73 @@ module _ {G : Problem} {H : List Entry} {c i : ℕ} (li : i < G .net .arcs) wher
       label-improved (later a b l) (label-hopeless h p x y) = absurd (a (e-is ∙ ap word p))
       label-improved (tied a b l m) (label-hopeless h p x y) = absurd (a (e-is ∙ ap word p))
       label-improved (behind a b l m) (label-hopeless h p x y) = absurd (a (e-is ∙ ap word p))
-      label-improved (lost z) (label-unseen h bare x y) = label-hopeless h (word-none e (G .pot v) e-is pots z) x y
+      label-improved (lost z) (label-unseen h bare x y) = label-hopeless h (word-none e (G .pot v) e-is (λ p q. fits p q .0) z) x y
       label-improved (settled z) (label-unseen h bare x y) = absurd (omega arith)
       label-improved (earlier a b l) (label-unseen h bare x y) =
           let r = word-some e (G .pot v) e-is a in
-          rw (r .2) (over h (r .1) (λ s o. absurd (bare s o)))
+          rw (r .2) (over h (r .1) (fits (r .0) (r .1) .1) (λ s o. absurd (bare s o)))
       label-improved (later a b l) (label-unseen h bare x y) = absurd (omega arith)
       label-improved (tied a b l m) (label-unseen h bare x y) = absurd (omega arith)
       label-improved (behind a b l m) (label-unseen h bare x y) = absurd (omega arith)
-      label-improved (lost z) (label-candidate h p least fits first y) = absurd (none-some (word-none e (G .pot v) e-is pots z) p)
-      label-improved (settled z) (label-candidate {p = f} h p least fits first y) = absurd (omega (arith, pots f p))
-      label-improved (earlier a b l) (label-candidate {t} h p least fits first y) =
+      label-improved (lost z) (label-candidate h p least low keyed first y) =
+          absurd (none-some (word-none e (G .pot v) e-is (λ p q. fits p q .0) z) p)
+      label-improved (settled z) (label-candidate h p least low keyed first y) = absurd (omega arith)
+      label-improved (earlier a b l) (label-candidate {t} h p least low keyed first y) =
           let r = word-some e (G .pot v) e-is a in
-          rw (r .2) (over h (r .1) (λ s o. (let k : t ≤ s = least .bound s o in omega arith)))
-      label-improved (later a b l) (label-candidate h p least fits first y) =
-          under h p least fits y (omega arith) (origin-stays (λ q. absurd (omega arith)) first)
-      label-improved (tied a b l m) (label-candidate h p least fits first y) = under h p least fits y (omega arith) (origin-new l m first)
-      label-improved (behind a b l m) (label-candidate h p least fits first y) =
-          under h p least fits y (omega arith) (origin-stays (λ q. m) first)
+          rw (r .2) (over h (r .1) (fits (r .0) (r .1) .1) (λ s o. (let k : t ≤ s = least .bound s o in omega arith)))
+      label-improved (later a b l) (label-candidate h p least low keyed first y) =
+          under h p least low keyed y (omega arith) (origin-stays (λ q. absurd (omega arith)) first)
+      label-improved (tied a b l m) (label-candidate h p least low keyed first y) =
+          under h p least low keyed y (omega arith) (origin-new l m first)
+      label-improved (behind a b l m) (label-candidate h p least low keyed first y) =
+          under h p least low keyed y (omega arith) (origin-stays (λ q. m) first)
 
-      -- a key never rises
-      pub label-falls : {t q j t′ q′ j′ : ℕ} → Improved w e i t q j t′ q′ j′ → Labelled G H c i v t q j → q′ ≤ q
-      label-falls (lost z) h = omega arith
-      label-falls (settled z) h = omega arith
-      label-falls (earlier a b l) (label-logged h s y) = absurd (b s)
-      label-falls (earlier a b l) (label-hopeless h p x y) = absurd (a (e-is ∙ ap word p))
-      label-falls (earlier a b l) (label-unseen h bare x y) = let r = word-some e (G .pot v) e-is a in
-          omega (arith, pots (r .0) (r .1), r .2)
-      label-falls (earlier a b l) (label-candidate {p = f} h p least fits first y) = let r = word-some e (G .pot v) e-is a in
-          let z : r .0 ≡ f = some-some (r .1) p in omega arith
-      label-falls (later a b l) h = omega arith
-      label-falls (tied a b l m) h = omega arith
-      label-falls (behind a b l m) h = omega arith
+-- ---- the same in the areas
+
+-- the label of v is the improved one, those of other vertices stay
+pub labels-set : {G : Problem} {H : List Entry} {c k w e i n v : ℕ} {l l′ : Labelling} → v < n → Room n l
+    → (taken : Taken w e i n v l l′) → Labelled G H c k v (taken .time) (taken .key) (taken .via)
+    → ((u : ℕ) → u < G .size → (u ≡ v → ⊥) → Labelled G H c k u (getD (l .times) u 0) (getD (l .keys) u 0) (getD (l .vias) u 0))
+    → Labels G H c k l′
+labels-set {G} {H} {c} {k} {v} {l} {l′} lv room taken new old u lu = at (ℕ-discrete u v)
+  where
+    at : Dec (u ≡ v) → Labelled G H c k u (getD (l′ .times) u 0) (getD (l′ .keys) u 0) (getD (l′ .vias) u 0)
+    at (yes q) =
+        rw (
+          taken .times-are,
+          taken .keys-are,
+          taken .vias-are,
+          q,
+          getD-set-same (l .times) v (taken .time) 0 (omega (arith, room .times-room)),
+          getD-set-same (l .keys) v (taken .key) 0 (omega (arith, room .keys-room)),
+          getD-set-same (l .vias) v (taken .via) 0 (omega (arith, room .vias-room)),
+        ) new
+    at (no q) =
+        rw (
+          taken .times-are,
+          taken .keys-are,
+          taken .vias-are,
+          getD-set-other (l .times) v u (taken .time) 0 q,
+          getD-set-other (l .keys) v u (taken .key) 0 q,
+          getD-set-other (l .vias) v u (taken .via) 0 q,
+        ) (old u lu q)
+
+-- an arc gives no time to a vertex that is not its head
+via-other : (G : Problem) (H : List Entry) (v i : ℕ) → (G .net .head i ≡ v → ⊥) → offerVia (G .net) H v i ≡ none
+unfolding offerVia
+via-other G H v i ne = rw (ne-eqb (G .net .head i) v ne)
+
+-- arc i gives its head v the time w, which is taken into the areas
+pub labels-taken : {G : Problem} (ok : Searchable G) {H : List Entry} (reached : Reached G H) {c i v w e n : ℕ} {l l′ : Labelling}
+    → i < G .net .arcs → G .net .head i ≡ v → offerVia (G .net) H v i ≡ some w → e ≡ word (G .pot v) → v < G .size → v < n → Room n l
+    → Taken w e i n v l l′ → Labels G H c i l → Labels G H c (i + 1) l′
+labels-taken {G} ok {H} reached {c} {i} {v} {w} {l} li hd gives e-is lv ln room taken labels =
+    labels-set ln room taken
+    (label-improved li gives (omega (arith, low, ok .words)) e-is fits (taken .improves) (labels v lv))
+    (λ u lu ne. label-passed li (via-other G H u i (λ q. ne (sym q ∙ hd))) (labels u lu))
+  where
+    low : w ≤ ok .most
+    low = ok .offers reached v i w li gives
+
+    fits : (p : ℕ) → G .pot v ≡ some p → (p < noneWord) × (w + p < settledKey)
+    fits p q = let b = ok .pots v p lv q in (omega (arith, ok .words), omega (arith, low, ok .sums))

@@ -1,32 +1,29 @@
-// What a search keeps of each junction: its time, its key and the road that gave the time, and how a road improves them.
+// What a search keeps of each node: its time, its key and the arc that gave the time, and how an offer improves them. What a node stands
+// for is not known here.
 ghost use mathlib.Core.Path.{_≡_};
-ghost use Prim.Native.Nat.{_<_};
-ghost use lib.ListN.{getD, length};
-ghost use Rattle.search_labels.specs.Improved.{Improved, Stored};
-use network::Junction;
+ghost use Prim.Native.Nat.{_+_, _<_};
+ghost use Rattle.search_labels.specs.Labelling.{Improved, Room, Taken, labelling};
 use network::Time;
 use network::TimeWord;
-use search_keys::SETTLED;
-use search_keys::key_of;
+use search_queue::SETTLED;
+use search_queue::put;
 
-// The time of a road in force, none where it is closed: a road is open if it has one.
-pub fn cost_of(live: &[TimeWord], i: u32) -> Time
-    requires { ⌜ i < length (now live) ⌝ }
-    ensures { λ r. ⌜ r .0 ≡ getD (now (live .entry)) i 0 ⌝ }
+// A candidate's key: its time plus its estimate. The sum may pass 32 bits.
+fn key_of(time: Time, estimate: Time) -> u64
+    ensures { λ r. ⌜ r ≡ time .0 + estimate .0 ⌝ }
 {
-    let k = i as usize;
-    Time::of_word(live[k])
+    time.word() as u64 + estimate.word() as u64
 }
 
-// The time of a candidate or of a logged junction, its key, and the road that gave the time.
-pub struct Label {
+// The time of a candidate or of a logged node, its key, and the arc that gave the time.
+struct Label {
     pub time: Time,
     pub key: u64,
     pub via: u32,
 }
 
-// The label of a junction after road i is relaxed too, which gives it the time `offer`; `estimate` is the junction's.
-pub fn improved(old: Label, offer: Time, estimate: Time, i: u32) -> Label
+// The label of a node after arc i too has offered it a time; `estimate` is the node's.
+fn improved(old: Label, offer: Time, estimate: Time, i: u32) -> Label
     ensures { λ r. ⌜ Improved (offer .0) (estimate .0) i (old .time .0) (old .key) (old .via) (r .time .0) (r .key) (r .via) ⌝ }
 {
     if estimate.is_none() {
@@ -59,21 +56,23 @@ pub fn improved(old: Label, offer: Time, estimate: Time, i: u32) -> Label
     old
 }
 
-// Road i offers v the time `offer`: v's label is improved in the three areas.
-pub fn improve(
+// Arc i offers v a time: v's label is improved in the areas, and its place in the queue renewed.
+pub fn take(
     times: &mut [TimeWord],
     keys: &mut [u64],
     vias: &mut [u32],
-    v: Junction,
+    tree: &mut [u64],
+    n: u32,
+    v: u32,
     offer: Time,
     estimate: Time,
     i: u32,
 )
-    requires { ⌜ (v .0 < length (now times)) × (v .0 < length (now keys)) × (v .0 < length (now vias)) ⌝ }
-    ensures { λ _. ⌜ Stored (offer .0) (estimate .0) i (v .0) (now (times .entry)) (now (keys .entry)) (now (vias .entry))
-        (now (times .exit)) (now (keys .exit)) (now (vias .exit)) ⌝ }
+    requires { ⌜ (v < n) × Room n (labelling times keys vias tree) ⌝ }
+    ensures { λ _. ⌜ Taken (offer .0) (estimate .0) i n v (labelling (times .entry) (keys .entry) (vias .entry) (tree .entry))
+        (labelling (times .exit) (keys .exit) (vias .exit) (tree .exit)) ⌝ }
 {
-    let a = v.0 as usize;
+    let a = v as usize;
     let old = Label {
         time: Time::of_word(times[a]),
         key: keys[a],
@@ -82,6 +81,6 @@ pub fn improve(
     let new = improved(old, offer, estimate, i);
     let time = new.time;
     times[a] = time.word();
-    keys[a] = new.key;
     vias[a] = new.via;
+    put(keys, tree, n, v, new.key);
 }

@@ -14,7 +14,7 @@ use Rattle.model.specs.Layout.{cardSize}
 use Rattle.model.specs.Areas.{Areas, Each, lengths, lengthsFit}
 use Rattle.model.specs.State.{question9}
 use Rattle.model.specs.Good.{LengthFacts, lengths-facts}
-use Rattle.search_relaxing.specs.State.{Sized}
+use Rattle.search_junctions.specs.State.{Sized}
 use Rattle.card_layout.specs.Parts.{orderIn, roadsIn}
 use Rattle.unit_questions.specs.Lending.{fitsBy}
 use Rattle.unit.proofs.Bodies.{order-length, roads-length}

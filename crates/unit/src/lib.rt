@@ -235,8 +235,7 @@ impl Header {
             Verdict::Passed => {
                 let order = card_layout::order_of(card, self.sizes.n, self.sizes.m);
                 let t = pairs_hierarchy::estimate(
-                    self.sizes.n,
-                    self.sizes.pairs,
+                    self.sizes,
                     order,
                     ranks,
                     pairs,

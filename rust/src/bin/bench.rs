@@ -1,5 +1,5 @@
-//! Times the proved unit beside plain Rust: one table, whose ratios are of times of one run. With
-//! `--write`, it goes to docs/BENCHMARK.md too.
+//! Times the proved unit beside plain Rust, in towns and on the maps of files: tables whose ratios are of
+//! times of one run. With `--write`, they go to docs/BENCHMARK.md too.
 
 use harness::areas;
 use harness::both::Both;
@@ -8,45 +8,111 @@ use harness::card::{self, LONGEST, MOST_JUNCTIONS};
 use harness::dijkstra;
 use harness::graph::Graph;
 use harness::maps::{self, Map, Streets};
-use harness::order;
+use harness::order::{self, MOST_PAIRS};
 use harness::random::Random;
 use harness::router::Router;
 use harness::search::{search, Search};
+use harness::text;
 use harness::time::{Time, NONE};
 use harness::traffic;
 use harness::unit::{self, Unit};
+use std::ffi::OsString;
 use std::fmt::{self, Display, Formatter};
 use std::hint::black_box;
-use std::path::Path;
+use std::path::{Path, PathBuf};
 use std::time::{Duration, Instant, SystemTime, UNIX_EPOCH};
-use std::{array, env, fs, process, thread};
+use std::{array, env, fs, process, slice, thread};
+
+const USAGE: &str = "\
+bench [--write] [MAP..]   times the unit in five towns, then on each map: a file of lines as make-card reads them
+--write                   writes the report to docs/BENCHMARK.md too";
 
 /// Grids of the towns that are measured.
 const TOWNS: [(usize, usize); 5] = [(10, 20), (20, 25), (25, 40), (40, 50), (64, 64)];
 /// How long the functions of a line are run in turn, and at least how often.
 const BUDGET: Duration = Duration::from_secs(1);
 const ROUNDS: usize = 20;
-/// Trips, and targets, in each town.
+/// Trips, and targets, on each map.
 const TRIPS: usize = 20;
 
 fn main() {
-    let write = match env::args().nth(1).as_deref() {
-        None => false,
-        Some("--write") => true,
-        Some(other) => {
-            eprintln!("bench: {other} is no option; --write is the only one");
-            process::exit(2);
-        }
+    let asked = Asked::of(env::args_os().skip(1)).unwrap_or_else(refuse);
+    if asked.help {
+        println!("{USAGE}");
+        return;
+    }
+    // All files are read before anything is measured.
+    let files: Result<Vec<_>, String> = asked.files.iter().map(|file| map_of(file)).collect();
+    let files = files.unwrap_or_else(refuse);
+    let report = Report {
+        towns: TOWNS.map(|(width, height)| Measured::town(width, height)),
+        files: files.into_iter().map(Measured::file).collect(),
     };
-    let report = Report { towns: TOWNS.map(|(width, height)| Town::measure(width, height)) };
     println!("{report}");
-    if write {
+    if asked.write {
         let path = Path::new(env!("CARGO_MANIFEST_DIR")).join("../docs/BENCHMARK.md");
         if let Err(error) = fs::write(&path, report.to_string()) {
             eprintln!("bench: docs/BENCHMARK.md: {error}");
             process::exit(1);
         }
     }
+}
+
+fn refuse<T>(message: String) -> T {
+    eprintln!("bench: {message}");
+    process::exit(2)
+}
+
+/// What the arguments ask for.
+#[derive(Debug, Default, PartialEq, Eq)]
+struct Asked {
+    write: bool,
+    help: bool,
+    files: Vec<PathBuf>,
+}
+
+impl Asked {
+    /// Options and files in any order; what begins with `-` is no file.
+    fn of(arguments: impl IntoIterator<Item = OsString>) -> Result<Asked, String> {
+        let mut asked = Asked::default();
+        for argument in arguments {
+            match argument.to_str() {
+                Some("--write") => asked.write = true,
+                Some("--help") => asked.help = true,
+                _ if argument.as_encoded_bytes().starts_with(b"-") => {
+                    let other = argument.display();
+                    return Err(format!("{other} is no option; --write and --help are"));
+                }
+                _ => asked.files.push(argument.into()),
+            }
+        }
+        Ok(asked)
+    }
+}
+
+/// The name and the map of a file.
+fn map_of(file: &Path) -> Result<(String, Map), String> {
+    let text = fs::read(file).map_err(|error| error.to_string());
+    let map = text.and_then(|text| fitting(&text));
+    Ok((name(file), map.map_err(|what| format!("{}: {what}", file.display()))?))
+}
+
+/// A file's name in the report: without folder and extension.
+fn name(file: &Path) -> String {
+    file.file_stem().unwrap_or_default().to_string_lossy().into_owned()
+}
+
+/// The map of a text, if the unit has room for it and it has a road to set.
+fn fitting(text: &[u8]) -> Result<Map, String> {
+    let map = text::parse(text).map_err(|fault| fault.to_string())?;
+    if map.m() == 0 {
+        return Err("no road, so none to set".to_string());
+    }
+    let pairs = order::pairs(&map);
+    if pairs > MOST_PAIRS {
+        return Err(format!("a unit has room for {MOST_PAIRS} pairs, and the map has {pairs}"));
+    }
+    Ok(map)
 }
 
 /// A line of the table: µs of the proved function and of others.
@@ -66,16 +132,26 @@ struct Go {
     settled: f64,
 }
 
-struct Town {
+/// A map and its lines of the table.
+struct Measured {
     map: Map,
     pairs: usize,
     lines: Vec<Line>,
 }
 
-impl Town {
-    fn measure(width: usize, height: usize) -> Town {
+impl Measured {
+    fn town(width: usize, height: usize) -> Measured {
         let map = maps::town(&mut Random::new(1), width, height, Streets::USUAL);
         eprintln!("a town of {} junctions ..", map.n());
+        Measured::new(map)
+    }
+
+    fn file((name, map): (String, Map)) -> (String, Measured) {
+        eprintln!("{name}, {} junctions ..", map.n());
+        (name, Measured::new(map))
+    }
+
+    fn new(map: Map) -> Measured {
         let pairs = order::pairs(&map);
         let mut bench = Bench {
             map: &map,
@@ -91,11 +167,11 @@ impl Town {
         for percent in [0, 1, 5] {
             bench.go(percent);
         }
-        Town { lines: bench.lines, map, pairs }
+        Measured { lines: bench.lines, map, pairs }
     }
 }
 
-/// The measurements in one town.
+/// The measurements on one map.
 struct Bench<'a> {
     map: &'a Map,
     both: Both,
@@ -364,7 +440,9 @@ fn measure<const N: usize>(
 }
 
 struct Report {
-    towns: [Town; TOWNS.len()],
+    towns: [Measured; TOWNS.len()],
+    /// Each with its name.
+    files: Vec<(String, Measured)>,
 }
 
 const ABOUT: &str = "\
@@ -373,6 +451,9 @@ orders. Times are µs a call; a ratio is the unit's time divided by the one befo
 turn, and of each case the least of many runs counts. Made by
 
     rt check && rt staticlib unit_c && cargo run --release --offline --manifest-path rust/Cargo.toml --target-dir target/cargo --bin bench -- --write
+
+A map file that is named behind it, text as make-card reads it, is measured after the towns, in the order that it gives or, if it gives
+none, in a least-degree one, and has a table of its own at the end, under its name.
 
 - **Rust**: the same step as one would write it in Rust (`rust/src/router.rs`), over structures of its own, which document 01's areas have no
   place for: where the pairs of each rank begin, adjacency lists, a list of the lower ranks that a row has pairs with, a binary heap.
@@ -394,13 +475,19 @@ impl Display for Report {
         let (arch, os) = (env::consts::ARCH, env::consts::OS);
         write!(f, "# Benchmark\n\n{}; {arch}, {os}, {processors} processors.\n\n", date())?;
         f.write_str(ABOUT)?;
-        self.table(f)?;
-        self.growth(f)
+        Report::table(f, &self.towns)?;
+        self.growth(f)?;
+        for (name, file) in &self.files {
+            let (n, m, pairs) = (file.map.n(), file.map.m(), file.pairs);
+            write!(f, "\n## {name}\n\n{n} junctions, {m} roads, {pairs} pairs.\n\n")?;
+            Report::table(f, slice::from_ref(file))?;
+        }
+        Ok(())
     }
 }
 
 impl Report {
-    fn table(&self, f: &mut Formatter) -> fmt::Result {
+    fn table(f: &mut Formatter, maps: &[Measured]) -> fmt::Result {
         let heads = [
             "junctions",
             "step",
@@ -417,9 +504,9 @@ impl Report {
         ];
         row(f, &heads)?;
         f.write_str("|--:|:--|--:|--:|--:|--:|--:|--:|--:|--:|--:|--:|\n")?;
-        for town in &self.towns {
-            for line in &town.lines {
-                let mut cells = vec![town.map.n().to_string(), line.step.clone()];
+        for Measured { map, lines, .. } in maps {
+            for line in lines {
+                let mut cells = vec![map.n().to_string(), line.step.clone()];
                 let beside = |time: f64| [digits(time), digits(line.proved / time)];
                 cells.push(digits(line.proved));
                 cells.extend(beside(line.plain));
@@ -500,4 +587,118 @@ fn date() -> String {
         month += 1;
     }
     format!("{year}-{month:02}-{:02}", day + 1)
+}
+
+#[cfg(test)]
+mod tests {
+    use super::*;
+    use harness::card::MOST_ROADS;
+
+    fn asked(arguments: &[&str]) -> Result<Asked, String> {
+        Asked::of(arguments.iter().map(OsString::from))
+    }
+
+    #[test]
+    fn options_and_files_in_any_order() {
+        let want = |write, help, files: &[&str]| {
+            Ok(Asked { write, help, files: files.iter().map(PathBuf::from).collect() })
+        };
+        assert_eq!(asked(&[]), want(false, false, &[]));
+        assert_eq!(asked(&["--write"]), want(true, false, &[]));
+        assert_eq!(asked(&["--help"]), want(false, true, &[]));
+        assert_eq!(asked(&["b.map", "a.map"]), want(false, false, &["b.map", "a.map"]));
+        for arguments in [["--write", "a", "b"], ["a", "--write", "b"], ["a", "b", "--write"]] {
+            assert_eq!(asked(&arguments), want(true, false, &["a", "b"]));
+        }
+        assert_eq!(asked(&["./--write"]), want(false, false, &["./--write"]));
+    }
+
+    #[test]
+    fn other_options() {
+        for other in ["--writes", "--Write", "-w", "-", "--"] {
+            let message = format!("{other} is no option; --write and --help are");
+            for arguments in [[other, "a"], ["a", other], ["--write", other], ["--help", other]] {
+                assert_eq!(asked(&arguments), Err(message.clone()));
+            }
+        }
+    }
+
+    #[test]
+    fn names() {
+        for (file, want) in [
+            ("my.map", "my"),
+            ("my", "my"),
+            ("/home/me/maps/my.map", "my"),
+            ("../my.small.map", "my.small"),
+        ] {
+            assert_eq!(name(Path::new(file)), want);
+        }
+    }
+
+    #[test]
+    fn maps_that_fit() {
+        let roads = b"road 0 1 5\nroad 2 1 5\nroad 2 0 5\nroad 3 0 5\n";
+        let map = fitting(roads).unwrap();
+        assert_eq!((map.n(), map.m()), (4, 4));
+        assert_eq!(map.order, order::least_degree(4, &map.roads), "no order of its own");
+        let map = fitting(&[&roads[..], b"order 0 1 2 3"].concat()).unwrap();
+        assert_eq!(map.order, [0, 1, 2, 3], "its own order");
+
+        // In this order every two junctions are a pair.
+        let star = |n| {
+            let mut map = maps::star(n);
+            map.order.reverse();
+            text::print(&map)
+        };
+        assert_eq!(fitting(star(362).as_bytes()).map(|map| order::pairs(&map)), Ok(65_341));
+        let message = "a unit has room for 65536 pairs, and the map has 65703";
+        assert_eq!(fitting(star(363).as_bytes()), Err(message.to_string()));
+        for (text, message) in [
+            ("order 0 1", "no road, so none to set"),
+            ("", "no road and no order, so no junction"),
+            ("road 0 1 5\nroad 1 0", "line 2: a road has 3 numbers: TAIL HEAD SECONDS, not 2"),
+            ("road 0 4096 5", "line 1: junction 4096 is not below 4096"),
+        ] {
+            assert_eq!(fitting(text.as_bytes()), Err(message.to_string()), "{text:?}");
+        }
+        let many = "road 0 1 5\n".repeat(MOST_ROADS + 1);
+        let message = "line 16385: a map has no more than 16384 roads";
+        assert_eq!(fitting(many.as_bytes()), Err(message.to_string()));
+    }
+
+    /// Files come after the towns and the growth, each with its name once and its own rows.
+    #[test]
+    fn files_in_the_report() {
+        let measured = |n, step: &str| {
+            let (step, map) = (step.to_string(), maps::line(n));
+            let lines = vec![Line { step, proved: 3.0, plain: 2.0, areas: None, go: None }];
+            Measured { map, pairs: n - 1, lines }
+        };
+        let towns = || [10, 20, 30, 40, 50].map(|n| measured(n, "in a town"));
+        let printed = |files| {
+            let report = Report { towns: towns(), files }.to_string();
+            report.split_once(ABOUT).unwrap().1.to_string()
+        };
+        let files = [(7, "one"), (60, "other")];
+        let files = Vec::from(files.map(|(n, name)| (name.to_string(), measured(n, "on a file"))));
+        let (alone, report) = (printed(vec![]), printed(files));
+
+        let rest = report.strip_prefix(&alone).expect("towns and growth as without files");
+        let found: Vec<_> = rest.lines().filter(|line| line.starts_with("## ")).collect();
+        assert_eq!(found, ["## one", "## other"]);
+        let (one, other) = rest.split_once("## other").unwrap();
+        for (table, n, sizes) in [
+            (one, "7", "\n7 junctions, 12 roads, 6 pairs.\n"),
+            (other, "60", "\n60 junctions, 118 roads, 59 pairs.\n"),
+        ] {
+            assert!(table.contains(sizes), "{table}");
+            let rows: Vec<Vec<_>> = table
+                .lines()
+                .filter(|line| line.contains("on a file"))
+                .map(|line| line.split('|').map(str::trim).collect())
+                .collect();
+            assert_eq!(rows.len(), 1, "{table}");
+            assert_eq!(rows[0][1..6], [n, "on a file", "3.00", "2.00", "1.50"]);
+        }
+    }
 }

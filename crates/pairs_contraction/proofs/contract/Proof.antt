@@ -11,7 +11,8 @@ use Rattle.model.specs.Word.{noneWord}
 use Rattle.pairs_rows.specs.Rows.{mostBlocks}
 use Rattle.pairs_rows.specs.Links.{netIn}
 use Rattle.pairs_contraction.specs.Contraction.{Ready}
-use Rattle.pairs_contraction.proofs.Whole.{blocks, contract-end, contract-overflow, counted, given, grouped, long, next-ready, ranked}
+use Rattle.network.specs.Locals.{counted}
+use Rattle.pairs_contraction.proofs.Whole.{blocks, contract-end, contract-overflow, given, grouped, long, next-ready, ranked}
 use Rattle.pairs_contraction.proofs.Whole.{ranks-most, ranks-number, ready-start, row-fits}
 use borrow.Author.Needs.{needs}
 use Rattle.pairs_contraction.proofs.contract.Statement.{statement}

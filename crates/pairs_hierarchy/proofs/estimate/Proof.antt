@@ -6,13 +6,13 @@ use Rattle.pairs_hierarchy.proofs.estimate.Tie as tie
 
 returns : tie.Need-returns
 returns c =
-    let after-rank-of = c .before .before in
+    let after-rank-of = c .before .before .before in
     unranked _ _ _ _ _ _ _ _ _ (search needs) (search needs) (after-rank-of .rank-of .ensures) (c .if1 .taken)
 
 returns-2 : tie.Need-returns-2
 returns-2 c =
     let after-estimate-rank = c .before .before in
-    let after-rank-of = after-estimate-rank .before .before .before .before in
+    let after-rank-of = after-estimate-rank .before .before .before .before .before in
     estimated _ _ _ _ _ _ _ _ _ (search needs) (search needs) (after-rank-of .rank-of .ensures) _ _
     (after-estimate-rank .estimate-rank .ensures)
 

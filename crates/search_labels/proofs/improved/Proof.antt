@@ -1,7 +1,9 @@
+-- Each way through the code is one case of `Improved`, by the tests that it passed; only the smaller time needs a lemma, for its key
+-- (`takes-over`).
 use borrow.Author.Tests.{eqb-false, eqb-true}
 use native.Mathlib.Omega.{arith}
 use mathlib.Core.Path.{_∙_, sym}
-use Rattle.search_labels.specs.Improved.{behind, later, lost, settled, tied}
+use Rattle.search_labels.specs.Labelling.{behind, later, lost, settled, tied}
 use Rattle.search_labels.proofs.Improves.{takes-over}
 use borrow.Author.Needs.{needs}
 use Rattle.search_labels.proofs.improved.Statement.{statement}

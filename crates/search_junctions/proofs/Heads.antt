@@ -1,0 +1,139 @@
+-- The estimates of the heads of a junction's open roads, asked road by road. Assumes nothing.
+use mathlib.Core.Path.{_∙_, _≡_, ap, subst, sym}
+use mathlib.Core.Logic.{_⊎_, inl, inr}
+use mathlib.Core.Bool.{Bool, false, not, true}
+use mathlib.Core.Option.{none, some}
+use mathlib.Core.List.{List}
+use Prim.Native.Nat.{_*_, _+_, _<_, _≤_, suc, ℕ}
+use borrow.Author.Tests.{eqb-false, eqb-true, not-true}
+use lib.Dec.{eqb}
+use lib.ListN.{getD, length}
+use native.Mathlib.Numerals.{add-one}
+use native.Mathlib.Omega.{arith}
+use Rattle.graph.specs.Network.{Network}
+use Rattle.model.specs.Word.{noneWord, ofWord, ofWord-none, unasked}
+use Rattle.model.specs.Layout.{roadSize}
+use Rattle.model.specs.Bytes.{wordAt}
+use Rattle.model.specs.Laws.{kept-refl, kept-trans}
+use Rattle.pairs_hierarchy.specs.Estimates.{Estimated, aim-estimated}
+use Rattle.search_junctions.specs.Grouped.{FirstFrom}
+use Rattle.search_junctions.specs.State.{Given, Ready, goGiven, mapGiven}
+use Rattle.search_junctions.specs.Asking.{Asks, EstimatesIn, Leads}
+use Rattle.search_junctions.specs.Facts.{codes}
+use Rattle.search_junctions.proofs.Rows.{Row}
+use Rattle.search_junctions.specs.Fills.{filling-again, filling-more, filling-same, leads-closed, leads-open, leads-skip}
+use Rattle.search_junctions.specs.Fills.{leads-skip-back, pairs-kept}
+
+-- the heads of u's roads by another description
+both : {A B C : Type 0} → (B → C) → A ⊎ B → A ⊎ C
+both f (inl x) = inl x
+both f (inr x) = inr (f x)
+
+-- of those asked up to road i, the last may be its head
+asked-split : {A : Type 0} {N : Network} {u i h : ℕ} → N .head i ≡ h → (a : ℕ) → A ⊎ Leads N u (i + 1) a → (A ⊎ Leads N u i a) ⊎ (a ≡ h)
+asked-split q a (inl x) = inl (inl x)
+asked-split {A} {N} {u} {i} {h} q a (inr x) = at (leads-open a x)
+  where
+    at : Leads N u i a ⊎ (a ≡ N .head i) → (A ⊎ Leads N u i a) ⊎ (a ≡ h)
+    at (inl y) = inl (inr y)
+    at (inr y) = inr (y ∙ q)
+
+module _ {g : Given} {u : ℕ} where
+  asks-trans : {i k j : ℕ} {e e′ e″ : List ℕ} → Asks g u i k e e′ → Asks g u k j e′ e″ → Asks g u i j e e″
+  asks-trans x y = record {
+    kept = kept-trans (x .kept) (y .kept);
+    exact = λ s z H e₀ r f. y .exact s z H e₀ r (x .exact s z H e₀ r f);
+  }
+
+  -- no road of u from k up to j - 1
+  pub asks-skip : {k j : ℕ} {e : List ℕ} → FirstFrom (g .roads) (g .sizes .m) u k j → Asks g u k j e e
+  asks-skip {k} {j} f = record {
+    kept = kept-refl;
+    exact = λ s z H e₀ r.
+        let G = goGiven g s z in
+        let bare : (i : ℕ) → k ≤ i → i < j → G .net .tail i ≡ u → ⊥ =
+        λ i a b q. f .none-before i a b (sym (codes r .reads .tails i (omega (arith, f .high))) ∙ q) in
+        filling-same (λ a x. both (leads-skip (f .low) a) x) (λ a x. both (leads-skip-back bare a) x);
+  }
+
+  -- one turn of the loop: road i, which leaves u, and then the next
+  pub asks-turn : {v i j : ℕ} {e e′ e″ : List ℕ} → v ≡ u → FirstFrom (g .roads) (g .sizes .m) u (suc i) j → Asks g u 0 i e e′
+      → Asks g v i (i + 1) e′ e″ → Asks g u 0 j e e″
+  asks-turn {i = i} {j} {e′ = e′} {e″} q f x y = asks-trans (asks-trans x (subst (λ (v : ℕ). Asks g v i (i + 1) e′ e″) q y))
+      (subst (λ (k : ℕ). Asks g u k j e″ e″) (sym (add-one i)) (asks-skip f))
+
+  pub asks-end : {i m : ℕ} {e e′ : List ℕ} → i ≡ m → Asks g u 0 i e e′ → Asks g u 0 m e e′
+  asks-end {e = e} {e′} q x = subst (λ (k : ℕ). Asks g u 0 k e e′) q x
+
+-- The loop stands at road i of u: the heads of u's open roads below i are asked, and the estimates are as long as before.
+pub record Asking (g : Given) (u i : ℕ) (e e′ : List ℕ) : Type 0 where
+  pub long : length e′ ≡ length e
+  pub row : Row (g .roads) (g .sizes .m) u i
+  pub asks : Asks g u 0 i e e′
+
+-- lengths where the estimates are as long as before
+pub estimates-kept : {g : Given} {e e′ : List ℕ} → EstimatesIn g e → length e′ ≡ length e → EstimatesIn g e′
+estimates-kept x q = record { over = pairs-kept (x .over) q; m-high = x .m-high; roads-are = x .roads-are; live-is = x .live-is }
+
+-- a word that is not that of unasked
+pub known-word : {x y : ℕ} {b : Bool} → x ≡ y → b ≡ eqb x unasked → not b ≡ true → y ≡ unasked → ⊥
+known-word {x} {y} {b} q t n u = eqb-false x unasked (sym t ∙ not-true b n) (q ∙ u)
+
+-- ---- the ways through the code, for road i
+module _ (g : Given) (i : ℕ) (li : i < g .sizes .m) (w : ℕ) (w-is : w ≡ getD (g .live) i 0) where
+  pub head-closed : (e : List ℕ) → eqb w noneWord ≡ true → Asks g (wordAt (g .roads) (roadSize * i)) i (i + 1) e e
+  head-closed e closed = record {
+    kept = kept-refl;
+    exact = λ s z H e₀ r.
+        let G = goGiven g s z in
+        let x : getD (g .live) i 0 ≡ noneWord = sym w-is ∙ eqb-true w noneWord closed in
+        let q : G .net .cost i ≡ none = codes r .reads .costs i ∙ ap ofWord x ∙ ofWord-none in
+        filling-same (λ a y. both (leads-skip (omega arith) a) y) (λ a y. both (leads-closed q a) y);
+  }
+
+  module _ (h : ℕ) (h-is : h ≡ wordAt (g .roads) (roadSize * i + 4)) where
+    -- the head of a road of a map is one of its junctions
+    pub head-far : (e : List ℕ) → g .sizes .n ≤ h → Asks g (wordAt (g .roads) (roadSize * i)) i (i + 1) e e
+    head-far e far = record {
+      kept = kept-refl;
+      exact = λ s z H e₀ r f.
+          let k = codes r in
+          let b = k .ok .well-formed .inside .heads i (rw (k .reads .arcs-are) li) in
+          absurd (omega (arith, b, k .reads .heads i li, k .reads .size-is));
+    }
+
+    -- an open road leads to its head
+    opens : {s z : ℕ} (r : Ready g s z) → eqb w noneWord ≡ false → Leads (goGiven g s z .net) (wordAt (g .roads) (roadSize * i)) (i + 1) h
+    unfolding ofWord
+    opens r open′ =
+        let k = codes r in
+        record {
+          road = i;
+          cost = w;
+          below = omega arith;
+          inside = rw (k .reads .arcs-are) li;
+          from = k .reads .tails i li;
+          opens = k .reads .costs i ∙ ap ofWord (sym w-is) ∙ rw open′;
+          to = k .reads .heads i li ∙ sym h-is;
+        }
+
+    -- its estimate is known
+    pub head-known : (e : List ℕ) → eqb w noneWord ≡ false → h < g .sizes .n → (getD e h 0 ≡ unasked → ⊥)
+        → Asks g (wordAt (g .roads) (roadSize * i)) i (i + 1) e e
+    head-known e open′ lh known = record {
+      kept = kept-refl;
+      exact = λ s z H e₀ r f.
+          filling-again h (rw (r .n-is) lh) known (λ a y. both (leads-skip (omega arith) a) y)
+          (λ a y. asked-split {N = goGiven g s z .net} {i = i} (codes r .reads .heads i li ∙ sym h-is) a y) f;
+    }
+
+    pub head-open : (v : ℕ) (e e′ : List ℕ) → eqb w noneWord ≡ false → h < g .sizes .n
+        → Estimated (g .order) (g .ranks) (g .pairs) (g .sizes .pairs) (g .down) e e′ h v
+        → Asks g (wordAt (g .roads) (roadSize * i)) i (i + 1) e e′
+    head-open v e e′ open′ lh est = record {
+      kept = est .kept;
+      exact = λ s z H e₀ r f.
+          filling-more h (rw (r .n-is) lh) (λ a y. both (leads-skip (omega arith) a) y) (inr (opens r open′))
+          (λ a y. asked-split {N = goGiven g s z .net} {i = i} (codes r .reads .heads i li ∙ sym h-is) a y)
+          (aim-estimated est (g .roads) (r .prepared) z (f .aims)) (est .exact (g .roads) (r .prepared) z (f .aims) .1) f;
+    }

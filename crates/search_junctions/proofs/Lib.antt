@@ -1,0 +1,6 @@
+pub mod Groups
+pub mod Rows
+pub mod Heads
+pub mod Roads
+pub mod Starts
+pub mod Steps

@@ -1,0 +1,31 @@
+-- A node without a road, and one whose road has no junction for a tail, stay where they are; else it is the tail (step-none,
+-- step-far, step-to).
+use native.Mathlib.Omega.{arith}
+use Rattle.search_junctions.proofs.Steps.{step-far, step-none, step-to}
+use borrow.Author.Needs.{needs}
+use Rattle.search_junctions.proofs.step_back.Statement.{statement}
+use Rattle.search_junctions.proofs.step_back.Tie as tie
+
+returns : tie.Need-returns
+returns c =
+    let start = c .before .before .before .before in
+    (step-none (start .args .roads .now) (start .args .vias .now) _ _ _ (c .if1 .taken), search needs)
+
+returns-2 : tie.Need-returns-2
+returns-2 c =
+    let start = c .before .before .before .before .before .before in (
+      step-far (start .args .roads .now) (start .args .vias .now) _ _ _ _ (omega arith) (c .before .tail-of .ensures) (c .if2 .taken),
+      search needs,
+    )
+
+returns-3 : tie.Need-returns-3
+returns-3 c =
+    let start = c .before .before .before .before .before .before in (
+      step-to (start .args .roads .now) (start .args .vias .now) _ _ _ _ (omega arith) (c .before .tail-of .ensures) (omega arith),
+      search needs,
+    )
+
+pub step-back-spec : {M : Type 1} → statement M
+step-back-spec =
+    tie.close
+    (tie.spec (λ c. search needs) (λ c. search needs) returns (λ c. search needs) (λ c κs. search needs) returns-2 returns-3)

@@ -1,0 +1,271 @@
+// What a node of the search is, and where it leads: nodes are junctions, their roads are linked by tail, and the estimates of open roads'
+// heads are asked before a junction's roads are relaxed (document 01: the search log).
+ghost use mathlib.Core.Path.{_≡_};
+ghost use Prim.Native.Nat.{_*_, _+_, _<_, _≤_};
+ghost use lib.Dec.{eqb};
+ghost use lib.ListN.{getD, length};
+ghost use Rattle.model.specs.Layout.{roadSize};
+ghost use Rattle.model.specs.Bytes.{wordAt};
+ghost use Rattle.pairs_hierarchy.specs.Estimates.{Estimated};
+ghost use Rattle.search_labels.specs.Labelling.{Room, Taken, labelling};
+ghost use Rattle.search_junctions.specs.Grouped.{Empty, Grouped, Links};
+ghost use Rattle.search_junctions.specs.State.{given};
+ghost use Rattle.search_junctions.specs.Asking.{Asks, EstimatesIn, PairsIn};
+ghost use Rattle.search_junctions.specs.Relaxing.{Relaxes, ReadIn, readOf};
+ghost use Rattle.search_junctions.specs.Ways.{stepBack};
+use areas::fill;
+use network::Junction;
+use network::Sizes;
+use network::Time;
+use network::TimeWord;
+use network::head_of;
+use network::tail_of;
+use pairs_hierarchy::estimate;
+use search_labels::take;
+
+// ---- the roads of a junction
+
+// Empties the row of each junction.
+fn clear_rows(rows: &mut [u32], n: u32, m: u32)
+    requires { ⌜ n ≤ length (now rows) ⌝ }
+    ensures { λ _. ⌜ Empty n m (now (rows .exit)) ⌝ }
+{
+    fill(&mut rows[..n as usize], m);
+}
+
+// Links the roads of each junction by ascending number. The rows have each junction's first road, and then for each road the next of the
+// same tail; m ends a row.
+pub fn group(roads: &[u8], n: u32, m: u32, rows: &mut [u32])
+    requires { ⌜ (roadSize * m ≤ length (now roads)) × (n + m ≤ length (now rows)) ⌝ }
+    ensures { λ _. ⌜ Grouped (now (roads .entry)) n m (now (rows .exit)) ⌝ }
+{
+    clear_rows(rows, n, m);
+    let mut i = m;
+    while 0 < i {
+        i -= 1;
+        let tail = tail_of(roads, i as usize);
+        let u = tail.0;
+        if u < n {
+            let a = u as usize;
+            let k = n as usize + i as usize;
+            rows[k] = rows[a];
+            rows[a] = i;
+        }
+    }
+}
+
+// The time of a road in force, none where it is closed: a road is open if it has one.
+fn cost_of(live: &[TimeWord], i: u32) -> Time
+    requires { ⌜ i < length (now live) ⌝ }
+    ensures { λ r. ⌜ r .0 ≡ getD (now (live .entry)) i 0 ⌝ }
+{
+    let k = i as usize;
+    Time::of_word(live[k])
+}
+
+// Asks the estimate of the head of road i, if the road is open. Most are known, and need no call.
+fn ask_head(
+    sizes: Sizes,
+    roads: &[u8],
+    order: &[u8],
+    ranks: &[u32],
+    pairs: &[u32],
+    live: &[TimeWord],
+    down: &[TimeWord],
+    estimates: &mut [TimeWord],
+    i: u32,
+)
+    requires { ⌜ (i < sizes .m) × EstimatesIn (given sizes roads order ranks pairs live down) (now estimates) ⌝ }
+    ensures { λ _. ⌜ Asks (given sizes (roads .entry) (order .entry) (ranks .entry) (pairs .entry) (live .entry) (down .entry))
+        (wordAt (now (roads .entry)) (roadSize * i)) i (i + 1) (now (estimates .entry)) (now (estimates .exit)) ⌝ }
+{
+    let cost = cost_of(live, i);
+    if cost.is_closed() {
+        return;
+    }
+    let head = head_of(roads, i as usize);
+    if sizes.n <= head.0 {
+        return;
+    }
+    let known = Time::of_word(estimates[head.0 as usize]);
+    if !known.is_unasked() {
+        return;
+    }
+    estimate(sizes, order, ranks, pairs, down, estimates, head);
+}
+
+// Relaxes road i, whose tail has the time `from`: if it is open, it offers its head a time.
+fn relax_road(
+    sizes: Sizes,
+    roads: &[u8],
+    live: &[TimeWord],
+    estimates: &[TimeWord],
+    times: &mut [TimeWord],
+    keys: &mut [u64],
+    vias: &mut [u32],
+    tree: &mut [u64],
+    i: u32,
+    from: Time,
+)
+    requires { ⌜ (i < sizes .m) × ReadIn (readOf sizes roads live estimates) × Room (sizes .n) (labelling times keys vias tree) ⌝ }
+    ensures { λ _. ⌜ Relaxes (readOf sizes (roads .entry) (live .entry) (estimates .entry))
+        (wordAt (now (roads .entry)) (roadSize * i)) (from .0) i (i + 1)
+        (labelling (times .entry) (keys .entry) (vias .entry) (tree .entry))
+        (labelling (times .exit) (keys .exit) (vias .exit) (tree .exit)) ⌝ }
+{
+    let cost = cost_of(live, i);
+    if cost.is_closed() {
+        return;
+    }
+    let head = head_of(roads, i as usize);
+    if sizes.n <= head.0 {
+        return;
+    }
+    let to_go = Time::of_word(estimates[head.0 as usize]);
+    let offer = Time::NONE.or_sum(from, cost);
+    take(times, keys, vias, tree, sizes.n, head.0, offer, to_go, i);
+}
+
+// ---- where a trip leads
+
+// A trip on a map of so many junctions and roads, from the start to the target.
+pub struct Trip {
+    pub sizes: Sizes,
+    pub start: Junction,
+    pub target: Junction,
+}
+
+impl Trip {
+    // Asks the start's estimate.
+    pub fn ask_start(
+        self,
+        order: &[u8],
+        ranks: &[u32],
+        pairs: &[u32],
+        down: &[TimeWord],
+        estimates: &mut [TimeWord],
+    ) -> Time
+        requires { ⌜ (self .start .0 < self .sizes .n)
+            × PairsIn (self .sizes) (now order) (now ranks) (now pairs) (now down) (now estimates) ⌝ }
+        ensures { λ r. ⌜ Estimated (now (order .entry)) (now (ranks .entry)) (now (pairs .entry)) (self .sizes .pairs) (now (down .entry))
+            (now (estimates .entry)) (now (estimates .exit)) (self .start .0) (r .0) ⌝ }
+    {
+        estimate(self.sizes, order, ranks, pairs, down, estimates, self.start)
+    }
+
+    // Offers the start, whose estimate is `estimated`, time 0.
+    pub fn begin(
+        self,
+        times: &mut [TimeWord],
+        keys: &mut [u64],
+        vias: &mut [u32],
+        tree: &mut [u64],
+        estimated: Time,
+    )
+        requires { ⌜ (self .start .0 < self .sizes .n) × Room (self .sizes .n) (labelling times keys vias tree) ⌝ }
+        ensures { λ _. ⌜ Taken 0 (estimated .0) 0 (self .sizes .n) (self .start .0)
+            (labelling (times .entry) (keys .entry) (vias .entry) (tree .entry))
+            (labelling (times .exit) (keys .exit) (vias .exit) (tree .exit)) ⌝ }
+    {
+        let n = self.sizes.n;
+        let here = Time::of_word(0);
+        let start = self.start;
+        take(times, keys, vias, tree, n, start.0, here, estimated, 0);
+    }
+
+    // Asks the estimates of the heads of u's open roads.
+    pub fn ask(
+        self,
+        roads: &[u8],
+        order: &[u8],
+        ranks: &[u32],
+        pairs: &[u32],
+        live: &[TimeWord],
+        down: &[TimeWord],
+        estimates: &mut [TimeWord],
+        rows: &[u32],
+        u: u32,
+    )
+        requires { ⌜ EstimatesIn (given (self .sizes) roads order ranks pairs live down) (now estimates)
+            × Links (now roads) (self .sizes .n) (self .sizes .m) (now rows) u ⌝ }
+        ensures { λ _. ⌜ Asks (given (self .sizes) (roads .entry) (order .entry) (ranks .entry) (pairs .entry) (live .entry) (down .entry))
+            u 0 (self .sizes .m) (now (estimates .entry)) (now (estimates .exit)) ⌝ }
+    {
+        let sizes = self.sizes;
+        let m = sizes.m;
+        let mut i = rows[u as usize];
+        while i < m {
+            ask_head(sizes, roads, order, ranks, pairs, live, down, estimates, i);
+            i = rows[sizes.n as usize + i as usize];
+        }
+    }
+
+    // Relaxes the roads of the logged junction u; the estimates of their heads have been asked.
+    pub fn relax(
+        self,
+        roads: &[u8],
+        live: &[TimeWord],
+        estimates: &[TimeWord],
+        times: &mut [TimeWord],
+        keys: &mut [u64],
+        vias: &mut [u32],
+        tree: &mut [u64],
+        rows: &[u32],
+        u: u32,
+    )
+        requires { ⌜ ReadIn (readOf (self .sizes) roads live estimates) × Room (self .sizes .n) (labelling times keys vias tree)
+            × Links (now roads) (self .sizes .n) (self .sizes .m) (now rows) u ⌝ }
+        ensures { λ _. ⌜ Relaxes (readOf (self .sizes) (roads .entry) (live .entry) (estimates .entry))
+            u (getD (now (times .entry)) u 0) 0 (self .sizes .m)
+            (labelling (times .entry) (keys .entry) (vias .entry) (tree .entry))
+            (labelling (times .exit) (keys .exit) (vias .exit) (tree .exit)) ⌝ }
+    {
+        let sizes = self.sizes;
+        let m = sizes.m;
+        let from = Time::of_word(times[u as usize]);
+        let mut i = rows[u as usize];
+        while i < m {
+            relax_road(
+                sizes,
+                roads,
+                live,
+                estimates,
+                times,
+                keys,
+                vias,
+                tree,
+                i,
+                from,
+            );
+            i = rows[sizes.n as usize + i as usize];
+        }
+    }
+
+    // Does the log end with v?
+    pub fn is_goal(self, v: u32) -> bool
+        ensures { λ r. ⌜ r ≡ eqb v (self .target .0) ⌝ }
+    {
+        let target = self.target;
+        v == target.0
+    }
+}
+
+// ---- the way back
+
+// The tail of the road that gave v its time, or v where there is none such.
+pub fn step_back(roads: &[u8], vias: &[u32], n: u32, m: u32, v: u32) -> u32
+    requires { ⌜ (v < n) × (n ≤ length (now vias)) × (roadSize * m ≤ length (now roads)) ⌝ }
+    ensures { λ r. ⌜ (r ≡ stepBack (now (roads .entry)) (now (vias .entry)) n m v) × (r < n) ⌝ }
+{
+    let a = v as usize;
+    let i = vias[a];
+    if m <= i {
+        return v;
+    }
+    let tail = tail_of(roads, i as usize);
+    let u = tail.0;
+    if n <= u {
+        return v;
+    }
+    u
+}

@@ -1,0 +1,37 @@
+-- A key that is there already changes nothing (`written-again`); else no other key changes (`same-but`), and `renew` does the rest.
+use lib.ListN.{length-set}
+use Rattle.search_queue.specs.Order.{byKey}
+use Rattle.search_queue.proofs.Orders.{same-but, written-again}
+use borrow.Author.Needs.{needs}
+use Rattle.search_queue.proofs.put.Statement.{statement}
+use Rattle.search_queue.proofs.put.Tie as tie
+
+returns : tie.Need-returns
+returns c =
+    let start = c .before .before .before .before in
+    (written-again (start .args .keys .now) _ _ (c .if1 .taken), start .pre .4)
+
+renew-requires : tie.Need-renew-requires
+renew-requires c κs =
+    let start = c .before .before .before .before .before .before in
+    let keys = start .args .keys .now in (
+      start .pre .0,
+      start .pre .1,
+      simp length-set (start .pre .2),
+      start .pre .3,
+      record { old = byKey keys; same = same-but keys _ _; right = start .pre .4 },
+    )
+
+pub put-spec : {M : Type 1} → statement M
+put-spec =
+    tie.close
+    (tie.spec
+    (λ c. search needs)
+    (λ c. search needs)
+    returns
+    (λ c. search needs)
+    (λ c. search needs)
+    renew-requires
+    (λ c. search needs)
+    (λ c. search needs)
+    (λ c. search needs))

@@ -1,0 +1,52 @@
+-- The order in which candidates are chosen. Definitions only.
+use mathlib.Core.Path.{_≡_}
+use mathlib.Core.List.{List}
+use Prim.Native.Nat.{_<_, _≤_, ℕ}
+use lib.ListN.{getD}
+
+-- the key of a node that never was a candidate
+abbrev pub noKey : ℕ
+noKey = 18446744073709551615
+
+-- the key of a logged node
+abbrev pub settledKey : ℕ
+settledKey = 281474976710654
+
+-- so many nodes the queue has room for
+abbrev pub mostNodes : ℕ
+mostNodes = 65536
+
+-- What the choice goes by: the key of each node, and what decides between equal keys before the number does.
+pub record Order : Type 0 where
+  pub key : ℕ → ℕ
+  pub tie : ℕ → ℕ
+
+-- document 01: the smallest key, on equal keys the smaller number, so that ties are all alike
+abbrev pub byKey : (keys : List ℕ) → Order
+byKey keys = record { key = λ v. getD keys v 0; tie = λ v. 0 }
+
+-- a comes before b, or is b
+pub record Before (o : Order) (a b : ℕ) : Type 0 where
+  pub keys-le : o .key a ≤ o .key b
+  pub ties-le : o .key a ≡ o .key b → o .tie a ≤ o .tie b
+  pub numbers : o .key a ≡ o .key b → o .tie a ≡ o .tie b → a ≤ b
+
+-- v is a candidate
+abbrev pub Waiting : Order → ℕ → Type 0
+Waiting o v = o .key v < settledKey
+
+-- the candidate i comes first of all
+pub record FirstOf (o : Order) (n i : ℕ) : Type 0 where
+  pub inside : i < n
+  pub waits : Waiting o i
+  pub best : (v : ℕ) → v < n → Waiting o v → Before o i v
+
+-- what is chosen of n nodes: the first candidate, or n where none is left
+pub data Chosen (o : Order) (n : ℕ) : ℕ → Type 0 where
+  none-left : ((v : ℕ) → v < n → Waiting o v → ⊥) → Chosen o n n
+  first-is : {i : ℕ} → FirstOf o n i → Chosen o n i
+
+-- two orders are the same but at v
+pub record SameBut (v : ℕ) (o o′ : Order) : Type 0 where
+  pub keys-same : (u : ℕ) → (u ≡ v → ⊥) → o′ .key u ≡ o .key u
+  pub ties-same : (u : ℕ) → (u ≡ v → ⊥) → o′ .tie u ≡ o .tie u

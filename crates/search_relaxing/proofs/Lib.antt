@@ -1,2 +1,0 @@
-pub mod Roads
-pub mod Relaxes

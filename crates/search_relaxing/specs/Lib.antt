@@ -1,3 +1,0 @@
-pub mod State
-pub mod Facts
-pub mod Fills

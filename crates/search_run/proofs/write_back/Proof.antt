@@ -1,0 +1,53 @@
+-- Back to front: each turn writes the last arc of what is still to be written, and steps back over it (`Writing`, write-turn).
+use borrow.Author.Needs.{needs}
+use native.Mathlib.Omega.{arith}
+use lib.ListN.{getD, length-set}
+use mathlib.Core.Path.{refl}
+use Rattle.search_junctions.specs.Ways.{stepBack}
+use Rattle.search_run.proofs.Backs.{Writing, write-end, write-turn}
+use Rattle.search_run.proofs.write_back.Statement.{statement}
+use Rattle.search_run.proofs.write_back.Tie as tie
+
+abbrev Inv-loop : tie.InvT-loop
+Inv-loop roads vias n m k v route₀ j₀ u₀ route j u =
+    Writing (λ u. getD vias u 0) (stepBack roads vias n m) n k v route₀ j u route
+
+abbrev μ-loop : tie.MeasureT-loop
+μ-loop roads vias n m k v route₀ j₀ u₀ route j u = j
+
+loop-holds : tie.Need-loop-holds Inv-loop μ-loop
+loop-holds c = record { low = search needs; inside = search needs; long = refl; writes = refl }
+
+loop-again : tie.Need-loop-again Inv-loop μ-loop
+loop-again c =
+    let at-loop = c .before .before .before in
+    record {
+      low = search needs;
+      inside = search needs;
+      long = simp length-set (search needs);
+      writes = write-turn _ _ _ _ _ (at-loop .loop .j) _ _ _ _ _ (omega arith) (omega arith) refl (c .step-back .ensures .0)
+          (at-loop .loop .inv .writes);
+    }
+
+returns : tie.Need-returns Inv-loop μ-loop
+returns c = write-end _ _ _ _ _ _ _ _ (c .loop-test .left) (c .before .loop .inv .writes)
+
+pub write-back-spec : {M : Type 1} → statement M
+write-back-spec =
+    tie.close
+    (tie.spec
+    Inv-loop
+    μ-loop
+    loop-holds
+    (λ c. search needs)
+    (λ c. search needs)
+    (λ c. search needs)
+    (λ c. search needs)
+    (λ c. search needs)
+    (λ c. search needs)
+    (λ c. search needs)
+    (λ c κs. search needs)
+    (λ c. search needs)
+    loop-again
+    (λ c. search needs)
+    returns)

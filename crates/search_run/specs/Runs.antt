@@ -1,0 +1,62 @@
+-- What a run is lent, and what it leaves (document 01: the search log). Definitions only.
+use denote.Ref.{RefT}
+use mathlib.Core.Path.{_≡_}
+use mathlib.Core.Bool.{Bool, false, true}
+use mathlib.Core.Option.{some}
+use mathlib.Core.List.{List, [], reverse}
+use Prim.Native.Nat.{_<_, _≤_, min, ℕ}
+use lib.ListN.{getD, length}
+use Rattle.graph.specs.Search.{Entry, run, timeIn, vertices}
+use Rattle.graph.specs.Complete.{Complete}
+use Rattle.model.specs.Word.{word}
+use Rattle.model.specs.Bytes.{listed}
+use Rattle.model.specs.State.{first}
+use Rattle.model.specs.Estimate.{Kept}
+use Rattle.model.specs.Good.{AimFacts}
+use Rattle.search_labels.specs.Labelled.{Way}
+use Rattle.search_junctions.specs.State.{Given, Ready, SizedIn, goGiven, mapGiven}
+use Rattle.search_junctions.specs.Asking.{Asked, Filling}
+
+-- What a search writes in the areas lent to it. Ways are the arcs that gave the nodes their times, or those of the route.
+pub record Written : Type 0 where
+  pub estimates : List ℕ
+  pub elapsed : List ℕ
+  pub ways : List ℕ
+  pub log : List ℕ
+
+abbrev pub writtenOf : (estimates elapsed ways log : List ℕ) → Written
+writtenOf a b c d = record { estimates = a; elapsed = b; ways = c; log = d }
+
+-- the same of what is lent to a function
+abbrev pub written : (estimates elapsed ways log : RefT (List ℕ)) → Written
+written a b c d = writtenOf (a .now) (b .now) (c .now) (d .now)
+
+-- start and target are junctions, and there is room for what is written
+abbrev pub Lends : Given → (s z : ℕ) → Written → Type 0
+Lends g s z l = (s < g .sizes .n) × (z < g .sizes .n) × (g .sizes .n ≤ length (l .ways)) × (g .sizes .n ≤ length (l .log))
+    × SizedIn g (l .estimates) (l .elapsed)
+
+-- ---- what a run leaves
+
+-- what a flag tells
+pub record Tells (b : Bool) (P : Type 0) : Type 0 where
+  pub yes-is : b ≡ true → P
+  pub no-is : b ≡ false → P → ⊥
+
+-- After the history H: count, log, elapsed and estimates, the last arc to each logged node, and whether the log is complete.
+pub record Advanced (g : Given) (s z : ℕ) (H : List Entry) (l l′ : Written) (c : ℕ) (complete : Bool) : Type 0 where
+  pub count-is : c ≡ length H
+  pub log-is : l′ .log ≡ first (vertices (reverse H)) (l .log)
+  pub elapsed-is : l′ .elapsed ≡ listed (g .sizes .n) (λ v. word (timeIn H v))
+  pub filling : Filling (mapGiven g) z (Asked (goGiven g s z) s z H) (g .down) (l .estimates) (l′ .estimates)
+  pub ways : (v t : ℕ) → v < goGiven g s z .size → timeIn H v ≡ some t → Way (goGiven g s z) H v (getD (l′ .ways) v 0)
+  pub complete-is : Tells complete (Complete (goGiven g s z) H)
+
+-- From the beginning, as many nodes as the budget allows. A larger budget logs further ones behind these (`run-add`).
+pub record Advances (g : Given) (s z budget : ℕ) (l l′ : Written) (c : ℕ) (complete : Bool) : Type 0 where
+  -- on any contents: what is filled stays, and the budget is kept
+  pub kept : Kept (l .estimates) (l′ .estimates)
+  pub count-le : c ≤ min budget (g .sizes .n)
+  -- in a state that is ready: so many steps of the definition as the budget allows
+  pub exact : Ready g s z → AimFacts (mapGiven g) z (g .down) (l .estimates)
+      → Advanced g s z (run (goGiven g s z) budget []) l l′ c complete
