@@ -15,8 +15,9 @@ entries : (c : tie.After-sections) →
     (sectionIn (c .before .section-at2 .result))
 entries c =
     let after-section-at = c .before .before in
+    let else1 = after-section-at .before in
     record {
-      long = after-section-at .before .if1 .left;
+      long = else1 .if1 .left;
       count-is = c .sections .ensures;
       first = after-section-at .section-at .ensures;
       second = c .before .section-at2 .ensures;
@@ -34,7 +35,8 @@ returns-3 : tie.Need-returns-3
 returns-3 c =
     let else2 = c .before .before in
     let after-kinds-ok = else2 .before in
-    read-3 (entries (after-kinds-ok .before)) (sym (after-kinds-ok .kinds-ok .ensures) ∙ not-false _ (else2 .if2 .left))
+    let after-sections = after-kinds-ok .before in
+    read-3 (entries (after-sections)) (sym (after-kinds-ok .kinds-ok .ensures) ∙ not-false _ (else2 .if2 .left))
     (sym (c .before .starts-ok .ensures) ∙ not-true _ (c .if3 .taken))
 
 returns-4 : tie.Need-returns-4
@@ -44,7 +46,8 @@ returns-4 c =
     let after-starts-ok = else3 .before in
     let else2 = after-starts-ok .before in
     let after-kinds-ok = else2 .before in
-    read-failed (entries (after-kinds-ok .before)) (sym (after-kinds-ok .kinds-ok .ensures) ∙ not-false _ (else2 .if2 .left))
+    let after-sections = after-kinds-ok .before in
+    read-failed (entries (after-sections)) (sym (after-kinds-ok .kinds-ok .ensures) ∙ not-false _ (else2 .if2 .left))
     (sym (after-starts-ok .starts-ok .ensures) ∙ not-false _ (else3 .if3 .left)) _ (after-check .check .ensures)
     _ (ap verdictIn (sym (c .before .q .given .1)))
 
@@ -56,7 +59,8 @@ returns-5 c =
     let after-starts-ok = else3 .before in
     let else2 = after-starts-ok .before in
     let after-kinds-ok = else2 .before in
-    read-passed (entries (after-kinds-ok .before)) (sym (after-kinds-ok .kinds-ok .ensures) ∙ not-false _ (else2 .if2 .left))
+    let after-sections = after-kinds-ok .before in
+    read-passed (entries (after-sections)) (sym (after-kinds-ok .kinds-ok .ensures) ∙ not-false _ (else2 .if2 .left))
     (sym (after-starts-ok .starts-ok .ensures) ∙ not-false _ (else3 .if3 .left)) _ (after-check .check .ensures)
     (ap verdictIn (sym (after-enum-told .enum-told .given .1)))
 

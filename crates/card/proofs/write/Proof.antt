@@ -12,40 +12,43 @@ use Rattle.card.proofs.write.Statement.{statement}
 use Rattle.card.proofs.write.Tie as tie
 
 -- past questions 4 to 6
+abbrev start : tie.At-match-keys2 → tie.Start
+start c = c .before .before .before .before .before
+
 passed : (c : tie.After-enum-told) →
-    let start = c .before .before .before .before .before .before in
-    (none ≡ mapRefusal (rowsOf (start .args .roads .now) (start .args .order .now)))
+    let at-match-keys2 = c .before in
+    (none ≡ mapRefusal (rowsOf (start at-match-keys2 .args .roads .now) (start at-match-keys2 .args .order .now)))
 passed c =
     let after-check = c .before .before in
     ap verdictIn (sym (c .enum-told .given .1)) ∙ after-check .check .ensures
 
 cast-n : tie.Need-cast-n
 cast-n c =
-    let start = c .before .before .before .before .before .before in
-    omega (arith, passes (start .args .roads .now) (start .args .order .now) (passed c) .short .1)
+    let at-match-keys2 = c .before in
+    omega (arith, passes (start at-match-keys2 .args .roads .now) (start at-match-keys2 .args .order .now) (passed c) .short .1)
 
 cast-m : tie.Need-cast-m
 cast-m c =
-    let start = c .before .before .before .before .before .before in
-    omega (arith, passes (start .args .roads .now) (start .args .order .now) (passed c) .short .0)
+    let at-match-keys2 = c .before in
+    omega (arith, passes (start at-match-keys2 .args .roads .now) (start at-match-keys2 .args .order .now) (passed c) .short .0)
 
 returns : tie.Need-returns
 returns c =
-    let after-card-size = c .before in
-    let after-enum-told = after-card-size .before in
-    let start = after-enum-told .before .before .before .before .before .before in
-    write-7 (start .args .roads .now) (start .args .order .now) _ (passed after-enum-told) _ (after-card-size .card-size .ensures)
+    let after-enum-told = c .before .before in
+    let at-match-keys2 = after-enum-told .before in
+    write-7 (start at-match-keys2 .args .roads .now) (start at-match-keys2 .args .order .now) _ (passed after-enum-told)
+    _ (c .before .card-size .ensures)
     (c .if1 .taken)
 
 put-card-requires : tie.Need-put-card-requires
 put-card-requires c κs =
-    let else1 = c .before in
-    let after-card-size = else1 .before in
+    let after-card-size = c .before .before in
     let after-enum-told = after-card-size .before in
-    let start = after-enum-told .before .before .before .before .before .before in (
+    let at-match-keys2 = after-enum-told .before in
+    let start = start at-match-keys2 in (
       passes (start .args .roads .now) (start .args .order .now) (passed after-enum-told) .short,
       area-is (start .args .roads .now) (start .args .order .now) (start .args .area .now) (passed after-enum-told)
-          _ (after-card-size .card-size .ensures) (else1 .if1 .left),
+          _ (after-card-size .card-size .ensures) (c .before .if1 .left),
     )
 
 returns-2 : tie.Need-returns-2
@@ -61,8 +64,9 @@ returns-3 c =
     let else1 = after-put-card .before .before in
     let after-card-size = else1 .before in
     let after-enum-told = after-card-size .before in
-    let start = after-enum-told .before .before .before .before .before .before in
-    write-made (start .args .roads .now) (start .args .order .now) (start .args .area .now) (passed after-enum-told)
+    let at-match-keys2 = after-enum-told .before in
+    write-made (start at-match-keys2 .args .roads .now) (start at-match-keys2 .args .order .now) (start at-match-keys2 .args .area .now)
+    (passed after-enum-told)
     _ (after-card-size .card-size .ensures) _ (else1 .if1 .left) (after-put-card .put-card .ensures)
 
 pub write-spec : {M : Type 1} → statement M

@@ -37,8 +37,16 @@ section-at-spec =
     (λ c. record { fits = omega (arith, within c) })
     (λ c. record { fits = omega (arith, within c) })
     (λ c κs. omega (arith, within c))
-    (λ c. record { fits = omega (arith, within (c .before)) })
-    (λ c κs. omega (arith, within (c .before)))
-    (λ c. record { fits = omega (arith, within (c .before .before)) })
-    (λ c κs. omega (arith, within (c .before .before)))
+    (λ c.
+    let else1 = c .before in
+    record { fits = omega (arith, within (else1)) })
+    (λ c κs.
+    let else1 = c .before in
+    omega (arith, within (else1)))
+    (λ c.
+    let else1 = c .before .before in
+    record { fits = omega (arith, within (else1)) })
+    (λ c κs.
+    let else1 = c .before .before in
+    omega (arith, within (else1)))
     returns-2)

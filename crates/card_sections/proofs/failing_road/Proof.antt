@@ -15,6 +15,18 @@ Inv-loop roads order n m i₀ i = (i ≤ m) × RoadsPass (rowsIn roads order) n 
 abbrev μ-loop : tie.MeasureT-loop
 μ-loop roads order n m i₀ i = m - i
 
+abbrev after-head-of : tie.After-road-ok Inv-loop μ-loop → tie.After-head-of Inv-loop μ-loop
+after-head-of c = c .before .before
+
+abbrev after-tail-of : tie.After-road-ok Inv-loop μ-loop → tie.After-tail-of Inv-loop μ-loop
+after-tail-of c = after-head-of c .before
+
+abbrev at-loop : tie.After-road-ok Inv-loop μ-loop → tie.At-loop Inv-loop μ-loop
+at-loop c = after-tail-of c .before .before
+
+abbrev start : tie.After-road-ok Inv-loop μ-loop → tie.Start Inv-loop μ-loop
+start c = at-loop c .before .before .before
+
 loop-holds : tie.Need-loop-holds Inv-loop μ-loop
 loop-holds c =
     let start = c .before .before in (
@@ -26,33 +38,32 @@ loop-holds c =
 
 returns : tie.Need-returns Inv-loop μ-loop
 returns c =
-    let after-base-of = c .before .before in
-    let after-head-of = after-base-of .before in
-    let after-tail-of = after-head-of .before in
-    let in-loop = after-tail-of .before in
-    let at-loop = in-loop .before in
-    let start = at-loop .before .before .before in
-    roads-fail (rowsIn (start .args .roads .now) (start .args .order .now)) _ _ _ (at-loop .loop .inv .1) (in-loop .loop-test .taken)
-    (body-known (start .args .roads .now) (start .args .order .now) (at-loop .loop .i) _ _ _ _ _ (omega (
+    let after-road-ok = c .before in
+    let after-base-of = after-road-ok .before in
+    let in-loop = after-base-of .before .before .before in
+    let start = start after-road-ok in
+    roads-fail (rowsIn (start .args .roads .now) (start .args .order .now)) _ _ _ (at-loop after-road-ok .loop .inv .1)
+    (in-loop .loop-test .taken)
+    (body-known (start .args .roads .now) (start .args .order .now) (at-loop after-road-ok .loop .i) _ _ _ _ _ (omega (
       arith,
       arcs (start .args .roads .now) (start .args .order .now),
-    )) (at-loop .loop .inv .1 .0) (after-tail-of .tail-of .ensures) (after-head-of .head-of .ensures) (after-base-of .base-of .ensures)
-    (c .before .road-ok .ensures) ∙ not-true _ (c .if1 .taken))
+    )) (at-loop after-road-ok .loop .inv .1 .0) (after-tail-of after-road-ok .tail-of .ensures)
+    (after-head-of after-road-ok .head-of .ensures) (after-base-of .base-of .ensures)
+    (after-road-ok .road-ok .ensures) ∙ not-true _ (c .if1 .taken))
 
 loop-again : tie.Need-loop-again Inv-loop μ-loop
 loop-again c =
-    let after-base-of = c .before .before in
-    let after-head-of = after-base-of .before in
-    let after-tail-of = after-head-of .before in
-    let at-loop = after-tail-of .before .before in
-    let start = at-loop .before .before .before in (
+    let after-road-ok = c .before in
+    let after-base-of = after-road-ok .before in
+    let start = start after-road-ok in (
       search needs,
-      roads-turn (rowsIn (start .args .roads .now) (start .args .order .now)) _ _ _ (at-loop .loop .inv .1)
-          (body-known (start .args .roads .now) (start .args .order .now) (at-loop .loop .i) _ _ _ _ _ (omega (
+      roads-turn (rowsIn (start .args .roads .now) (start .args .order .now)) _ _ _ (at-loop after-road-ok .loop .inv .1)
+          (body-known (start .args .roads .now) (start .args .order .now) (at-loop after-road-ok .loop .i) _ _ _ _ _ (omega (
             arith,
             arcs (start .args .roads .now) (start .args .order .now),
-          )) (at-loop .loop .inv .1 .0) (after-tail-of .tail-of .ensures) (after-head-of .head-of .ensures)
-          (after-base-of .base-of .ensures) (c .before .road-ok .ensures) ∙ not-false _ (c .if1 .left)),
+          )) (at-loop after-road-ok .loop .inv .1 .0) (after-tail-of after-road-ok .tail-of .ensures)
+          (after-head-of after-road-ok .head-of .ensures)
+          (after-base-of .base-of .ensures) (after-road-ok .road-ok .ensures) ∙ not-false _ (c .if1 .left)),
     )
 
 returns-2 : tie.Need-returns-2 Inv-loop μ-loop

@@ -15,6 +15,12 @@ Inv-loop roads order n m i₀ i = (i ≤ m) × RoadsPass (rowsOf roads order) n 
 abbrev μ-loop : tie.MeasureT-loop
 μ-loop roads order n m i₀ i = m - i
 
+abbrev at-loop : tie.After-road-ok Inv-loop μ-loop → tie.At-loop Inv-loop μ-loop
+at-loop c = c .before .before .before .before .before
+
+abbrev start : tie.After-road-ok Inv-loop μ-loop → tie.Start Inv-loop μ-loop
+start c = at-loop c .before .before .before
+
 loop-holds : tie.Need-loop-holds Inv-loop μ-loop
 loop-holds c =
     let start = c .before .before in
@@ -22,21 +28,24 @@ loop-holds c =
 
 returns : tie.Need-returns Inv-loop μ-loop
 returns c =
-    let in-loop = c .before .before .before .before .before in
-    let at-loop = in-loop .before in
-    let start = at-loop .before .before .before in
-    roads-fail (rowsOf (start .args .roads .now) (start .args .order .now)) _ _ _ (at-loop .loop .inv .1) (in-loop .loop-test .taken)
-    (road-known (rowsOf (start .args .roads .now) (start .args .order .now)) (at-loop .loop .i) _ _ _ _ _ (at-loop .loop .inv .1 .0) refl
-    refl refl (c .before .road-ok .ensures) ∙ not-true _ (c .if1 .taken))
+    let after-road-ok = c .before in
+    let in-loop = after-road-ok .before .before .before .before in
+    let start = start after-road-ok in
+    roads-fail (rowsOf (start .args .roads .now) (start .args .order .now)) _ _ _ (at-loop after-road-ok .loop .inv .1)
+    (in-loop .loop-test .taken)
+    (road-known (rowsOf (start .args .roads .now) (start .args .order .now)) (at-loop after-road-ok .loop .i)
+    _ _ _ _ _ (at-loop after-road-ok .loop .inv .1 .0) refl
+    refl refl (after-road-ok .road-ok .ensures) ∙ not-true _ (c .if1 .taken))
 
 loop-again : tie.Need-loop-again Inv-loop μ-loop
 loop-again c =
-    let at-loop = c .before .before .before .before .before .before in
-    let start = at-loop .before .before .before in (
+    let after-road-ok = c .before in
+    let start = start after-road-ok in (
       search needs,
-      roads-turn (rowsOf (start .args .roads .now) (start .args .order .now)) _ _ _ (at-loop .loop .inv .1)
-          (road-known (rowsOf (start .args .roads .now) (start .args .order .now)) (at-loop .loop .i) _ _ _ _ _ (at-loop .loop .inv .1 .0)
-          refl refl refl (c .before .road-ok .ensures) ∙ not-false _ (c .if1 .left)),
+      roads-turn (rowsOf (start .args .roads .now) (start .args .order .now)) _ _ _ (at-loop after-road-ok .loop .inv .1)
+          (road-known (rowsOf (start .args .roads .now) (start .args .order .now)) (at-loop after-road-ok .loop .i)
+          _ _ _ _ _ (at-loop after-road-ok .loop .inv .1 .0)
+          refl refl refl (after-road-ok .road-ok .ensures) ∙ not-false _ (c .if1 .left)),
     )
 
 returns-2 : tie.Need-returns-2 Inv-loop μ-loop

@@ -28,13 +28,22 @@ abbrev μ-loop : tie.MeasureT-loop
 μ-loop roads order ranks pairs₀ n first next cursor₀ ahead₀ ends₀ soon₀ ups₀ downs₀ count₀ r₀ pairs cursor ahead ends soon ups downs count
     r = n - r
 
+abbrev in-loop : tie.After-contract-row Inv-loop μ-loop → tie.In-loop Inv-loop μ-loop
+in-loop c = c .before .before .before .before .before .before .before .before .before .before
+
+abbrev at-loop : tie.After-contract-row Inv-loop μ-loop → tie.At-loop Inv-loop μ-loop
+at-loop c = in-loop c .before
+
+abbrev start : tie.After-contract-row Inv-loop μ-loop → tie.Start Inv-loop μ-loop
+start c = at-loop c .before .before .before .before .before .before .before .before .before .before
+
+abbrev after-contract-row : tie.At-match-keys2 Inv-loop μ-loop → tie.After-contract-row Inv-loop μ-loop
+after-contract-row c = c .before .before .before .before .before .before .before .before .before
+
 cast-n : tie.Need-cast-n Inv-loop μ-loop
 cast-n c =
-    let start = c .before .before .before .before in
-    let g = given (start .pre .0) (start .pre .1) in
-    let q = ranks-number g in
-    let p = ranks-most g in
-    search needs
+    let g = (let start = c .before .before .before .before in
+    given (start .pre .0) (start .pre .1)) in let q = ranks-number g in let p = ranks-most g in search needs
 
 link-roads-requires : tie.Need-link-roads-requires Inv-loop μ-loop
 link-roads-requires c κs =
@@ -84,41 +93,36 @@ contract-row-requires c κs =
 same-length : tie.Need-same-length Inv-loop μ-loop
 same-length c =
     let after-contract-row = c .before .before .before .before .before .before .before .before .before .before in
-    let at-loop = after-contract-row .before .before .before .before .before .before .before .before .before .before .before in
-    after-contract-row .contract-row .kept .1 .1 .1 .1 .1 .1 .1 .1 .1 .1 .1 .0 ∙ at-loop .loop .inv .1
+    after-contract-row .contract-row .kept .1 .1 .1 .1 .1 .1 .1 .1 .1 .1 .1 .0 ∙ at-loop after-contract-row .loop .inv .1
 
 returns : tie.Need-returns Inv-loop μ-loop
 returns c =
     let after-contract-row = c .before .before .before .before .before .before .before .before .before .before in
-    let in-loop = after-contract-row .before .before .before .before .before .before .before .before .before .before in
-    let at-loop = in-loop .before in
-    let start = at-loop .before .before .before .before .before .before .before .before .before .before in
-    contract-overflow (given (start .pre .0) (start .pre .1)) (at-loop .loop .r) _ _ (omega (
+    let start = start after-contract-row in
+    contract-overflow (given (start .pre .0) (start .pre .1)) (at-loop after-contract-row .loop .r) _ _ (omega (
       arith,
-      in-loop .loop-test .taken,
+      in-loop after-contract-row .loop-test .taken,
       ranks-number (given (start .pre .0) (start .pre .1)),
-    )) (after-contract-row .contract-row .kept .1 .1 .1 .1 .1 .1 .1 .1 .1 .1 .1 .0 ∙ at-loop .loop .inv .1)
+    )) (after-contract-row .contract-row .kept .1 .1 .1 .1 .1 .1 .1 .1 .1 .1 .1 .0 ∙ at-loop after-contract-row .loop .inv .1)
     (after-contract-row .contract-row .ensures .overflow (c .enum-told .given .1))
 
 add-r : tie.Need-add-r Inv-loop μ-loop
 add-r c =
     let after-contract-row = c .before .before .before .before .before .before .before .before .before .before .before in
-    let in-loop = after-contract-row .before .before .before .before .before .before .before .before .before .before in
-    let start = in-loop .before .before .before .before .before .before .before .before .before .before .before in
-    let g = given (start .pre .0) (start .pre .1) in row-fits _ _ _ (in-loop .loop-test .taken) (ranks-number g) (ranks-most g)
+    let g = given (start after-contract-row .pre .0) (start after-contract-row .pre .1) in
+    row-fits _ _ _ (in-loop after-contract-row .loop-test .taken) (ranks-number g) (ranks-most g)
 
 loop-less : tie.Need-loop-less Inv-loop μ-loop
 loop-less c =
     let after-contract-row = c .before .before .before .before .before .before .before .before .before .before .before in
-    let in-loop = after-contract-row .before .before .before .before .before .before .before .before .before .before in
-    less _ _ (in-loop .loop-test .taken)
+    less (in-loop after-contract-row .loop-test .taken)
 
 loop-again : tie.Need-loop-again Inv-loop μ-loop
 loop-again c =
-    let after-contract-row = c .before .before .before .before .before .before .before .before .before .before .before in
-    let in-loop = after-contract-row .before .before .before .before .before .before .before .before .before .before in
-    let at-loop = in-loop .before in (
-      lt-next _ _ (in-loop .loop-test .taken),
+    let at-match-keys2 = c .before .before in
+    let after-contract-row = after-contract-row at-match-keys2 in
+    let at-loop = at-loop after-contract-row in (
+      lt-next (in-loop after-contract-row .loop-test .taken),
       after-contract-row .contract-row .kept .1 .1 .1 .1 .1 .1 .1 .1 .1 .1 .1 .0 ∙ at-loop .loop .inv .1,
       after-contract-row .contract-row .kept .1 .1 .1 .1 .1 .0 ∙ at-loop .loop .inv .2,
       after-contract-row .contract-row .kept .1 .1 .1 .1 .1 .1 .0 ∙ at-loop .loop .inv .3,

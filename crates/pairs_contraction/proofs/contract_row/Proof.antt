@@ -8,18 +8,35 @@ use borrow.Author.Needs.{needs}
 use Rattle.pairs_contraction.proofs.contract_row.Statement.{statement}
 use Rattle.pairs_contraction.proofs.contract_row.Tie as tie
 
+abbrev after-pass-lower : tie.After-append-row → tie.After-pass-lower
+after-pass-lower c =
+    c .before .before .before .before .before .before .before .before .before .before .before .before .before .before .before .before
+
+abbrev after-relax-roads : tie.After-append-row → tie.After-relax-roads
+after-relax-roads c =
+    after-pass-lower c .before .before .before .before .before .before .before .before .before .before .before .before .before .before
+
+abbrev start : tie.After-append-row → tie.Start
+start c =
+    after-relax-roads
+    c .before .before .before .before .before .before .before .before .before .before .before .before .before .before .before .before
+
+abbrev after-append-row : tie.After-begin-front → tie.After-append-row
+after-append-row c =
+    c .before .before .before .before .before .before .before .before .before .before .before .before .before .before .before .before
+
 relax-roads-requires : tie.Need-relax-roads-requires
 relax-roads-requires c κs =
-    let after-r = c .before .before .before in
-    let start = after-r .before .before .before .before .before .before .before .before .before .before .before .before in
+    let after-shared-slice-known3 = c .before .before .before .before .before .before .before .before .before .before .before .before in
+    let start = after-shared-slice-known3 .before .before .before in
     (start .pre .0, start .pre .2, start .pre .1 .ups-none, start .pre .1 .downs-none, blocks mostBlocks _ 0 (start .pre .3))
 
 pass-lower-requires : tie.Need-pass-lower-requires
 pass-lower-requires c κs =
     let after-ups = c .before .before .before .before .before .before .before .before .before .before .before .before in
     let after-relax-roads = after-ups .before in
-    let after-r = after-relax-roads .before .before .before .before in
-    let start = after-r .before .before .before .before .before .before .before .before .before .before .before .before in (
+    let after-slice-known = after-relax-roads .before .before .before .before .before .before .before .before .before .before .before in
+    let start = after-slice-known .before .before .before .before .before in (
       (
         _,
         (lower-start (start .pre .1) (start .pre .2) (after-relax-roads .relax-roads .ensures .ups-are)
@@ -34,8 +51,8 @@ append-row-requires c κs =
     let after-pass-lower = after-ahead .before .before .before in
     let after-downs = after-pass-lower .before .before .before .before .before .before .before .before .before .before .before in
     let after-relax-roads = after-downs .before .before .before in
-    let after-r = after-relax-roads .before .before .before .before in
-    let start = after-r .before .before .before .before .before .before .before .before .before .before .before .before in
+    let after-slice-known = after-relax-roads .before .before .before .before .before .before .before .before .before .before .before in
+    let start = after-slice-known .before .before .before .before .before in
     let s = (after-pass-lower .pass-lower .ensures
     _ (lower-start (start .pre .1) (start .pre .2) (after-relax-roads .relax-roads .ensures .ups-are)
     (after-relax-roads .relax-roads .ensures .downs-are) (after-relax-roads .relax-roads .ensures .marked))) .stage in (
@@ -52,78 +69,58 @@ ahead-at-requires : tie.Need-ahead-at-requires
 ahead-at-requires c κs =
     let after-k = c .before .before in
     let after-append-row = after-k .before .before .before .before .before .before .before .before in
-    let after-soon = after-append-row .before .before .before .before .before .before .before .before .before .before .before in
-    let after-pass-lower = after-soon .before .before .before .before .before in
-    let after-downs = after-pass-lower .before .before .before .before .before .before .before .before .before .before .before in
-    let after-relax-roads = after-downs .before .before .before in
-    let after-r = after-relax-roads .before .before .before .before in
-    let start = after-r .before .before .before .before .before .before .before .before .before .before .before .before in
-    (after-append-row .append-row .ensures _ (row-times (start .pre .1)
-    (after-pass-lower .pass-lower .ensures _ (lower-start (start .pre .1) (start .pre .2) (after-relax-roads .relax-roads .ensures .ups-are)
-    (after-relax-roads .relax-roads .ensures .downs-are) (after-relax-roads .relax-roads .ensures .marked))))) .appended .all
+    (after-append-row .append-row .ensures _ (row-times (start after-append-row .pre .1)
+    (after-pass-lower after-append-row .pass-lower .ensures
+    _ (lower-start (start after-append-row .pre .1) (start after-append-row .pre .2)
+    (after-relax-roads after-append-row .relax-roads .ensures .ups-are)
+    (after-relax-roads after-append-row .relax-roads .ensures .downs-are)
+    (after-relax-roads after-append-row .relax-roads .ensures .marked))))) .appended .all
     _ (after-k .k .given .1) .room
 
 begin-front-requires : tie.Need-begin-front-requires
 begin-front-requires c κs =
-    let after-downs3 = c .before .before .before .before .before .before .before .before .before .before .before .before in
-    let after-ups2 = after-downs3 .before .before .before .before .before .before .before .before .before .before .before .before in
-    let after-pass-lower = after-ups2 .before .before .before .before .before .before .before in
-    let after-downs = after-pass-lower .before .before .before .before .before .before .before .before .before .before .before in
-    let after-relax-roads = after-downs .before .before .before in
-    let after-r = after-relax-roads .before .before .before .before in
-    let start = after-r .before .before .before .before .before .before .before .before .before .before .before .before in
-    let s = (after-pass-lower .pass-lower .ensures
-    _ (lower-start (start .pre .1) (start .pre .2) (after-relax-roads .relax-roads .ensures .ups-are)
-    (after-relax-roads .relax-roads .ensures .downs-are) (after-relax-roads .relax-roads .ensures .marked))) in (
-      lt-le _ _ _ (start .pre .2) (s .stage .wide .cursors),
-      lt-le _ _ _ (start .pre .2) (s .stage .wide .aheads),
-      lt-le _ _ _ (start .pre .2) (s .stage .wide .ends-too),
-      lt-le _ _ _ (start .pre .2) (s .sooner .wide),
+    let at-match-keys2 = c .before .before .before .before .before .before .before .before in
+    let after-append-row = at-match-keys2 .before .before .before .before .before .before .before in
+    let start = start after-append-row in
+    let s = (after-pass-lower after-append-row .pass-lower .ensures
+    _ (lower-start (start .pre .1) (start .pre .2) (after-relax-roads after-append-row .relax-roads .ensures .ups-are)
+    (after-relax-roads after-append-row .relax-roads .ensures .downs-are)
+    (after-relax-roads after-append-row .relax-roads .ensures .marked))) in (
+      lt-le (start .pre .2) (s .stage .wide .cursors),
+      lt-le (start .pre .2) (s .stage .wide .aheads),
+      lt-le (start .pre .2) (s .stage .wide .ends-too),
+      lt-le (start .pre .2) (s .sooner .wide),
     )
 
 same-length : tie.Need-same-length
 same-length c =
-    let after-touched5 = c .before .before .before .before .before .before .before .before .before .before .before .before in
-    let after-cursor = after-touched5 .before .before .before .before .before .before .before .before .before .before .before in
-    let after-pass-lower = after-cursor .before in
-    after-pass-lower .pass-lower .kept .1 .1 .1 .0
+    let after-append-row = c .before .before .before .before .before .before .before .before in
+    after-pass-lower after-append-row .pass-lower .kept .1 .1 .1 .0
 
 same-length-2 : tie.Need-same-length-2
 same-length-2 c =
-    let after-touched5 = c .before .before .before .before .before .before .before .before .before .before .before .before in
-    let after-cursor = after-touched5 .before .before .before .before .before .before .before .before .before .before .before in
-    let after-pass-lower = after-cursor .before in
-    after-pass-lower .pass-lower .kept .1 .1 .1 .1 .0
+    let after-append-row = c .before .before .before .before .before .before .before .before in
+    after-pass-lower after-append-row .pass-lower .kept .1 .1 .1 .1 .0
 
 same-length-3 : tie.Need-same-length-3
 same-length-3 c = refl
 
 same-length-4 : tie.Need-same-length-4
 same-length-4 c =
-    let after-touched5 = c .before .before .before .before .before .before .before .before .before .before .before .before in
-    let after-cursor = after-touched5 .before .before .before .before .before .before .before .before .before .before .before in
-    let after-pass-lower = after-cursor .before in
-    after-pass-lower .pass-lower .kept .1 .1 .1 .1 .1 .1 .0
+    let after-append-row = c .before .before .before .before .before .before .before .before in
+    after-pass-lower after-append-row .pass-lower .kept .1 .1 .1 .1 .1 .1 .0
 
 same-length-5 : tie.Need-same-length-5
 same-length-5 c =
     let after-append-row = c .before .before .before .before .before .before .before .before in
-    let after-soon = after-append-row .before .before .before .before .before .before .before .before .before .before .before in
-    let after-pass-lower = after-soon .before .before .before .before .before in
-    let after-downs = after-pass-lower .before .before .before .before .before .before .before .before .before .before .before in
-    let after-relax-roads = after-downs .before .before .before in
-    after-append-row .append-row .kept .1 .1 .1 .1 .0 ∙ after-pass-lower .pass-lower .kept .1 .1 .1 .1 .1 .1 .1 .0
-    ∙ after-relax-roads .relax-roads .kept .1 .1 .1 .1 .1 .0
+    after-append-row .append-row .kept .1 .1 .1 .1 .0 ∙ after-pass-lower after-append-row .pass-lower .kept .1 .1 .1 .1 .1 .1 .1 .0
+    ∙ after-relax-roads after-append-row .relax-roads .kept .1 .1 .1 .1 .1 .0
 
 same-length-6 : tie.Need-same-length-6
 same-length-6 c =
     let after-append-row = c .before .before .before .before .before .before .before .before in
-    let after-soon = after-append-row .before .before .before .before .before .before .before .before .before .before .before in
-    let after-pass-lower = after-soon .before .before .before .before .before in
-    let after-downs = after-pass-lower .before .before .before .before .before .before .before .before .before .before .before in
-    let after-relax-roads = after-downs .before .before .before in
-    after-append-row .append-row .kept .1 .1 .1 .1 .1 .0 ∙ after-pass-lower .pass-lower .kept .1 .1 .1 .1 .1 .1 .1 .1 .0
-    ∙ after-relax-roads .relax-roads .kept .1 .1 .1 .1 .1 .1 .0
+    after-append-row .append-row .kept .1 .1 .1 .1 .1 .0 ∙ after-pass-lower after-append-row .pass-lower .kept .1 .1 .1 .1 .1 .1 .1 .1 .0
+    ∙ after-relax-roads after-append-row .relax-roads .kept .1 .1 .1 .1 .1 .1 .0
 
 same-length-7 : tie.Need-same-length-7
 same-length-7 c =
@@ -133,34 +130,29 @@ same-length-7 c =
 returns : tie.Need-returns
 returns c =
     let after-append-row = c .before .before .before .before .before .before .before .before in
-    let after-soon = after-append-row .before .before .before .before .before .before .before .before .before .before .before in
-    let after-pass-lower = after-soon .before .before .before .before .before in
-    let after-downs = after-pass-lower .before .before .before .before .before .before .before .before .before .before .before in
-    let after-relax-roads = after-downs .before .before .before in
-    let after-r = after-relax-roads .before .before .before .before in
-    let start = after-r .before .before .before .before .before .before .before .before .before .before .before .before in
-    row-overflow (start .pre .1) (after-pass-lower .pass-lower .ensures
+    let after-relax-roads = after-relax-roads after-append-row in
+    let start = start after-append-row in
+    row-overflow (start .pre .1) (after-pass-lower after-append-row .pass-lower .ensures
     _ (lower-start (start .pre .1) (start .pre .2) (after-relax-roads .relax-roads .ensures .ups-are)
     (after-relax-roads .relax-roads .ensures .downs-are) (after-relax-roads .relax-roads .ensures .marked))) (c .enum-told .given .1)
     (after-append-row .append-row .ensures _ (row-times (start .pre .1)
-    (after-pass-lower .pass-lower .ensures _ (lower-start (start .pre .1) (start .pre .2) (after-relax-roads .relax-roads .ensures .ups-are)
+    (after-pass-lower after-append-row .pass-lower .ensures
+    _ (lower-start (start .pre .1) (start .pre .2) (after-relax-roads .relax-roads .ensures .ups-are)
     (after-relax-roads .relax-roads .ensures .downs-are) (after-relax-roads .relax-roads .ensures .marked)))))
 
 same-length-8 : tie.Need-same-length-8
 same-length-8 c =
     let after-begin-front = c .before .before .before .before .before .before .before .before in
-    let after-pairs = after-begin-front .before .before .before .before .before .before .before .before .before .before .before in
-    let after-downs2 = after-pairs .before .before .before .before .before .before .before .before .before .before .before .before in
-    let after-pass-lower = after-downs2 .before .before .before .before .before .before .before .before .before in
-    after-begin-front .begin-front .kept .1 .1 .1 .1 .0 ∙ after-pass-lower .pass-lower .kept .1 .1 .1 .0
+    let at-match-keys2 = after-begin-front .before .before .before .before .before .before .before .before .before in
+    let after-append-row = at-match-keys2 .before .before .before .before .before .before .before in
+    after-begin-front .begin-front .kept .1 .1 .1 .1 .0 ∙ after-pass-lower after-append-row .pass-lower .kept .1 .1 .1 .0
 
 same-length-9 : tie.Need-same-length-9
 same-length-9 c =
     let after-begin-front = c .before .before .before .before .before .before .before .before in
-    let after-pairs = after-begin-front .before .before .before .before .before .before .before .before .before .before .before in
-    let after-downs2 = after-pairs .before .before .before .before .before .before .before .before .before .before .before .before in
-    let after-pass-lower = after-downs2 .before .before .before .before .before .before .before .before .before in
-    after-begin-front .begin-front .kept .1 .1 .1 .1 .1 .0 ∙ after-pass-lower .pass-lower .kept .1 .1 .1 .1 .0
+    let at-match-keys2 = after-begin-front .before .before .before .before .before .before .before .before .before in
+    let after-append-row = at-match-keys2 .before .before .before .before .before .before .before in
+    after-begin-front .begin-front .kept .1 .1 .1 .1 .1 .0 ∙ after-pass-lower after-append-row .pass-lower .kept .1 .1 .1 .1 .0
 
 same-length-10 : tie.Need-same-length-10
 same-length-10 c =
@@ -170,59 +162,43 @@ same-length-10 c =
 same-length-11 : tie.Need-same-length-11
 same-length-11 c =
     let after-begin-front = c .before .before .before .before .before .before .before .before in
-    let after-pairs = after-begin-front .before .before .before .before .before .before .before .before .before .before .before in
-    let after-downs2 = after-pairs .before .before .before .before .before .before .before .before .before .before .before .before in
-    let after-pass-lower = after-downs2 .before .before .before .before .before .before .before .before .before in
-    after-begin-front .begin-front .kept .1 .1 .1 .1 .1 .1 .1 .0 ∙ after-pass-lower .pass-lower .kept .1 .1 .1 .1 .1 .1 .0
+    let at-match-keys2 = after-begin-front .before .before .before .before .before .before .before .before .before in
+    let after-append-row = at-match-keys2 .before .before .before .before .before .before .before in
+    after-begin-front .begin-front .kept .1 .1 .1 .1 .1 .1 .1 .0 ∙ after-pass-lower after-append-row .pass-lower .kept .1 .1 .1 .1 .1 .1 .0
 
 same-length-12 : tie.Need-same-length-12
 same-length-12 c =
     let after-begin-front = c .before .before .before .before .before .before .before .before in
-    let after-pairs = after-begin-front .before .before .before .before .before .before .before .before .before .before .before in
-    let after-append-row = after-pairs .before .before .before .before .before in
-    let after-soon = after-append-row .before .before .before .before .before .before .before .before .before .before .before in
-    let after-pass-lower = after-soon .before .before .before .before .before in
-    let after-downs = after-pass-lower .before .before .before .before .before .before .before .before .before .before .before in
-    let after-relax-roads = after-downs .before .before .before in
-    after-append-row .append-row .kept .1 .1 .1 .1 .0 ∙ after-pass-lower .pass-lower .kept .1 .1 .1 .1 .1 .1 .1 .0
-    ∙ after-relax-roads .relax-roads .kept .1 .1 .1 .1 .1 .0
+    let after-append-row = after-append-row after-begin-front in
+    after-append-row .append-row .kept .1 .1 .1 .1 .0 ∙ after-pass-lower after-append-row .pass-lower .kept .1 .1 .1 .1 .1 .1 .1 .0
+    ∙ after-relax-roads after-append-row .relax-roads .kept .1 .1 .1 .1 .1 .0
 
 same-length-13 : tie.Need-same-length-13
 same-length-13 c =
     let after-begin-front = c .before .before .before .before .before .before .before .before in
-    let after-pairs = after-begin-front .before .before .before .before .before .before .before .before .before .before .before in
-    let after-append-row = after-pairs .before .before .before .before .before in
-    let after-soon = after-append-row .before .before .before .before .before .before .before .before .before .before .before in
-    let after-pass-lower = after-soon .before .before .before .before .before in
-    let after-downs = after-pass-lower .before .before .before .before .before .before .before .before .before .before .before in
-    let after-relax-roads = after-downs .before .before .before in
-    after-append-row .append-row .kept .1 .1 .1 .1 .1 .0 ∙ after-pass-lower .pass-lower .kept .1 .1 .1 .1 .1 .1 .1 .1 .0
-    ∙ after-relax-roads .relax-roads .kept .1 .1 .1 .1 .1 .1 .0
+    let after-append-row = after-append-row after-begin-front in
+    after-append-row .append-row .kept .1 .1 .1 .1 .1 .0 ∙ after-pass-lower after-append-row .pass-lower .kept .1 .1 .1 .1 .1 .1 .1 .1 .0
+    ∙ after-relax-roads after-append-row .relax-roads .kept .1 .1 .1 .1 .1 .1 .0
 
 same-length-14 : tie.Need-same-length-14
 same-length-14 c =
     let after-begin-front = c .before .before .before .before .before .before .before .before in
-    let after-pairs = after-begin-front .before .before .before .before .before .before .before .before .before .before .before in
-    let after-append-row = after-pairs .before .before .before .before .before in
-    after-append-row .append-row .kept .1 .1 .1 .1 .1 .1 .0
+    after-append-row after-begin-front .append-row .kept .1 .1 .1 .1 .1 .1 .0
 
 returns-2 : tie.Need-returns-2
 returns-2 c =
     let after-begin-front = c .before .before .before .before .before .before .before .before in
     let after-ahead-at = after-begin-front .before .before .before .before .before in
     let after-k = after-ahead-at .before .before .before in
-    let after-append-row = after-k .before .before .before .before .before .before .before .before in
-    let after-soon = after-append-row .before .before .before .before .before .before .before .before .before .before .before in
-    let after-pass-lower = after-soon .before .before .before .before .before in
-    let after-downs = after-pass-lower .before .before .before .before .before .before .before .before .before .before .before in
-    let after-relax-roads = after-downs .before .before .before in
-    let after-r = after-relax-roads .before .before .before .before in
-    let start = after-r .before .before .before .before .before .before .before .before .before .before .before .before in
-    row-kept (start .pre .1) (after-pass-lower .pass-lower .ensures
+    let after-append-row = after-append-row after-begin-front in
+    let after-relax-roads = after-relax-roads after-append-row in
+    let start = start after-append-row in
+    row-kept (start .pre .1) (after-pass-lower after-append-row .pass-lower .ensures
     _ (lower-start (start .pre .1) (start .pre .2) (after-relax-roads .relax-roads .ensures .ups-are)
     (after-relax-roads .relax-roads .ensures .downs-are) (after-relax-roads .relax-roads .ensures .marked)))
     (after-append-row .append-row .ensures _ (row-times (start .pre .1)
-    (after-pass-lower .pass-lower .ensures _ (lower-start (start .pre .1) (start .pre .2) (after-relax-roads .relax-roads .ensures .ups-are)
+    (after-pass-lower after-append-row .pass-lower .ensures
+    _ (lower-start (start .pre .1) (start .pre .2) (after-relax-roads .relax-roads .ensures .ups-are)
     (after-relax-roads .relax-roads .ensures .downs-are) (after-relax-roads .relax-roads .ensures .marked))))) (after-k .k .given .1)
     (after-ahead-at .ahead-at .ensures) (after-append-row .append-row .kept .1 .1 .1 .1 .1 .1 .0) (after-begin-front .begin-front .ensures)
 

@@ -15,37 +15,52 @@ Inv-loop order ranks₀ k₀ ranks k = (k ≤ length ranks₀) × (length ranks 
 abbrev μ-loop : tie.MeasureT-loop
 μ-loop order ranks₀ k₀ ranks k = length ranks₀ - k
 
+abbrev at-loop : tie.After-junction-of Inv-loop μ-loop → tie.At-loop Inv-loop μ-loop
+at-loop c = c .before .before
+
+abbrev start : tie.After-junction-of Inv-loop μ-loop → tie.Start Inv-loop μ-loop
+start c = at-loop c .before .before .before
+
 loop-holds : tie.Need-loop-holds Inv-loop μ-loop
 loop-holds c = (search needs, search needs, record { at = λ i h. absurd (omega arith) })
 
 slice-write-ranks : tie.Need-slice-write-ranks Inv-loop μ-loop
 slice-write-ranks c =
-    let at-loop = c .before .before .before in
-    let start = at-loop .before .before .before in
+    let after-junction-of = c .before in
+    let start = start after-junction-of in
     omega (
       arith,
       map-facts (start .pre .0 .1) .order-is,
       start .pre .1,
-      c .before .junction-of .ensures,
-      junction-below (start .pre .0 .1) (at-loop .loop .k) (omega (arith, map-facts (start .pre .0 .1) .order-is, start .pre .1)),
+      after-junction-of .junction-of .ensures,
+      junction-below (start .pre .0 .1) (at-loop after-junction-of .loop .k) (omega (
+        arith,
+        map-facts (start .pre .0 .1) .order-is,
+        start .pre .1,
+      )),
     )
 
 add-k : tie.Need-add-k Inv-loop μ-loop
 add-k c =
-    let start = c .before .before .before .before .before .before in
-    omega (arith, map-facts (start .pre .0 .1) .order-is, map-facts (start .pre .0 .1) .vertices-high, start .pre .1)
+    let after-junction-of = c .before in
+    omega (
+      arith,
+      map-facts (start after-junction-of .pre .0 .1) .order-is,
+      map-facts (start after-junction-of .pre .0 .1) .vertices-high,
+      start after-junction-of .pre .1,
+    )
 
 loop-again : tie.Need-loop-again Inv-loop μ-loop
 loop-again c =
-    let at-loop = c .before .before .before in
-    let start = at-loop .before .before .before in (
+    let after-junction-of = c .before in
+    let start = start after-junction-of in (
       search needs,
       simp length-set (search needs),
       filled-turn (start .pre .0 .1) _ _ _ (omega (arith, map-facts (start .pre .0 .1) .order-is, start .pre .1)) (omega (
         arith,
         map-facts (start .pre .0 .1) .order-is,
         start .pre .1,
-      )) (c .before .junction-of .ensures) (at-loop .loop .inv .2),
+      )) (after-junction-of .junction-of .ensures) (at-loop after-junction-of .loop .inv .2),
     )
 
 returns : tie.Need-returns Inv-loop μ-loop

@@ -8,6 +8,12 @@ use borrow.Author.Needs.{needs}
 use Rattle.pairs_descents.proofs.hand_down.Statement.{statement}
 use Rattle.pairs_descents.proofs.hand_down.Tie as tie
 
+abbrev after-junction-of : tie.After-is-none → tie.After-junction-of
+after-junction-of c = c .before .before .before .before .before .before
+
+abbrev after-low-of : tie.After-is-none → tie.After-low-of
+after-low-of c = after-junction-of c .before .before .before
+
 returns : tie.Need-returns
 returns c =
     let after-low-of = c .before .before in
@@ -21,11 +27,11 @@ returns-2 c =
 
 returns-3 : tie.Need-returns-3
 returns-3 c =
-    let after-of-word = c .before .before in
-    let after-junction-of = after-of-word .before .before .before .before .before in
-    let after-low-of = after-junction-of .before .before .before in
-    no-rest _ _ _ _ _ _ _ (after-of-word .of-word .result .0) (after-low-of .low-of .ensures) (after-junction-of .junction-of .ensures)
-    (after-of-word .of-word .ensures) (eqb-true _ _ (sym (c .before .is-none .ensures) ∙ c .if3 .taken))
+    let after-is-none = c .before in
+    let after-of-word = after-is-none .before in
+    no-rest _ _ _ _ _ _ _ (after-of-word .of-word .result .0) (after-low-of after-is-none .low-of .ensures)
+    (after-junction-of after-is-none .junction-of .ensures)
+    (after-of-word .of-word .ensures) (eqb-true _ _ (sym (after-is-none .is-none .ensures) ∙ c .if3 .taken))
 
 returns-4 : tie.Need-returns-4
 returns-4 c =
@@ -51,11 +57,10 @@ returns-6 c =
     let after-of-word2 = after-down-of .before in
     let after-junction-of2 = after-of-word2 .before .before .before .before .before in
     let after-high-of = after-junction-of2 .before .before .before in
-    let after-of-word = after-high-of .before .before .before in
-    let after-junction-of = after-of-word .before .before .before .before .before in
-    let after-low-of = after-junction-of .before .before .before in
-    handed _ _ _ _ _ _ _ _ _ _ _ _ _ _ (after-low-of .low-of .ensures) (after-high-of .high-of .ensures)
-    (after-junction-of .junction-of .ensures) (after-junction-of2 .junction-of2 .ensures) (after-of-word2 .of-word2 .ensures)
+    let after-is-none = after-high-of .before .before in
+    let after-of-word = after-is-none .before in
+    handed _ _ _ _ _ _ _ _ _ _ _ _ _ _ (after-low-of after-is-none .low-of .ensures) (after-high-of .high-of .ensures)
+    (after-junction-of after-is-none .junction-of .ensures) (after-junction-of2 .junction-of2 .ensures) (after-of-word2 .of-word2 .ensures)
     (after-down-of .down-of .ensures) (after-of-word .of-word .ensures) (c .before .or-sum .ensures) (c .word .ensures)
 
 pub hand-down-spec : {M : Type 1} → statement M

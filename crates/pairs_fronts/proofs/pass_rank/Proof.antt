@@ -9,106 +9,88 @@ use borrow.Author.Needs.{needs}
 use Rattle.pairs_fronts.proofs.pass_rank.Statement.{statement}
 use Rattle.pairs_fronts.proofs.pass_rank.Tie as tie
 
+abbrev after-relax-over : tie.After-ahead-at → tie.After-relax-over
+after-relax-over c = c .before .before .before .before .before .before .before
+
+abbrev start : tie.After-ahead-at → tie.Start
+start c = after-relax-over c .before .before .before .before .before .before .before .before .before .before .before .before .before .before
+
+abbrev start-of-after-relax-over : tie.After-relax-over → tie.Start
+start-of-after-relax-over c =
+    c .before .before .before .before .before .before .before .before .before .before .before .before .before .before
+
 slice-read-i : tie.Need-slice-read-i
 slice-read-i c =
     let start = c .before .before .before .before .before .before .before .before .before in
-    in-fronts _ _ _ _ (start .pre .1) (start .pre .0 .1 .inside) (start .pre .0 .1 .wide .cursors)
+    in-fronts (start .pre .1) (start .pre .0 .1 .inside) (start .pre .0 .1 .wide .cursors)
 
 shared-slice-read-end : tie.Need-shared-slice-read-end
 shared-slice-read-end c =
     let start = c .before .before .before .before .before .before .before .before .before .before in
-    in-fronts _ _ _ _ (start .pre .1) (start .pre .0 .1 .inside) (start .pre .0 .1 .wide .ends-too)
+    in-fronts (start .pre .1) (start .pre .0 .1 .inside) (start .pre .0 .1 .wide .ends-too)
 
 relax-over-requires : tie.Need-relax-over-requires
 relax-over-requires c κs =
     let after-shared-slice-known = c .before .before .before .before .before .before .before .before .before .before .before .before in
     let start = after-shared-slice-known .before in
-    let m = (meeting (start .pre .0 .1) (start .args .v .0) (le-same (start .args .v .0)) (start .pre .1) (start .pre .2)
+    let m = (meeting (start .pre .0 .1) (start .args .v .0) (le-same) (start .pre .1) (start .pre .2)
     (getD (start .args .cursor .now) (start .args .v .0) 0) (getD (start .args .ends .now) (start .args .v .0) 0) refl refl) in (
       m .next-in,
       m .end-in,
-      reached (start .pre .0 .1) (start .args .v .0) (le-same (start .args .v .0)) (start .pre .1) (start .pre .2)
+      reached (start .pre .0 .1) (start .args .v .0) (le-same) (start .pre .1) (start .pre .2)
           (getD (start .args .cursor .now) (start .args .v .0) 0) (getD (start .args .ends .now) (start .args .v .0) 0) refl refl,
     )
 
 add-ahead-at : tie.Need-add-ahead-at
 add-ahead-at c =
     let after-relax-over = c .before .before .before .before .before .before in
-    let after-slice-known2 = after-relax-over .before .before .before .before .before .before .before .before .before .before .before in
-    let start = after-slice-known2 .before .before .before in
-    let m = (meeting (start .pre .0 .1) (start .args .v .0) (le-same (start .args .v .0)) (start .pre .1) (start .pre .2)
+    let start = start-of-after-relax-over after-relax-over in
+    let m = (meeting (start .pre .0 .1) (start .args .v .0) (le-same) (start .pre .1) (start .pre .2)
     (getD (start .args .cursor .now) (start .args .v .0) 0) (getD (start .args .ends .now) (start .args .v .0) 0) refl refl) in
-    record { fits = next-fits _ _ _ (m .next-in) (m .end-in) (start .pre .0 .1 .area) }
+    record { fits = next-fits (m .next-in) (m .end-in) (start .pre .0 .1 .area) }
 
 ahead-at-requires : tie.Need-ahead-at-requires
 ahead-at-requires c κs =
     let after-relax-over = c .before .before .before .before .before .before in
-    let after-slice-known2 = after-relax-over .before .before .before .before .before .before .before .before .before .before .before in
-    let start = after-slice-known2 .before .before .before in
-    (meeting (start .pre .0 .1) (start .args .v .0) (le-same (start .args .v .0)) (start .pre .1) (start .pre .2)
+    let start = start-of-after-relax-over after-relax-over in
+    (meeting (start .pre .0 .1) (start .args .v .0) (le-same) (start .pre .1) (start .pre .2)
     (getD (start .args .cursor .now) (start .args .v .0) 0) (getD (start .args .ends .now) (start .args .v .0) 0) refl refl) .end-in
 
 add-cursor : tie.Need-add-cursor
 add-cursor c =
-    let after-relax-over = c .before .before .before .before .before .before .before in
-    let after-slice-known2 = after-relax-over .before .before .before .before .before .before .before .before .before .before .before in
-    let start = after-slice-known2 .before .before .before in
-    let m = (meeting (start .pre .0 .1) (start .args .v .0) (le-same (start .args .v .0)) (start .pre .1) (start .pre .2)
+    let start = start c in
+    let m = (meeting (start .pre .0 .1) (start .args .v .0) (le-same) (start .pre .1) (start .pre .2)
     (getD (start .args .cursor .now) (start .args .v .0) 0) (getD (start .args .ends .now) (start .args .v .0) 0) refl refl) in
-    record { fits = next-fits _ _ _ (m .next-in) (m .end-in) (start .pre .0 .1 .area) }
+    record { fits = next-fits (m .next-in) (m .end-in) (start .pre .0 .1 .area) }
 
 slice-write-cursor : tie.Need-slice-write-cursor
-slice-write-cursor c =
-    let after-relax-over = c .before .before .before .before .before .before .before in
-    let after-slice-known2 = after-relax-over .before .before .before .before .before .before .before .before .before .before .before in
-    let start = after-slice-known2 .before .before .before in
-    in-fronts _ _ _ _ (start .pre .1) (start .pre .0 .1 .inside) (start .pre .0 .1 .wide .cursors)
+slice-write-cursor c = in-fronts (start c .pre .1) (start c .pre .0 .1 .inside) (start c .pre .0 .1 .wide .cursors)
 
 slice-write-ahead : tie.Need-slice-write-ahead
-slice-write-ahead c =
-    let after-relax-over = c .before .before .before .before .before .before .before in
-    let after-slice-known2 = after-relax-over .before .before .before .before .before .before .before .before .before .before .before in
-    let start = after-slice-known2 .before .before .before in
-    in-fronts _ _ _ _ (start .pre .1) (start .pre .0 .1 .inside) (start .pre .0 .1 .wide .aheads)
+slice-write-ahead c = in-fronts (start c .pre .1) (start c .pre .0 .1 .inside) (start c .pre .0 .1 .wide .aheads)
 
 same-length : tie.Need-same-length
-same-length c =
-    let after-relax-over = c .before .before .before .before .before .before .before in
-    let after-slice-known2 = after-relax-over .before .before .before .before .before .before .before .before .before .before .before in
-    let start = after-slice-known2 .before .before .before in
-    length-set (start .args .cursor .now) _ _
+same-length c = length-set (start c .args .cursor .now) _ _
 
 same-length-2 : tie.Need-same-length-2
-same-length-2 c =
-    let after-relax-over = c .before .before .before .before .before .before .before in
-    let after-slice-known2 = after-relax-over .before .before .before .before .before .before .before .before .before .before .before in
-    let start = after-slice-known2 .before .before .before in
-    length-set (start .args .ahead .now) _ _
+same-length-2 c = length-set (start c .args .ahead .now) _ _
 
 same-length-3 : tie.Need-same-length-3
-same-length-3 c =
-    let after-relax-over = c .before .before .before .before .before .before .before in
-    after-relax-over .relax-over .kept .1 .1 .1 .0
+same-length-3 c = after-relax-over c .relax-over .kept .1 .1 .1 .0
 
 same-length-4 : tie.Need-same-length-4
-same-length-4 c =
-    let after-relax-over = c .before .before .before .before .before .before .before in
-    after-relax-over .relax-over .kept .1 .1 .1 .1 .0
+same-length-4 c = after-relax-over c .relax-over .kept .1 .1 .1 .1 .0
 
 same-length-5 : tie.Need-same-length-5
-same-length-5 c =
-    let after-relax-over = c .before .before .before .before .before .before .before in
-    after-relax-over .relax-over .kept .1 .1 .1 .1 .1 .0
+same-length-5 c = after-relax-over c .relax-over .kept .1 .1 .1 .1 .1 .0
 
 returns : tie.Need-returns
 returns c =
-    let after-relax-over = c .before .before .before .before .before .before .before in
-    let after-slice-known2 = after-relax-over .before .before .before .before .before .before .before .before .before .before .before in
-    let start = after-slice-known2 .before .before .before in (
+    let start = start c in (
       sym (getD-set-same (start .args .ahead .now) (start .args .v .0) _ 0
-          (in-fronts _ _ _ _ (start .pre .1) (start .pre .0 .1 .inside) (start .pre .0 .1 .wide .aheads))),
-      λ w s. stage-pass s (start .pre .1) _ _ _ _ _ _ (meeting s (start .args .v .0) (le-same (start .args .v .0)) (start .pre .1)
-          (start .pre .2) _ _ refl refl) (after-relax-over .relax-over .ensures) (c .ahead-at .ensures),
+          (in-fronts (start .pre .1) (start .pre .0 .1 .inside) (start .pre .0 .1 .wide .aheads))),
+      λ w s. stage-pass s (start .pre .1) _ _ _ _ _ _ (meeting s (start .args .v .0) (le-same) (start .pre .1)
+          (start .pre .2) _ _ refl refl) (after-relax-over c .relax-over .ensures) (c .ahead-at .ensures),
     )
 
 pub pass-rank-spec : {M : Type 1} → statement M

@@ -17,6 +17,18 @@ Inv-loop pairs i end ups₀ downs₀ touched₀ down up j₀ ups downs touched j
 abbrev μ-loop : tie.MeasureT-loop
 μ-loop pairs i end ups₀ downs₀ touched₀ down up j₀ ups downs touched j = end - j
 
+abbrev after-high-of : tie.After-down-of2 Inv-loop μ-loop → tie.After-high-of Inv-loop μ-loop
+after-high-of c = c .before .before .before .before .before .before .before .before
+
+abbrev in-loop : tie.After-down-of2 Inv-loop μ-loop → tie.In-loop Inv-loop μ-loop
+in-loop c = after-high-of c .before
+
+abbrev at-loop : tie.After-down-of2 Inv-loop μ-loop → tie.At-loop Inv-loop μ-loop
+at-loop c = in-loop c .before
+
+abbrev start : tie.After-down-of2 Inv-loop μ-loop → tie.Start Inv-loop μ-loop
+start c = at-loop c .before .before .before .before .before .before .before
+
 loop-holds : tie.Need-loop-holds Inv-loop μ-loop
 loop-holds c = (search needs, search needs, refl, refl, refl, going-start _ _ _ _ _ _ _ _)
 
@@ -26,39 +38,31 @@ relax-entry-requires c κs =
     let in-loop = after-high-of .before in
     let at-loop = in-loop .before in
     let start = at-loop .before .before .before .before .before .before .before in
-    in-length _ _ _ (by-below _ _ _ (after-high-of .high-of .ensures) (start .pre .2 .ups-in (at-loop .loop .j) (at-loop .loop .inv .0)
+    in-length (by-below (after-high-of .high-of .ensures) (start .pre .2 .ups-in (at-loop .loop .j) (at-loop .loop .inv .0)
     (in-loop .loop-test .taken))) (at-loop .loop .inv .2)
 
 relax-entry-requires-2 : tie.Need-relax-entry-requires-2 Inv-loop μ-loop
 relax-entry-requires-2 c κs =
-    let after-high-of = c .before .before .before .before .before .before .before .before in
-    let in-loop = after-high-of .before in
-    let at-loop = in-loop .before in
-    let start = at-loop .before .before .before .before .before .before .before in
-    in-length _ _ _ (by-below _ _ _ (after-high-of .high-of .ensures) (start .pre .2 .downs-in (at-loop .loop .j) (at-loop .loop .inv .0)
-    (in-loop .loop-test .taken))) (at-loop .loop .inv .3)
+    in-length (by-below (after-high-of c .high-of .ensures)
+    (start c .pre .2 .downs-in (at-loop c .loop .j) (at-loop c .loop .inv .0)
+    (in-loop c .loop-test .taken))) (at-loop c .loop .inv .3)
 
 mark-requires : tie.Need-mark-requires Inv-loop μ-loop
 mark-requires c κs =
-    let after-high-of = c .before .before .before .before .before .before .before .before .before .before .before .before in
-    let in-loop = after-high-of .before in
-    let at-loop = in-loop .before in
-    let start = at-loop .before .before .before .before .before .before .before in
-    in-blocks _ _ _ (by-below _ _ _ (after-high-of .high-of .ensures) (start .pre .2 .marks-in (at-loop .loop .j) (at-loop .loop .inv .0)
-    (in-loop .loop-test .taken))) (at-loop .loop .inv .4)
+    let after-down-of2 = c .before .before .before .before in
+    in-blocks (by-below (after-high-of after-down-of2 .high-of .ensures)
+    (start after-down-of2 .pre .2 .marks-in (at-loop after-down-of2 .loop .j) (at-loop after-down-of2 .loop .inv .0)
+    (in-loop after-down-of2 .loop-test .taken))) (at-loop after-down-of2 .loop .inv .4)
 
 add-j-2 : tie.Need-add-j-2 Inv-loop μ-loop
 add-j-2 c =
-    let after-up-of2 = c .before .before .before .before .before .before .before .before .before .before .before .before in
-    let in-loop = after-up-of2 .before .before .before .before in
-    let start = in-loop .before .before .before .before .before .before .before .before in
-    record { fits = omega (arith, in-loop .loop-test .taken, start .good .1 .1 .0) }
+    let after-down-of2 = c .before .before .before .before .before .before .before in
+    record { fits = omega (arith, in-loop after-down-of2 .loop-test .taken, start after-down-of2 .good .1 .1 .0) }
 
 loop-less : tie.Need-loop-less Inv-loop μ-loop
 loop-less c =
-    let after-up-of2 = c .before .before .before .before .before .before .before .before .before .before .before .before in
-    let in-loop = after-up-of2 .before .before .before .before in
-    less _ _ (in-loop .loop-test .taken)
+    let after-down-of2 = c .before .before .before .before .before .before .before in
+    less (in-loop after-down-of2 .loop-test .taken)
 
 loop-again : tie.Need-loop-again Inv-loop μ-loop
 loop-again c =
@@ -67,21 +71,19 @@ loop-again c =
     let after-down-of2 = after-relax-entry2 .before in
     let after-relax-entry = after-down-of2 .before .before .before .before in
     let after-up-of2 = after-relax-entry .before in
-    let after-high-of = after-up-of2 .before .before .before in
-    let in-loop = after-high-of .before in
-    let at-loop = in-loop .before in
-    let start = at-loop .before .before .before .before .before .before .before in (
-      le-more _ _ (at-loop .loop .inv .0),
-      lt-next _ _ (in-loop .loop-test .taken),
+    let at-loop = at-loop after-down-of2 in (
+      le-more (at-loop .loop .inv .0),
+      lt-next (in-loop after-down-of2 .loop-test .taken),
       after-relax-entry .relax-entry .kept .0 ∙ at-loop .loop .inv .2,
       after-relax-entry2 .relax-entry2 .kept .0 ∙ at-loop .loop .inv .3,
       after-mark .mark .kept .0 ∙ at-loop .loop .inv .4,
-      going-turn _ _ _ _ _ _ _ _ (at-loop .loop .j) _ _ _ _ _ _ _ _ _ (at-loop .loop .inv .0) (in-loop .loop-test .taken)
-          (after-high-of .high-of .ensures)
+      going-turn _ _ _ _ _ _ _ _ (at-loop .loop .j) _ _ _ _ _ _ _ _ _ (at-loop .loop .inv .0) (in-loop after-down-of2 .loop-test .taken)
+          (after-high-of after-down-of2 .high-of .ensures)
           (after-up-of2 .up-of2 .ensures) (after-relax-entry .relax-entry .ensures) (after-down-of2 .down-of2 .ensures)
           (after-relax-entry2 .relax-entry2 .ensures) (in-blocks
-          _ _ _ (by-below _ _ _ (after-high-of .high-of .ensures) (start .pre .2 .marks-in (at-loop .loop .j) (at-loop .loop .inv .0)
-          (in-loop .loop-test .taken))) (at-loop .loop .inv .4))
+          _ _ _ (by-below (after-high-of after-down-of2 .high-of .ensures)
+          (start after-down-of2 .pre .2 .marks-in (at-loop .loop .j) (at-loop .loop .inv .0)
+          (in-loop after-down-of2 .loop-test .taken))) (at-loop .loop .inv .4))
           (after-mark .mark .ensures) (at-loop .loop .inv .5),
     )
 

@@ -16,6 +16,12 @@ Inv-loop roads ranks first₀ next₀ m i₀ first next i =
 abbrev μ-loop : tie.MeasureT-loop
 μ-loop roads ranks first₀ next₀ m i₀ first next i = m - i
 
+abbrev at-loop : tie.After-row-of Inv-loop μ-loop → tie.At-loop Inv-loop μ-loop
+at-loop c = c .before .before
+
+abbrev start : tie.After-row-of Inv-loop μ-loop → tie.Start Inv-loop μ-loop
+start c = at-loop c .before .before .before .before .before
+
 loop-holds : tie.Need-loop-holds Inv-loop μ-loop
 loop-holds c =
     let start = c .before .before .before .before in
@@ -24,38 +30,37 @@ loop-holds c =
 slice-read-next : tie.Need-slice-read-next Inv-loop μ-loop
 slice-read-next c =
     let after-row-of = c .before .before in
-    let at-loop = after-row-of .before .before in
-    let start = at-loop .before .before .before .before .before in
-    omega (arith, after-row-of .row-of .ensures .1, start .pre .1, at-loop .loop .inv .1)
+    omega (arith, after-row-of .row-of .ensures .1, start after-row-of .pre .1, at-loop after-row-of .loop .inv .1)
 
 slice-write-next : tie.Need-slice-write-next Inv-loop μ-loop
 slice-write-next c =
-    let at-loop = c .before .before .before .before in
-    let start = at-loop .before .before .before .before .before in
-    omega (arith, start .pre .2, at-loop .loop .inv .2)
+    let after-row-of = c .before .before in
+    omega (arith, start after-row-of .pre .2, at-loop after-row-of .loop .inv .2)
 
 cast-first : tie.Need-cast-first Inv-loop μ-loop
 cast-first c =
-    let start = c .before .before .before .before .before .before .before .before .before in
-    omega (arith, start .pre .0 .most)
+    let after-row-of = c .before .before in
+    omega (arith, start after-row-of .pre .0 .most)
 
 slice-write-first : tie.Need-slice-write-first Inv-loop μ-loop
 slice-write-first c =
     let after-row-of = c .before .before in
-    let at-loop = after-row-of .before .before in
-    let start = at-loop .before .before .before .before .before in
-    omega (arith, after-row-of .row-of .ensures .1, start .pre .1, at-loop .loop .inv .1)
+    omega (arith, after-row-of .row-of .ensures .1, start after-row-of .pre .1, at-loop after-row-of .loop .inv .1)
 
 loop-again : tie.Need-loop-again Inv-loop μ-loop
 loop-again c =
     let after-row-of = c .before .before in
-    let at-loop = after-row-of .before .before in
-    let start = at-loop .before .before .before .before .before in (
+    let at-loop = at-loop after-row-of in (
       search needs,
       simp length-set (at-loop .loop .inv .1),
       simp length-set (at-loop .loop .inv .2),
-      linked-turn _ _ _ _ (at-loop .loop .i) (after-row-of .row-of .result .0) _ (omega (arith, start .pre .1, at-loop .loop .inv .1))
-          (omega (arith, start .pre .2, at-loop .loop .inv .2)) (after-row-of .row-of .ensures .1) (after-row-of .row-of .ensures .0) refl
+      linked-turn _ _ _ _ (at-loop .loop .i) (after-row-of .row-of .result .0) _ (omega (
+        arith,
+        start after-row-of .pre .1,
+        at-loop .loop .inv .1,
+      ))
+          (omega (arith, start after-row-of .pre .2, at-loop .loop .inv .2)) (after-row-of .row-of .ensures .1)
+          (after-row-of .row-of .ensures .0) refl
           (at-loop .loop .inv .3),
     )
 

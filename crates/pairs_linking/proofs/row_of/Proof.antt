@@ -21,7 +21,7 @@ returns c =
     let after-rank-of = after-head-of .before in
     let after-tail-of = after-rank-of .before in
     let start = after-tail-of .before .before .before in
-    row-low (ends (start .pre .0) _ _ _ _ _ (start .pre .1) (after-tail-of .tail-of .ensures) (after-rank-of .rank-of .ensures)
+    row-low (ends (start .pre .0) (start .pre .1) (after-tail-of .tail-of .ensures) (after-rank-of .rank-of .ensures)
     (after-head-of .head-of .ensures) (c .before .rank-of2 .ensures)) (c .if1 .taken)
 
 returns-2 : tie.Need-returns-2
@@ -30,7 +30,7 @@ returns-2 c =
     let after-rank-of = after-head-of .before in
     let after-tail-of = after-rank-of .before in
     let start = after-tail-of .before .before .before in
-    row-high (ends (start .pre .0) _ _ _ _ _ (start .pre .1) (after-tail-of .tail-of .ensures) (after-rank-of .rank-of .ensures)
+    row-high (ends (start .pre .0) (start .pre .1) (after-tail-of .tail-of .ensures) (after-rank-of .rank-of .ensures)
     (after-head-of .head-of .ensures) (c .before .rank-of2 .ensures)) (c .if1 .left)
 
 pub row-of-spec : {M : Type 1} → statement M

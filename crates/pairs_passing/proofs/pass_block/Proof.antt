@@ -21,16 +21,23 @@ Inv-loop pairs n r from to cursor₀ ahead₀ ends ups₀ downs₀ touched₀ bo
 abbrev μ-loop : tie.MeasureT-loop
 μ-loop pairs n r from to cursor₀ ahead₀ ends ups₀ downs₀ touched₀ bound₀ v₀ cursor ahead ups downs touched bound v = to - v
 
+abbrev start : tie.At-loop Inv-loop μ-loop → tie.Start Inv-loop μ-loop
+start c = c .before .before .before .before .before .before .before .before
+
+abbrev in-loop : tie.After-least Inv-loop μ-loop → tie.In-loop Inv-loop μ-loop
+in-loop c =
+    c .before .before .before .before .before .before .before .before .before .before .before .before .before .before .before .before .before .before .before .before
+
 loop-holds : tie.Need-loop-holds Inv-loop μ-loop
 loop-holds c =
     let start = c .before .before .before .before .before .before .before in
-    (le-same _, start .pre .1, refl, refl, refl, refl, refl, λ w s. scanned-start _ s)
+    (le-same, start .pre .1, refl, refl, refl, refl, refl, λ w s. scanned-start _ s)
 
 slice-read-high : tie.Need-slice-read-high Inv-loop μ-loop
 slice-read-high c =
     let at-loop = c .before .before in
-    let start = at-loop .before .before .before .before .before .before .before .before in
-    in-fronts-kept _ _ _ _ _ _ (c .before .loop-test .taken) (start .pre .2) (start .pre .0 .1 .inside) (start .pre .0 .1 .wide .aheads)
+    in-fronts-kept (c .before .loop-test .taken) (start at-loop .pre .2) (start at-loop .pre .0 .1 .inside)
+    (start at-loop .pre .0 .1 .wide .aheads)
     (at-loop .loop .inv .3)
 
 pass-rank-requires : tie.Need-pass-rank-requires Inv-loop μ-loop
@@ -38,32 +45,27 @@ pass-rank-requires c κs =
     let then1 = c .before .before .before .before .before in
     let in-loop = then1 .before .before .before in
     let at-loop = in-loop .before in
-    let start = at-loop .before .before .before .before .before .before .before .before in (
+    let start = start at-loop in (
       (start .pre .0 .0, (at-loop .loop .inv .7 (start .pre .0 .0) (start .pre .0 .1)) .stage),
-      lt-le _ _ _ (in-loop .loop-test .taken) (start .pre .2),
+      lt-le (in-loop .loop-test .taken) (start .pre .2),
       then1 .if1 .taken,
     )
 
 loop-less : tie.Need-loop-less Inv-loop μ-loop
-loop-less c =
-    let after-pass-rank = c .before .before .before .before .before .before .before .before .before .before .before in
-    let in-loop = after-pass-rank .before .before .before .before .before .before .before .before .before in
-    less _ _ (in-loop .loop-test .taken)
+loop-less c = less (in-loop c .loop-test .taken)
 
 loop-again : tie.Need-loop-again Inv-loop μ-loop
 loop-again c =
     let after-pass-rank = c .before .before .before .before .before .before .before .before .before .before .before in
-    let in-loop = after-pass-rank .before .before .before .before .before .before .before .before .before in
-    let at-loop = in-loop .before in
-    let start = at-loop .before .before .before .before .before .before .before .before in (
-      le-more _ _ (at-loop .loop .inv .0),
-      lt-next _ _ (in-loop .loop-test .taken),
+    let at-loop = after-pass-rank .before .before .before .before .before .before .before .before .before .before in (
+      le-more (at-loop .loop .inv .0),
+      lt-next (in-loop c .loop-test .taken),
       after-pass-rank .pass-rank .kept .1 .1 .1 .1 .0 ∙ at-loop .loop .inv .2,
       after-pass-rank .pass-rank .kept .1 .1 .1 .1 .1 .0 ∙ at-loop .loop .inv .3,
       after-pass-rank .pass-rank .kept .1 .1 .1 .1 .1 .1 .1 .0 ∙ at-loop .loop .inv .4,
       after-pass-rank .pass-rank .kept .1 .1 .1 .1 .1 .1 .1 .1 .0 ∙ at-loop .loop .inv .5,
       after-pass-rank .pass-rank .kept .1 .1 .1 .1 .1 .1 .1 .1 .1 .0 ∙ at-loop .loop .inv .6,
-      λ w s. scanned-pass (at-loop .loop .inv .7 w s) (lt-le _ _ _ (in-loop .loop-test .taken) (start .pre .2))
+      λ w s. scanned-pass (at-loop .loop .inv .7 w s) (lt-le (in-loop c .loop-test .taken) (start at-loop .pre .2))
           _ _ (after-pass-rank .pass-rank .ensures .0) (c .least .ensures)
           (after-pass-rank .pass-rank .ensures .1 w (at-loop .loop .inv .7 w s .stage)),
     )
@@ -71,21 +73,20 @@ loop-again c =
 loop-less-2 : tie.Need-loop-less-2 Inv-loop μ-loop
 loop-less-2 c =
     let in-loop = c .before .before .before .before in
-    less _ _ (in-loop .loop-test .taken)
+    less (in-loop .loop-test .taken)
 
 loop-again-2 : tie.Need-loop-again-2 Inv-loop μ-loop
 loop-again-2 c =
     let in-loop = c .before .before .before .before in
-    let at-loop = in-loop .before in
-    let start = at-loop .before .before .before .before .before .before .before .before in (
-      le-more _ _ (at-loop .loop .inv .0),
-      lt-next _ _ (in-loop .loop-test .taken),
+    let at-loop = in-loop .before in (
+      le-more (at-loop .loop .inv .0),
+      lt-next (in-loop .loop-test .taken),
       at-loop .loop .inv .2,
       at-loop .loop .inv .3,
       at-loop .loop .inv .4,
       at-loop .loop .inv .5,
       at-loop .loop .inv .6,
-      λ w s. scanned-skip (at-loop .loop .inv .7 w s) (lt-le _ _ _ (in-loop .loop-test .taken) (start .pre .2)) _ _ refl
+      λ w s. scanned-skip (at-loop .loop .inv .7 w s) (lt-le (in-loop .loop-test .taken) (start at-loop .pre .2)) _ _ refl
           (c .before .if1 .left) (c .least2 .ensures),
     )
 

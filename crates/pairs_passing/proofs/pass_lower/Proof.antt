@@ -23,79 +23,85 @@ Inv-loop pairs n r cursor₀ ahead₀ ends soon₀ ups₀ downs₀ touched₀ v�
 abbrev μ-loop : tie.MeasureT-loop
 μ-loop pairs n r cursor₀ ahead₀ ends soon₀ ups₀ downs₀ touched₀ v₀ cursor ahead soon ups downs touched v = r .0 - v
 
+abbrev after-least : tie.After-pass-block Inv-loop μ-loop → tie.After-least Inv-loop μ-loop
+after-least c = c .before .before .before .before .before .before .before .before .before
+
+abbrev then1 : tie.After-pass-block Inv-loop μ-loop → tie.Then1 Inv-loop μ-loop
+then1 c = after-least c .before
+
+abbrev at-loop : tie.After-pass-block Inv-loop μ-loop → tie.At-loop Inv-loop μ-loop
+at-loop c = then1 c .before .before
+
+abbrev at-loop-of-then1 : tie.Then1 Inv-loop μ-loop → tie.At-loop Inv-loop μ-loop
+at-loop-of-then1 c = c .before .before
+
+abbrev start : tie.Then1 Inv-loop μ-loop → tie.Start Inv-loop μ-loop
+start c = at-loop-of-then1 c .before .before .before .before .before .before .before .before .before
+
 loop-holds : tie.Need-loop-holds Inv-loop μ-loop
 loop-holds c = (search needs, λ h. refl, refl, refl, refl, refl, refl, refl, λ w s. s)
 
 add-least : tie.Need-add-least Inv-loop μ-loop
 add-least c =
-    let start = c .before .before .before .before .before .before .before .before .before .before .before in
-    let i = start .pre .0 .1 .stage .inside in
-    let p = start .pre .1 in
-    search needs
+    let i = start c .pre .0 .1 .stage .inside in let p = start c .pre .1 in search needs
 
 slice-read-if2 : tie.Need-slice-read-if2 Inv-loop μ-loop
 slice-read-if2 c =
     let then1 = c .before .before in
-    let at-loop = then1 .before .before in
-    let start = at-loop .before .before .before .before .before .before .before .before .before in
-    block-in _ _ _ _ _ (start .pre .0 .1 .sooner .wide) (start .pre .0 .1 .stage .inside) (then1 .if1 .taken) (at-loop .loop .inv .4)
+    block-in (start then1 .pre .0 .1 .sooner .wide) (start then1 .pre .0 .1 .stage .inside) (then1 .if1 .taken)
+    (at-loop-of-then1 then1 .loop .inv .4)
 
 pass-block-requires : tie.Need-pass-block-requires Inv-loop μ-loop
 pass-block-requires c κs =
     let after-least = c .before .before .before .before .before .before .before .before in
-    let then1 = after-least .before in
-    let at-loop = then1 .before .before in
-    let start = at-loop .before .before .before .before .before .before .before .before .before in (
-      (start .pre .0 .0, (at-loop .loop .inv .8 (start .pre .0 .0) (start .pre .0 .1)) .stage),
-      block-from _ _ _ (after-least .least .ensures) (then1 .if1 .taken),
-      min-le _ _ _ (after-least .least .ensures),
+    let then1 = after-least .before in (
+      (start then1 .pre .0 .0, (at-loop-of-then1 then1 .loop .inv .8 (start then1 .pre .0 .0) (start then1 .pre .0 .1)) .stage),
+      block-from (after-least .least .ensures) (then1 .if1 .taken),
+      min-le _ (after-least .least .ensures),
     )
 
 slice-write-soon : tie.Need-slice-write-soon Inv-loop μ-loop
 slice-write-soon c =
     let after-pass-block = c .before .before .before .before .before .before .before .before .before .before in
-    let then1 = after-pass-block .before .before .before .before .before .before .before .before .before .before in
-    let at-loop = then1 .before .before in
-    let start = at-loop .before .before .before .before .before .before .before .before .before in
-    block-in _ _ _ _ _ (start .pre .0 .1 .sooner .wide) (start .pre .0 .1 .stage .inside) (then1 .if1 .taken) (at-loop .loop .inv .4)
+    let then1 = then1 after-pass-block in
+    block-in (start then1 .pre .0 .1 .sooner .wide) (start then1 .pre .0 .1 .stage .inside) (then1 .if1 .taken)
+    (at-loop after-pass-block .loop .inv .4)
 
 loop-less : tie.Need-loop-less Inv-loop μ-loop
 loop-less c =
     let after-pass-block = c .before .before .before .before .before .before .before .before .before .before in
-    let after-least = after-pass-block .before .before .before .before .before .before .before .before .before in
-    let then1 = after-least .before in
-    block-less _ _ _ (after-least .least .ensures) (then1 .if1 .taken)
+    block-less (after-least after-pass-block .least .ensures) (then1 after-pass-block .if1 .taken)
 
 loop-again : tie.Need-loop-again Inv-loop μ-loop
 loop-again c =
     let after-pass-block = c .before .before .before .before .before .before .before .before .before .before in
-    let after-least = after-pass-block .before .before .before .before .before .before .before .before .before in
-    let then1 = after-least .before in
-    let at-loop = then1 .before .before in (
-      min-le _ _ _ (after-least .least .ensures),
-      λ h. next-even (at-loop .loop .v) _ _ (at-loop .loop .inv .1 (then1 .if1 .taken)) (after-least .least .ensures) h,
+    let at-loop = at-loop after-pass-block in (
+      min-le _ (after-least after-pass-block .least .ensures),
+      λ h. next-even (at-loop .loop .v) _ _ (at-loop .loop .inv .1 (then1 after-pass-block .if1 .taken))
+          (after-least after-pass-block .least .ensures) h,
       after-pass-block .pass-block .kept .1 .1 .1 .1 .1 .0 ∙ at-loop .loop .inv .2,
       after-pass-block .pass-block .kept .1 .1 .1 .1 .1 .1 .0 ∙ at-loop .loop .inv .3,
       length-set (at-loop .loop .soon) _ _ ∙ at-loop .loop .inv .4,
       after-pass-block .pass-block .kept .1 .1 .1 .1 .1 .1 .1 .1 .0 ∙ at-loop .loop .inv .5,
       after-pass-block .pass-block .kept .1 .1 .1 .1 .1 .1 .1 .1 .1 .0 ∙ at-loop .loop .inv .6,
       after-pass-block .pass-block .kept .1 .1 .1 .1 .1 .1 .1 .1 .1 .1 .0 ∙ at-loop .loop .inv .7,
-      λ w s. lower-pass (at-loop .loop .inv .8 w s) (then1 .if1 .taken) (at-loop .loop .inv .1 (then1 .if1 .taken))
-          _ (after-least .least .ensures) _ (after-pass-block .pass-block .ensures w (at-loop .loop .inv .8 w s .stage)),
+      λ w s. lower-pass (at-loop .loop .inv .8 w s) (then1 after-pass-block .if1 .taken)
+          (at-loop .loop .inv .1 (then1 after-pass-block .if1 .taken))
+          _ (after-least after-pass-block .least .ensures) _ (after-pass-block .pass-block .ensures w (at-loop .loop .inv .8 w s .stage)),
     )
 
 loop-less-2 : tie.Need-loop-less-2 Inv-loop μ-loop
 loop-less-2 c =
     let after-least = c .before .before .before in
     let then1 = after-least .before in
-    block-less _ _ _ (after-least .least .ensures) (then1 .if1 .taken)
+    block-less (after-least .least .ensures) (then1 .if1 .taken)
 
 loop-again-2 : tie.Need-loop-again-2 Inv-loop μ-loop
 loop-again-2 c =
     let after-least = c .before .before .before in
     let then1 = after-least .before in
-    let at-loop = then1 .before .before in (
-      min-le _ _ _ (after-least .least .ensures),
+    let at-loop = at-loop-of-then1 then1 in (
+      min-le _ (after-least .least .ensures),
       λ h. next-even (at-loop .loop .v) _ _ (at-loop .loop .inv .1 (then1 .if1 .taken)) (after-least .least .ensures) h,
       at-loop .loop .inv .2,
       at-loop .loop .inv .3,

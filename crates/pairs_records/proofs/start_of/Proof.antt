@@ -13,6 +13,15 @@ Inv-loop pairs count r base₀ size₀ base size = Left pairs count (r .0) base 
 abbrev μ-loop : tie.MeasureT-loop
 μ-loop pairs count r base₀ size₀ base size = size
 
+abbrev in-loop : tie.After-is-below2 Inv-loop μ-loop → tie.In-loop Inv-loop μ-loop
+in-loop c = c .before .before
+
+abbrev at-loop : tie.After-is-below2 Inv-loop μ-loop → tie.At-loop Inv-loop μ-loop
+at-loop c = in-loop c .before
+
+abbrev start : tie.After-is-below2 Inv-loop μ-loop → tie.Start Inv-loop μ-loop
+start c = at-loop c .before .before
+
 loop-holds : tie.Need-loop-holds Inv-loop μ-loop
 loop-holds c = left-all (c .before .args .pairs .now) _ _
 
@@ -28,31 +37,26 @@ is-below-requires-2 c κs =
     omega (arith, c .before .loop-test .taken, at-loop .loop .inv .fits, start .pre .0)
 
 is-below-requires-3 : tie.Need-is-below-requires-3 Inv-loop μ-loop
-is-below-requires-3 c κs =
-    let in-loop = c .before .before in
-    let at-loop = in-loop .before in
-    let start = at-loop .before .before in
-    omega (arith, in-loop .loop-test .taken, at-loop .loop .inv .fits, start .pre .0)
+is-below-requires-3 c κs = omega (arith, in-loop c .loop-test .taken, at-loop c .loop .inv .fits, start c .pre .0)
 
 loop-again : tie.Need-loop-again Inv-loop μ-loop
 loop-again c =
-    let after-is-below = c .before .before in
-    let in-loop = after-is-below .before in
-    let at-loop = in-loop .before in
-    let start = at-loop .before .before in
-    left-turn (start .args .pairs .now) _ _ _ _ (at-loop .loop .inv) (in-loop .loop-test .taken) _ refl
-    _ _ _ (after-is-below .is-below .ensures) (c .before .is-below2 .ensures) (c .is-below3 .ensures)
+    let after-is-below2 = c .before in
+    let after-is-below = after-is-below2 .before in
+    left-turn (start after-is-below2 .args .pairs .now) _ _ _ _ (at-loop after-is-below2 .loop .inv)
+    (in-loop after-is-below2 .loop-test .taken) _ refl
+    _ _ _ (after-is-below .is-below .ensures) (after-is-below2 .is-below2 .ensures) (c .is-below3 .ensures)
 
 -- what the turn adds stays within the records
 mul-base : tie.Need-mul-base Inv-loop μ-loop
 mul-base c =
-    let start = c .before .before .before .before .before .before in
-    omega (arith, loop-again c .fits, start .pre .1)
+    let after-is-below2 = c .before in
+    omega (arith, loop-again c .fits, start after-is-below2 .pre .1)
 
 add-base-3 : tie.Need-add-base-3 Inv-loop μ-loop
 add-base-3 c =
-    let start = c .before .before .before .before .before .before in
-    omega (arith, loop-again c .fits, start .pre .1)
+    let after-is-below2 = c .before in
+    omega (arith, loop-again c .fits, start after-is-below2 .pre .1)
 
 -- the sum of the three tests
 add-base : tie.Need-add-base Inv-loop μ-loop

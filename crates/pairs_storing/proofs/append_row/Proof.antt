@@ -20,43 +20,57 @@ Inv-loop touched n r count ups₀ downs₀ pairs₀ k₀ h₀ ups downs pairs k 
 abbrev μ-loop : tie.MeasureT-loop
 μ-loop touched n r count ups₀ downs₀ pairs₀ k₀ h₀ ups downs pairs k h = n - h
 
+abbrev after-take-time2 : tie.After-is-kept Inv-loop μ-loop → tie.After-take-time2 Inv-loop μ-loop
+after-take-time2 c = c .before .before .before
+
+abbrev after-take-time : tie.After-is-kept Inv-loop μ-loop → tie.After-take-time Inv-loop μ-loop
+after-take-time c = after-take-time2 c .before .before .before .before
+
+abbrev in-loop : tie.After-is-kept Inv-loop μ-loop → tie.In-loop Inv-loop μ-loop
+in-loop c = after-take-time c .before .before .before .before
+
+abbrev at-loop : tie.After-is-kept Inv-loop μ-loop → tie.At-loop Inv-loop μ-loop
+at-loop c = in-loop c .before
+
+abbrev start : tie.After-is-kept Inv-loop μ-loop → tie.Start Inv-loop μ-loop
+start c = at-loop c .before .before .before .before .before .before
+
+abbrev start-of-in-loop : tie.In-loop Inv-loop μ-loop → tie.Start Inv-loop μ-loop
+start-of-in-loop c = c .before .before .before .before .before .before .before
+
 loop-holds : tie.Need-loop-holds Inv-loop μ-loop
 loop-holds c =
     let start = c .before .before .before .before .before in
-    (search needs, lt-next _ _ (start .pre .0), start .pre .5, refl, refl, refl, λ w g. append-start g)
+    (search needs, lt-next (start .pre .0), start .pre .5, refl, refl, refl, λ w g. append-start g)
 
 shared-slice-read-if1 : tie.Need-shared-slice-read-if1 Inv-loop μ-loop
 shared-slice-read-if1 c =
-    let start = c .before .before .before .before .before .before .before .before in
-    omega (arith, start .pre .2, c .before .loop-test .taken)
+    let in-loop = c .before in
+    omega (arith, start-of-in-loop in-loop .pre .2, in-loop .loop-test .taken)
 
 mul-least : tie.Need-mul-least Inv-loop μ-loop
 mul-least c =
-    let in-loop = c .before .before in
-    let start = in-loop .before .before .before .before .before .before .before in
-    let p = start .pre .1 in
-    let q = in-loop .loop-test .taken in
-    search needs
+    let p = (let in-loop = c .before .before in
+    start-of-in-loop in-loop .pre .1) in let q = (let in-loop = c .before .before in
+    in-loop .loop-test .taken) in search needs
 
 add-least : tie.Need-add-least Inv-loop μ-loop
 add-least c =
-    let in-loop = c .before .before in
-    let start = in-loop .before .before .before .before .before .before .before in
-    let p = start .pre .1 in
-    let q = in-loop .loop-test .taken in
-    search needs
+    let p = (let in-loop = c .before .before in
+    start-of-in-loop in-loop .pre .1) in let q = (let in-loop = c .before .before in
+    in-loop .loop-test .taken) in search needs
 
 loop-less : tie.Need-loop-less Inv-loop μ-loop
 loop-less c =
     let in-loop = c .before .before .before in
-    over-less _ _ _ (c .least .ensures) (in-loop .loop-test .taken)
+    over-less (c .least .ensures) (in-loop .loop-test .taken)
 
 loop-again : tie.Need-loop-again Inv-loop μ-loop
 loop-again c =
     let in-loop = c .before .before .before in
     let at-loop = in-loop .before in (
-      over-above _ _ _ _ (c .least .ensures) (at-loop .loop .inv .0) (in-loop .loop-test .taken),
-      min-le _ _ _ (c .least .ensures),
+      over-above (c .least .ensures) (at-loop .loop .inv .0) (in-loop .loop-test .taken),
+      min-le _ (c .least .ensures),
       at-loop .loop .inv .2,
       at-loop .loop .inv .3,
       at-loop .loop .inv .4,
@@ -69,75 +83,65 @@ take-time-requires : tie.Need-take-time-requires Inv-loop μ-loop
 take-time-requires c κs =
     let in-loop = c .before .before .before in
     let at-loop = in-loop .before in
-    let start = at-loop .before .before .before .before .before .before in
-    in-kept _ _ _ _ (in-loop .loop-test .taken) (start .pre .3) (at-loop .loop .inv .4)
+    in-kept (in-loop .loop-test .taken) (start-of-in-loop in-loop .pre .3) (at-loop .loop .inv .4)
 
 take-time-requires-2 : tie.Need-take-time-requires-2 Inv-loop μ-loop
 take-time-requires-2 c κs =
     let in-loop = c .before .before .before .before .before .before .before in
     let at-loop = in-loop .before in
-    let start = at-loop .before .before .before .before .before .before in
-    in-kept _ _ _ _ (in-loop .loop-test .taken) (start .pre .4) (at-loop .loop .inv .5)
+    in-kept (in-loop .loop-test .taken) (start-of-in-loop in-loop .pre .4) (at-loop .loop .inv .5)
 
 same-length : tie.Need-same-length Inv-loop μ-loop
 same-length c =
-    let after-take-time = c .before .before .before .before .before .before .before .before .before .before in
-    let at-loop = after-take-time .before .before .before .before .before in
-    after-take-time .take-time .kept .0 ∙ at-loop .loop .inv .4
+    let after-is-kept = c .before .before .before in
+    after-take-time after-is-kept .take-time .kept .0 ∙ at-loop after-is-kept .loop .inv .4
 
 same-length-2 : tie.Need-same-length-2 Inv-loop μ-loop
 same-length-2 c =
-    let after-take-time2 = c .before .before .before .before .before .before in
-    let at-loop = after-take-time2 .before .before .before .before .before .before .before .before .before in
-    after-take-time2 .take-time2 .kept .0 ∙ at-loop .loop .inv .5
+    let after-is-kept = c .before .before .before in
+    after-take-time2 after-is-kept .take-time2 .kept .0 ∙ at-loop after-is-kept .loop .inv .5
 
 same-length-3 : tie.Need-same-length-3 Inv-loop μ-loop
 same-length-3 c =
-    let else1 = c .before .before .before .before .before .before .before .before .before .before .before .before in
-    let at-loop = else1 .before .before .before in
-    at-loop .loop .inv .3
+    let after-is-kept = c .before .before .before in
+    at-loop after-is-kept .loop .inv .3
 
 returns : tie.Need-returns Inv-loop μ-loop
 returns c =
     let then2 = c .before .before in
     let after-is-kept = then2 .before in
-    let after-take-time2 = after-is-kept .before .before .before in
-    let after-take-time = after-take-time2 .before .before .before .before in
-    let in-loop = after-take-time .before .before .before .before in
-    let at-loop = in-loop .before in
-    let start = at-loop .before .before .before .before .before .before in
-    λ w g. append-full g (at-loop .loop .h) (after-take-time .take-time .result .0) (after-take-time2 .take-time2 .result .0)
+    let at-loop = at-loop after-is-kept in
+    λ w g. append-full g (at-loop .loop .h) (after-take-time after-is-kept .take-time .result .0)
+    (after-take-time2 after-is-kept .take-time2 .result .0)
     (at-loop .loop .k) (at-loop .loop .ups) (at-loop .loop .downs) _ _ (at-loop .loop .pairs) _ (at-loop .loop .inv .0)
-    (in-loop .loop-test .taken) (in-kept _ _ _ _ (in-loop .loop-test .taken) (start .pre .3) (at-loop .loop .inv .4))
-    (in-kept _ _ _ _ (in-loop .loop-test .taken) (start .pre .4) (at-loop .loop .inv .5)) (after-take-time .take-time .ensures .0)
-    (after-take-time .take-time .ensures .1) (after-take-time2 .take-time2 .ensures .0) (after-take-time2 .take-time2 .ensures .1)
+    (in-loop after-is-kept .loop-test .taken) (in-kept (in-loop after-is-kept .loop-test .taken) (start after-is-kept .pre .3)
+    (at-loop .loop .inv .4))
+    (in-kept (in-loop after-is-kept .loop-test .taken) (start after-is-kept .pre .4) (at-loop .loop .inv .5))
+    (after-take-time after-is-kept .take-time .ensures .0)
+    (after-take-time after-is-kept .take-time .ensures .1) (after-take-time2 after-is-kept .take-time2 .ensures .0)
+    (after-take-time2 after-is-kept .take-time2 .ensures .1)
     (after-is-kept .is-kept .ensures) (at-loop .loop .inv .6 w g) (then2 .if2 .taken)
-    (room-out _ _ _ (c .before .words-of .ensures) (c .if3 .taken))
+    (room-out _ (c .before .words-of .ensures) (c .if3 .taken))
 
 put-record-requires : tie.Need-put-record-requires Inv-loop μ-loop
 put-record-requires c κs =
     let after-words-of = c .before .before in
-    room-in _ _ _ (after-words-of .words-of .ensures) (c .before .if3 .left)
+    room-in _ (after-words-of .words-of .ensures) (c .before .if3 .left)
 
 add-k : tie.Need-add-k Inv-loop μ-loop
 add-k c =
-    let after-take-time2 = c .before .before .before .before .before .before .before .before .before .before in
-    let at-loop = after-take-time2 .before .before .before .before .before .before .before .before .before in
-    let start = at-loop .before .before .before .before .before .before in
-    record { fits = count-fits _ _ (at-loop .loop .inv .2) (start .pre .6) }
+    let after-is-kept = c .before .before .before .before .before .before .before in
+    record { fits = count-fits _ (at-loop after-is-kept .loop .inv .2) (start after-is-kept .pre .6) }
 
 add-words-of : tie.Need-add-words-of Inv-loop μ-loop
 add-words-of c =
-    let in-loop = c .before .before .before .before .before .before .before .before .before .before .before .before in
-    let at-loop = in-loop .before in
-    let start = at-loop .before .before .before .before .before .before in
-    record { fits = count-fits _ _ (at-loop .loop .inv .2) (start .pre .6) }
+    let after-is-kept = c .before in
+    record { fits = count-fits _ (at-loop after-is-kept .loop .inv .2) (start after-is-kept .pre .6) }
 
 loop-less-2 : tie.Need-loop-less-2 Inv-loop μ-loop
 loop-less-2 c =
-    let after-take-time2 = c .before .before .before .before .before .before .before .before .before .before in
-    let in-loop = after-take-time2 .before .before .before .before .before .before .before .before in
-    less _ _ (in-loop .loop-test .taken)
+    let after-is-kept = c .before .before .before .before .before .before .before in
+    less (in-loop after-is-kept .loop-test .taken)
 
 loop-again-2 : tie.Need-loop-again-2 Inv-loop μ-loop
 loop-again-2 c =
@@ -146,50 +150,51 @@ loop-again-2 c =
     let after-words-of = else3 .before in
     let then2 = after-words-of .before in
     let after-is-kept = then2 .before in
-    let after-take-time2 = after-is-kept .before .before .before in
-    let after-take-time = after-take-time2 .before .before .before .before in
-    let in-loop = after-take-time .before .before .before .before in
-    let at-loop = in-loop .before in
-    let start = at-loop .before .before .before .before .before .before in (
-      lt-more _ _ (at-loop .loop .inv .0),
-      lt-next _ _ (in-loop .loop-test .taken),
-      room-next _ _ _ (room-in _ _ _ (after-words-of .words-of .ensures) (else3 .if3 .left)) (at-loop .loop .inv .3),
+    let after-take-time2 = after-take-time2 after-is-kept in
+    let after-take-time = after-take-time after-is-kept in
+    let in-loop = in-loop after-is-kept in
+    let at-loop = at-loop after-is-kept in (
+      lt-more (at-loop .loop .inv .0),
+      lt-next (in-loop .loop-test .taken),
+      room-next _ (room-in _ (after-words-of .words-of .ensures) (else3 .if3 .left)) (at-loop .loop .inv .3),
       after-put-record .put-record .kept .0 ∙ at-loop .loop .inv .3,
       after-take-time .take-time .kept .0 ∙ at-loop .loop .inv .4,
       after-take-time2 .take-time2 .kept .0 ∙ at-loop .loop .inv .5,
       λ w g. append-put g (at-loop .loop .h) (after-take-time .take-time .result .0) (after-take-time2 .take-time2 .result .0)
           (at-loop .loop .k) (at-loop .loop .ups) (at-loop .loop .downs) _ _ (at-loop .loop .pairs) _ (at-loop .loop .inv .0)
-          (in-loop .loop-test .taken) (in-kept _ _ _ _ (in-loop .loop-test .taken) (start .pre .3) (at-loop .loop .inv .4))
-          (in-kept _ _ _ _ (in-loop .loop-test .taken) (start .pre .4) (at-loop .loop .inv .5)) (after-take-time .take-time .ensures .0)
+          (in-loop .loop-test .taken) (in-kept (in-loop .loop-test .taken) (start after-is-kept .pre .3) (at-loop .loop .inv .4))
+          (in-kept (in-loop .loop-test .taken) (start after-is-kept .pre .4) (at-loop .loop .inv .5))
+          (after-take-time .take-time .ensures .0)
           (after-take-time .take-time .ensures .1) (after-take-time2 .take-time2 .ensures .0) (after-take-time2 .take-time2 .ensures .1)
           (after-is-kept .is-kept .ensures) (at-loop .loop .inv .6 w g) (then2 .if2 .taken) _ _ (after-put-record .put-record .ensures)
-          (after-put-record .put-record .kept .0) (room-in _ _ _ (after-words-of .words-of .ensures) (else3 .if3 .left)),
+          (after-put-record .put-record .kept .0) (room-in _ (after-words-of .words-of .ensures) (else3 .if3 .left)),
     )
 
 loop-less-3 : tie.Need-loop-less-3 Inv-loop μ-loop
 loop-less-3 c =
-    let in-loop = c .before .before .before .before .before .before .before .before .before .before .before .before in
-    less _ _ (in-loop .loop-test .taken)
+    let after-is-kept = c .before in
+    less (in-loop after-is-kept .loop-test .taken)
 
 loop-again-3 : tie.Need-loop-again-3 Inv-loop μ-loop
 loop-again-3 c =
-    let after-take-time2 = c .before .before .before .before in
-    let after-take-time = after-take-time2 .before .before .before .before in
-    let in-loop = after-take-time .before .before .before .before in
-    let at-loop = in-loop .before in
-    let start = at-loop .before .before .before .before .before .before in (
-      lt-more _ _ (at-loop .loop .inv .0),
-      lt-next _ _ (in-loop .loop-test .taken),
+    let after-is-kept = c .before in
+    let after-take-time2 = after-take-time2 after-is-kept in
+    let after-take-time = after-take-time after-is-kept in
+    let in-loop = in-loop after-is-kept in
+    let at-loop = at-loop after-is-kept in (
+      lt-more (at-loop .loop .inv .0),
+      lt-next (in-loop .loop-test .taken),
       at-loop .loop .inv .2,
       at-loop .loop .inv .3,
       after-take-time .take-time .kept .0 ∙ at-loop .loop .inv .4,
       after-take-time2 .take-time2 .kept .0 ∙ at-loop .loop .inv .5,
       λ w g. append-skip g (at-loop .loop .h) (after-take-time .take-time .result .0) (after-take-time2 .take-time2 .result .0)
           (at-loop .loop .k) (at-loop .loop .ups) (at-loop .loop .downs) _ _ (at-loop .loop .pairs) _ (at-loop .loop .inv .0)
-          (in-loop .loop-test .taken) (in-kept _ _ _ _ (in-loop .loop-test .taken) (start .pre .3) (at-loop .loop .inv .4))
-          (in-kept _ _ _ _ (in-loop .loop-test .taken) (start .pre .4) (at-loop .loop .inv .5)) (after-take-time .take-time .ensures .0)
+          (in-loop .loop-test .taken) (in-kept (in-loop .loop-test .taken) (start after-is-kept .pre .3) (at-loop .loop .inv .4))
+          (in-kept (in-loop .loop-test .taken) (start after-is-kept .pre .4) (at-loop .loop .inv .5))
+          (after-take-time .take-time .ensures .0)
           (after-take-time .take-time .ensures .1) (after-take-time2 .take-time2 .ensures .0) (after-take-time2 .take-time2 .ensures .1)
-          (c .before .is-kept .ensures) (at-loop .loop .inv .6 w g) (c .if2 .left),
+          (after-is-kept .is-kept .ensures) (at-loop .loop .inv .6 w g) (c .if2 .left),
     )
 
 same-length-4 : tie.Need-same-length-4 Inv-loop μ-loop

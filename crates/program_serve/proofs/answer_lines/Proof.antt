@@ -25,24 +25,28 @@ abbrev μ-loop : tie.MeasureT-loop
 μ-loop file ranks pairs live₀ down₀ estimates₀ elapsed₀ route₀ log₀ out₀ chunk₀ line₀ said l₀ live down estimates elapsed route log out
     chunk line l = stepsLeft (l .reader)
 
+abbrev after-text-of : tie.After-turn Inv-loop μ-loop → tie.After-text-of Inv-loop μ-loop
+after-text-of c = c .before .before .before
+
+abbrev start-of-after-turn : tie.After-turn Inv-loop μ-loop → tie.Start Inv-loop μ-loop
+start-of-after-turn c = after-text-of c .before .before .before .before .before .before .before .before .before .before
+
+abbrev in-loop : tie.After-turn2 Inv-loop μ-loop → tie.In-loop Inv-loop μ-loop
+in-loop c =
+    c .before .before .before .before .before .before .before .before .before .before .before .before .before .before .before .before .before .before .before .before .before .before .before .before .before
+
 loop-holds : tie.Need-loop-holds Inv-loop μ-loop
-loop-holds c =
-    let after-text-of = c .before .before .before in
-    let start-here = after-text-of .before .before .before .before .before .before .before .before .before .before in (
-      refl,
-      refl,
-      refl,
-      refl,
-      said-length _ (start-here .args .from .said) (after-text-of .text-of .ensures) (c .turn .ensures),
-      λ from start n. underway-start n,
-    )
+loop-holds c = (
+  refl,
+  refl,
+  refl,
+  refl,
+  said-length _ (start-of-after-turn c .args .from .said) (after-text-of c .text-of .ensures) (c .turn .ensures),
+  λ from start n. underway-start n,
+)
 
 loop-less : tie.Need-loop-less Inv-loop μ-loop
-loop-less c =
-    let after-down = c .before .before .before .before .before .before .before .before .before .before .before .before in
-    let after-line2 = after-down .before .before .before .before .before .before .before .before .before .before .before .before in
-    let in-loop = after-line2 .before in
-    steps-fall (in-loop .loop-test .taken) (c .turn2 .ensures .next)
+loop-less c = steps-fall (in-loop c .loop-test .taken) (c .turn2 .ensures .next)
 
 loop-again : tie.Need-loop-again Inv-loop μ-loop
 loop-again c =
@@ -50,13 +54,11 @@ loop-again c =
     let after-live = after-text-of2 .before .before .before .before .before .before .before .before .before .before .before in
     let after-answer-line = after-live .before in
     let after-heard = after-answer-line .before .before .before .before .before .before .before .before in
-    let in-loop = after-heard .before .before in
-    let at-loop = in-loop .before in
-    let after-first = at-loop .before .before .before .before .before .before .before in
-    let start-here = after-first .before .before .before .before .before .before .before in
+    let at-loop = after-heard .before .before .before in
+    let after-turn = at-loop .before in
     let g = after-answer-line .answer-line in
     let held = at-loop .loop in
-    let args = start-here .args in (
+    let args = start-of-after-turn after-turn .args in (
       g .kept .1 .1 .1 .1 .1 .0 ∙ held .inv .0,
       g .kept .1 .1 .1 .1 .1 .1 .0 ∙ held .inv .1,
       g .kept .1 .1 .1 .1 .1 .1 .1 .0 ∙ held .inv .2,
@@ -68,20 +70,19 @@ loop-again c =
           (g .last .1 .1 .1 .1 .1 .1 .1 .0) (g .last .1 .1 .1 .1 .1 .1 .1 .1 .0)) (lentOf (held .route) (held .log))
           (lentOf (g .last .1 .1 .1 .1 .1 .1 .1 .1 .1 .0) (g .last .1 .1 .1 .1 .1 .1 .1 .1 .1 .1 .0)) (held .out)
           (g .last .1 .1 .1 .1 .1 .1 .1 .1 .1 .1 .1 .0)
-          (after-heard .heard .result .now) (g .result .header) (g .result .length) (held .inv .5 from start n) (in-loop .loop-test .taken)
+          (after-heard .heard .result .now) (g .result .header) (g .result .length) (held .inv .5 from start n)
+          (in-loop c .loop-test .taken)
           (after-heard .heard .ensures) (g .ensures .0) (after-text-of2 .text-of2 .ensures) (c .turn2 .ensures),
     )
 
 returns : tie.Need-returns Inv-loop μ-loop
 returns c =
     let after-turn = c .before .before in
-    let after-text-of = after-turn .before .before .before in
-    let start-here = after-text-of .before .before .before .before .before .before .before .before .before .before in
     let held = c .before .loop in
-    let args = start-here .args in
+    let args = start-of-after-turn after-turn .args in
     loop-end (areasOf (args .ranks .now) (args .pairs .now) (args .live .now) (args .down .now) (args .estimates .now) (args .elapsed .now))
     (lentOf (args .route .now) (args .log .now)) (args .out .now)
-    (after-text-of .text-of .ensures) (after-turn .turn .ensures) (held .inv .5) (c .loop-test .left) (held .inv .4)
+    (after-text-of after-turn .text-of .ensures) (after-turn .turn .ensures) (held .inv .5) (c .loop-test .left) (held .inv .4)
 
 pub answer-lines-spec : {M : Type 1} → statement M
 answer-lines-spec =

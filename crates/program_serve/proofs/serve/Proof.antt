@@ -7,15 +7,18 @@ use Rattle.program_serve.proofs.Cards.{card-runs}
 use Rattle.program_serve.proofs.serve.Statement.{statement}
 use Rattle.program_serve.proofs.serve.Tie as tie
 
+abbrev after-open-card : tie.After-answer-lines → tie.After-open-card
+after-open-card c =
+    c .before .before .before .before .before .before .before .before .before .before .before .before .before .before .before .before .before .before .before .before .before
+
 returns : tie.Need-returns
 returns c =
     let after-answer-lines = c .before .before .before .before .before .before .before .before in
     let after-begin = after-answer-lines .before .before .before .before .before .before .before .before .before .before in
-    let after-open-card = after-begin .before .before .before .before .before .before .before .before .before .before .before in
-    let after-slice-known2 = after-open-card .before .before .before .before .before .before .before .before .before .before .before in
+    let after-slice-known2 = after-begin .before .before .before .before .before .before .before .before .before .before .before .before .before .before .before .before .before .before .before .before .before .before in
     let start = after-slice-known2 .before .before .before in
     let w = after-answer-lines .answer-lines in
-    let o = after-open-card .open-card in
+    let o = after-open-card after-answer-lines .open-card in
     let args = start .args in
     λ lends.
     card-runs (args .file .now) (areasOf (args .ranks .now) (args .pairs .now) (args .live .now) (args .down .now) (args .estimates .now)
@@ -37,27 +40,18 @@ serve-spec =
     (λ c κs. tt)
     (λ c.
     let after-answer-lines = c .before .before .before .before .before .before .before .before in
-    let after-begin = after-answer-lines .before .before .before .before .before .before .before .before .before .before in
-    let after-open-card = after-begin .before .before .before .before .before .before .before .before .before .before .before in
-    after-open-card .open-card .kept .1 .0)
+    after-open-card after-answer-lines .open-card .kept .1 .0)
     (λ c.
     let after-answer-lines = c .before .before .before .before .before .before .before .before in
-    let after-begin = after-answer-lines .before .before .before .before .before .before .before .before .before .before in
-    let after-open-card = after-begin .before .before .before .before .before .before .before .before .before .before .before in
-    after-answer-lines .answer-lines .kept .1 .1 .1 .1 .0 ∙ after-open-card .open-card .kept .1 .1 .1 .0)
+    after-answer-lines .answer-lines .kept .1 .1 .1 .1 .0 ∙ after-open-card after-answer-lines .open-card .kept .1 .1 .1 .0)
     (λ c.
     let after-answer-lines = c .before .before .before .before .before .before .before .before in
-    let after-begin = after-answer-lines .before .before .before .before .before .before .before .before .before .before in
-    let after-open-card = after-begin .before .before .before .before .before .before .before .before .before .before .before in
-    after-answer-lines .answer-lines .kept .1 .1 .1 .1 .1 .0 ∙ after-open-card .open-card .kept .1 .1 .1 .1 .0)
+    after-answer-lines .answer-lines .kept .1 .1 .1 .1 .1 .0 ∙ after-open-card after-answer-lines .open-card .kept .1 .1 .1 .1 .0)
     (λ c.
     let after-answer-lines = c .before .before .before .before .before .before .before .before in
-    let after-begin = after-answer-lines .before .before .before .before .before .before .before .before .before .before in
-    let after-open-card = after-begin .before .before .before .before .before .before .before .before .before .before .before in
-    after-answer-lines .answer-lines .kept .1 .1 .1 .1 .1 .1 .0 ∙ after-open-card .open-card .kept .1 .1 .1 .1 .1 .0)
+    after-answer-lines .answer-lines .kept .1 .1 .1 .1 .1 .1 .0 ∙ after-open-card after-answer-lines .open-card .kept .1 .1 .1 .1 .1 .0)
     (λ c.
     let after-answer-lines = c .before .before .before .before .before .before .before .before in
-    let after-begin = after-answer-lines .before .before .before .before .before .before .before .before .before .before in
-    let after-open-card = after-begin .before .before .before .before .before .before .before .before .before .before .before in
-    after-answer-lines .answer-lines .kept .1 .1 .1 .1 .1 .1 .1 .0 ∙ after-open-card .open-card .kept .1 .1 .1 .1 .1 .1 .0)
+    after-answer-lines .answer-lines .kept .1 .1 .1 .1 .1 .1 .1 .0
+    ∙ after-open-card after-answer-lines .open-card .kept .1 .1 .1 .1 .1 .1 .0)
     returns)

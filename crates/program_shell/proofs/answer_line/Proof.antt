@@ -13,6 +13,9 @@ use borrow.Author.Needs.{needs}
 use Rattle.program_shell.proofs.answer_line.Statement.{statement}
 use Rattle.program_shell.proofs.answer_line.Tie as tie
 
+abbrev after-call : tie.After-write-answer → tie.After-call
+after-call c = c .before .before .before .before .before .before .before .before .before .before .before .before .before
+
 returns : tie.Need-returns
 returns c =
     let after-enum-told = c .before .before in
@@ -31,15 +34,14 @@ returns c =
 returns-2 : tie.Need-returns-2
 returns-2 c =
     let after-live = c .before .before .before .before .before .before .before .before .before .before .before .before in
-    let after-call = after-live .before in
-    let after-call-arg7 = after-call .before in
+    let after-call-arg7 = after-live .before .before in
     let after-call-arg6 = after-call-arg7 .before in
     let after-c = after-call-arg6 .before .before .before .before .before .before .before in
     let after-read-line = after-c .before .before in
     let start = after-read-line .before .before .before .before .before .before .before .before in
     let a = start .args in
     let line = after-read-line .read-line in
-    let g = after-call .call in
+    let g = after-call c .call in
     let w = c .write-answer in
     let entry = areasOf (a .ranks .now) (a .pairs .now) (a .live .now) (a .down .now) (a .estimates .now) (a .elapsed .now) in
     let exit = areasOf (a .ranks .now) (a .pairs .now) (g .last .1 .1 .1 .1 .0) (g .last .1 .1 .1 .1 .1 .0) (g .last .1 .1 .1 .1 .1 .1 .0)
@@ -68,20 +70,8 @@ answer-line-spec =
     (λ c κs. tt)
     (λ c κs. tt)
     returns
-    (λ c.
-    let after-live = c .before .before .before .before .before .before .before .before .before .before .before .before in
-    let after-call = after-live .before in
-    after-call .call .kept .1 .1 .1 .1 .0)
-    (λ c.
-    let after-live = c .before .before .before .before .before .before .before .before .before .before .before .before in
-    let after-call = after-live .before in
-    after-call .call .kept .1 .1 .1 .1 .1 .0)
-    (λ c.
-    let after-live = c .before .before .before .before .before .before .before .before .before .before .before .before in
-    let after-call = after-live .before in
-    after-call .call .kept .1 .1 .1 .1 .1 .1 .0)
-    (λ c.
-    let after-live = c .before .before .before .before .before .before .before .before .before .before .before .before in
-    let after-call = after-live .before in
-    after-call .call .kept .1 .1 .1 .1 .1 .1 .1 .0)
+    (λ c. after-call c .call .kept .1 .1 .1 .1 .0)
+    (λ c. after-call c .call .kept .1 .1 .1 .1 .1 .0)
+    (λ c. after-call c .call .kept .1 .1 .1 .1 .1 .1 .0)
+    (λ c. after-call c .call .kept .1 .1 .1 .1 .1 .1 .1 .0)
     returns-2)

@@ -9,12 +9,16 @@ use Rattle.program_shell.proofs.Bounds.{room}
 use Rattle.program_shell.proofs.open_card.Statement.{statement}
 use Rattle.program_shell.proofs.open_card.Tie as tie
 
+abbrev after-prepare : tie.After-judge → tie.After-prepare
+after-prepare c = c .before .before .before .before .before .before .before .before .before .before .before .before
+
+abbrev start : tie.After-prepare → tie.Start
+start c = c .before .before .before .before .before .before .before .before .before .before .before .before .before
+
 returns : tie.Need-returns
 returns c =
-    let after-prepare = c .before .before .before .before .before .before .before .before .before .before .before .before in
-    let after-slice-known = after-prepare .before .before .before .before .before .before .before .before .before .before .before in
-    let start = after-slice-known .before .before in
-    let a = start .args in
+    let after-prepare = after-prepare c in
+    let a = start after-prepare .args in
     let p = after-prepare .prepare in
     let j = c .judge in
     let lent = areasOf (a .ranks .now) (a .pairs .now) (a .live .now) (a .down .now) (a .estimates .now) (a .elapsed .now) in
@@ -30,22 +34,10 @@ open-card-spec =
     (λ c κs. tt)
     (λ c κs.
     let after-prepare = c .before .before .before .before .before .before .before .before .before .before .before in
-    let after-slice-known = after-prepare .before .before .before .before .before .before .before .before .before .before .before in
-    let start = after-slice-known .before .before in
-    room outRoom (start .args .out .now) (c .judge-arg .given .0 .1))
-    (λ c.
-    let after-prepare = c .before .before .before .before .before .before .before .before .before .before .before .before in
-    after-prepare .prepare .kept .1 .0)
-    (λ c.
-    let after-prepare = c .before .before .before .before .before .before .before .before .before .before .before .before in
-    after-prepare .prepare .kept .1 .1 .1 .0)
-    (λ c.
-    let after-prepare = c .before .before .before .before .before .before .before .before .before .before .before .before in
-    after-prepare .prepare .kept .1 .1 .1 .1 .0)
-    (λ c.
-    let after-prepare = c .before .before .before .before .before .before .before .before .before .before .before .before in
-    after-prepare .prepare .kept .1 .1 .1 .1 .1 .0)
-    (λ c.
-    let after-prepare = c .before .before .before .before .before .before .before .before .before .before .before .before in
-    after-prepare .prepare .kept .1 .1 .1 .1 .1 .1 .0)
+    room outRoom (start after-prepare .args .out .now) (c .judge-arg .given .0 .1))
+    (λ c. after-prepare c .prepare .kept .1 .0)
+    (λ c. after-prepare c .prepare .kept .1 .1 .1 .0)
+    (λ c. after-prepare c .prepare .kept .1 .1 .1 .1 .0)
+    (λ c. after-prepare c .prepare .kept .1 .1 .1 .1 .1 .0)
+    (λ c. after-prepare c .prepare .kept .1 .1 .1 .1 .1 .1 .0)
     returns)

@@ -7,6 +7,24 @@ use Rattle.search_junctions.proofs.Heads.{head-closed, head-far, head-k
 use Rattle.search_junctions.proofs.ask_head.Statement.{statement}
 use Rattle.search_junctions.proofs.ask_head.Tie as tie
 
+abbrev else2 : tie.After-is-unasked → tie.Else2
+else2 c = c .before .before .before .before
+
+abbrev after-head-of : tie.After-is-unasked → tie.After-head-of
+after-head-of c = else2 c .before .before .before
+
+abbrev else1 : tie.After-is-unasked → tie.Else1
+else1 c = after-head-of c .before
+
+abbrev after-is-closed : tie.After-is-unasked → tie.After-is-closed
+after-is-closed c = else1 c .before
+
+abbrev after-cost-of : tie.After-is-unasked → tie.After-cost-of
+after-cost-of c = after-is-closed c .before
+
+abbrev start : tie.After-is-unasked → tie.Start
+start c = after-cost-of c .before .before .before .before .before .before .before .before
+
 cost-of-requires : tie.Need-cost-of-requires
 cost-of-requires c κs =
     let start = c .before .before .before .before .before .before .before in
@@ -30,24 +48,21 @@ returns-2 c =
 
 returns-3 : tie.Need-returns-3
 returns-3 c =
-    let after-of-word = c .before .before in
-    let else2 = after-of-word .before .before .before in
-    let after-head-of = else2 .before .before .before in
-    let else1 = after-head-of .before in
-    let after-is-closed = else1 .before in
-    let after-cost-of = after-is-closed .before in
-    let start = after-cost-of .before .before .before .before .before .before .before .before in
-    head-known _ _ (start .pre .0) _ (after-cost-of .cost-of .ensures) _ (after-head-of .head-of .ensures) _
-    (sym (after-is-closed .is-closed .ensures) ∙ else1 .if1 .left) (omega (arith, else2 .if2 .left))
-    (known-word (after-of-word .of-word .ensures) (c .before .is-unasked .ensures) (c .if3 .taken))
+    let after-is-unasked = c .before in
+    let after-of-word = after-is-unasked .before in
+    head-known _ _ (start after-is-unasked .pre .0) _ (after-cost-of after-is-unasked .cost-of .ensures)
+    _ (after-head-of after-is-unasked .head-of .ensures) _
+    (sym (after-is-closed after-is-unasked .is-closed .ensures) ∙ else1 after-is-unasked .if1 .left) (omega (
+      arith,
+      else2 after-is-unasked .if2 .left,
+    ))
+    (known-word (after-of-word .of-word .ensures) (after-is-unasked .is-unasked .ensures) (c .if3 .taken))
 
 estimate-requires : tie.Need-estimate-requires
 estimate-requires c κs =
-    let else2 = c .before .before .before .before .before .before in
-    let after-cost-of = else2 .before .before .before .before .before .before in
-    let start = after-cost-of .before .before .before .before .before .before .before .before in
-    let lent = start .pre .1 in (
-      omega (arith, else2 .if2 .left),
+    let after-is-unasked = c .before .before in
+    let lent = start after-is-unasked .pre .1 in (
+      omega (arith, else2 after-is-unasked .if2 .left),
       lent .over .n-high,
       lent .over .order-is,
       lent .over .ranks-are,
@@ -60,14 +75,13 @@ estimate-requires c κs =
 returns-4 : tie.Need-returns-4
 returns-4 c =
     let after-estimate = c .before .before in
-    let else2 = after-estimate .before .before .before .before .before .before .before in
-    let after-head-of = else2 .before .before .before in
-    let else1 = after-head-of .before in
-    let after-is-closed = else1 .before in
-    let after-cost-of = after-is-closed .before in
-    let start = after-cost-of .before .before .before .before .before .before .before .before in
-    head-open _ _ (start .pre .0) _ (after-cost-of .cost-of .ensures) _ (after-head-of .head-of .ensures) _ _ _
-    (sym (after-is-closed .is-closed .ensures) ∙ else1 .if1 .left) (omega (arith, else2 .if2 .left)) (after-estimate .estimate .ensures)
+    let after-is-unasked = after-estimate .before .before .before in
+    head-open _ _ (start after-is-unasked .pre .0) _ (after-cost-of after-is-unasked .cost-of .ensures)
+    _ (after-head-of after-is-unasked .head-of .ensures) _ _ _
+    (sym (after-is-closed after-is-unasked .is-closed .ensures) ∙ else1 after-is-unasked .if1 .left) (omega (
+      arith,
+      else2 after-is-unasked .if2 .left,
+    )) (after-estimate .estimate .ensures)
 
 pub ask-head-spec : {M : Type 1} → statement M
 ask-head-spec =

@@ -14,6 +14,12 @@ Inv-loop roads n m rows₀ i₀ rows i = Linking roads n m i rows₀ rows
 abbrev μ-loop : tie.MeasureT-loop
 μ-loop roads n m rows₀ i₀ rows i = i
 
+abbrev at-loop : tie.Then1 Inv-loop μ-loop → tie.At-loop Inv-loop μ-loop
+at-loop c = c .before .before .before
+
+abbrev start : tie.Then1 Inv-loop μ-loop → tie.Start Inv-loop μ-loop
+start c = at-loop c .before .before .before .before .before .before .before
+
 loop-holds : tie.Need-loop-holds Inv-loop μ-loop
 loop-holds c =
     let after-clear-rows = c .before .before in
@@ -21,33 +27,29 @@ loop-holds c =
 
 slice-read-rows : tie.Need-slice-read-rows Inv-loop μ-loop
 slice-read-rows c =
-    let at-loop = c .before .before .before .before in
-    let start = at-loop .before .before .before .before .before .before .before in
-    omega (arith, start .pre .1, at-loop .loop .inv .long, c .before .if1 .taken)
+    let then1 = c .before in
+    omega (arith, start then1 .pre .1, at-loop then1 .loop .inv .long, then1 .if1 .taken)
 
 slice-write-rows-2 : tie.Need-slice-write-rows-2 Inv-loop μ-loop
 slice-write-rows-2 c =
-    let at-loop = c .before .before .before .before in
-    let start = at-loop .before .before .before .before .before .before .before in
-    simp length-set (omega (arith, start .pre .1, at-loop .loop .inv .long, c .before .if1 .taken))
+    let then1 = c .before in
+    simp length-set (omega (arith, start then1 .pre .1, at-loop then1 .loop .inv .long, then1 .if1 .taken))
 
 slice-write-rows : tie.Need-slice-write-rows Inv-loop μ-loop
 slice-write-rows c =
-    let at-loop = c .before .before .before .before in
-    let start = at-loop .before .before .before .before .before .before .before in
-    omega (arith, start .pre .1, at-loop .loop .inv .long, at-loop .loop .inv .low)
+    let then1 = c .before in
+    omega (arith, start then1 .pre .1, at-loop then1 .loop .inv .long, at-loop then1 .loop .inv .low)
 
 loop-again : tie.Need-loop-again Inv-loop μ-loop
 loop-again c =
-    let after-tail-of = c .before .before in
-    let at-loop = after-tail-of .before .before in
-    let start = at-loop .before .before .before .before .before .before .before in
+    let then1 = c .before in
+    let after-tail-of = then1 .before in
     record {
       low = search needs;
       long = simp length-set (search needs);
       linked =
-          linked-turn _ _ _ (at-loop .loop .i) _ _ _ (omega arith) (omega arith) (after-tail-of .tail-of .ensures)
-          (at-loop .loop .inv .linked) (c .before .if1 .taken) (omega (arith, start .pre .1, at-loop .loop .inv .long));
+          linked-turn _ _ _ (at-loop then1 .loop .i) _ _ _ (omega arith) (omega arith) (after-tail-of .tail-of .ensures)
+          (at-loop then1 .loop .inv .linked) (then1 .if1 .taken) (omega (arith, start then1 .pre .1, at-loop then1 .loop .inv .long));
     }
 
 loop-again-2 : tie.Need-loop-again-2 Inv-loop μ-loop

@@ -7,19 +7,23 @@ use Rattle.search_junctions.proofs.Roads.{road-closed, road-far, road-o
 use Rattle.search_junctions.proofs.relax_road.Statement.{statement}
 use Rattle.search_junctions.proofs.relax_road.Tie as tie
 
+abbrev start : tie.After-is-closed → tie.Start
+start c = c .before .before .before .before .before .before .before .before .before
+
 returns : tie.Need-returns
 returns c =
-    let after-cost-of = c .before .before in
-    let start = after-cost-of .before .before .before .before .before .before .before .before in
-    road-closed _ _ _ (start .pre .0) _ (after-cost-of .cost-of .ensures) _ (start .pre .2)
-    (sym (c .before .is-closed .ensures) ∙ c .if1 .taken)
+    let after-is-closed = c .before in
+    let after-cost-of = after-is-closed .before in
+    road-closed _ _ _ (start after-is-closed .pre .0) _ (after-cost-of .cost-of .ensures) _ (start after-is-closed .pre .2)
+    (sym (after-is-closed .is-closed .ensures) ∙ c .if1 .taken)
 
 returns-2 : tie.Need-returns-2
 returns-2 c =
     let after-head-of = c .before .before .before in
-    let after-cost-of = after-head-of .before .before .before in
-    let start = after-cost-of .before .before .before .before .before .before .before .before in
-    road-far _ _ _ (start .pre .0) _ (after-cost-of .cost-of .ensures) _ (after-head-of .head-of .ensures) _ (start .pre .2) (c .if2 .taken)
+    let after-is-closed = after-head-of .before .before in
+    let after-cost-of = after-is-closed .before in
+    road-far _ _ _ (start after-is-closed .pre .0) _ (after-cost-of .cost-of .ensures) _ (after-head-of .head-of .ensures)
+    _ (start after-is-closed .pre .2) (c .if2 .taken)
 
 returns-3 : tie.Need-returns-3
 returns-3 c =
@@ -31,8 +35,8 @@ returns-3 c =
     let else1 = after-head-of .before in
     let after-is-closed = else1 .before in
     let after-cost-of = after-is-closed .before in
-    let start = after-cost-of .before .before .before .before .before .before .before .before in
-    road-open _ _ _ (start .pre .0) _ (after-cost-of .cost-of .ensures) _ (after-head-of .head-of .ensures) _ _ _ _ (start .pre .2)
+    road-open _ _ _ (start after-is-closed .pre .0) _ (after-cost-of .cost-of .ensures) _ (after-head-of .head-of .ensures)
+    _ _ _ _ (start after-is-closed .pre .2)
     (sym (after-is-closed .is-closed .ensures) ∙ else1 .if1 .left) (omega (arith, else2 .if2 .left)) (after-of-word .of-word .ensures)
     (after-or-sum .or-sum .ensures) (after-take .take .ensures)
 

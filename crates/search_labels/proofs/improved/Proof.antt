@@ -9,6 +9,15 @@ use borrow.Author.Needs.{needs}
 use Rattle.search_labels.proofs.improved.Statement.{statement}
 use Rattle.search_labels.proofs.improved.Tie as tie
 
+abbrev else2 : tie.After-word2 → tie.Else2
+else2 c = c .before .before .before
+
+abbrev else1 : tie.After-word2 → tie.Else1
+else1 c = else2 c .before
+
+abbrev after-is-none : tie.After-word2 → tie.After-is-none
+after-is-none c = else1 c .before
+
 returns : tie.Need-returns
 returns c = lost (eqb-true _ _ (sym (c .before .is-none .ensures) ∙ c .if1 .taken))
 
@@ -17,32 +26,28 @@ returns-2 c = settled (c .if2 .taken)
 
 returns-3 : tie.Need-returns-3
 returns-3 c =
-    let else2 = c .before .before .before .before .before in
-    let else1 = else2 .before in
-    let after-is-none = else1 .before in
-    takes-over _ _ _ _ _ _ _ (c .key-of .ensures) (eqb-false _ _ (sym (after-is-none .is-none .ensures) ∙ else1 .if1 .left))
-    (else2 .if2 .left) (omega arith)
+    let after-word2 = c .before .before in
+    takes-over _ _ _ _ _ _ _ (c .key-of .ensures) (eqb-false
+    _ _ (sym (after-is-none after-word2 .is-none .ensures) ∙ else1 after-word2 .if1 .left))
+    (else2 after-word2 .if2 .left) (omega arith)
 
 returns-4 : tie.Need-returns-4
 returns-4 c =
-    let else2 = c .before .before .before .before .before in
-    let else1 = else2 .before in
-    let after-is-none = else1 .before in
-    later (eqb-false _ _ (sym (after-is-none .is-none .ensures) ∙ else1 .if1 .left)) (else2 .if2 .left) (omega arith)
+    let after-word2 = c .before .before in
+    later (eqb-false _ _ (sym (after-is-none after-word2 .is-none .ensures) ∙ else1 after-word2 .if1 .left)) (else2 after-word2 .if2 .left)
+    (omega arith)
 
 returns-5 : tie.Need-returns-5
 returns-5 c =
-    let else2 = c .before .before .before .before .before .before .before in
-    let else1 = else2 .before in
-    let after-is-none = else1 .before in
-    tied (eqb-false _ _ (sym (after-is-none .is-none .ensures) ∙ else1 .if1 .left)) (else2 .if2 .left) (omega arith) (c .if5 .taken)
+    let after-word2 = c .before .before .before .before in
+    tied (eqb-false _ _ (sym (after-is-none after-word2 .is-none .ensures) ∙ else1 after-word2 .if1 .left)) (else2 after-word2 .if2 .left)
+    (omega arith) (c .if5 .taken)
 
 returns-6 : tie.Need-returns-6
 returns-6 c =
-    let else2 = c .before .before .before .before .before .before .before in
-    let else1 = else2 .before in
-    let after-is-none = else1 .before in
-    behind (eqb-false _ _ (sym (after-is-none .is-none .ensures) ∙ else1 .if1 .left)) (else2 .if2 .left) (omega arith) (c .if5 .left)
+    let after-word2 = c .before .before .before .before in
+    behind (eqb-false _ _ (sym (after-is-none after-word2 .is-none .ensures) ∙ else1 after-word2 .if1 .left)) (else2 after-word2 .if2 .left)
+    (omega arith) (c .if5 .left)
 
 pub improved-spec : {M : Type 1} → statement M
 improved-spec =

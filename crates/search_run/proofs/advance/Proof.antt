@@ -29,6 +29,33 @@ abbrev μ-loop : tie.MeasureT-loop
 μ-loop trip budget roads order ranks pairs live down estimates₀ elapsed₀ vias₀ log₀ n m times₀ keys₀ tree₀ rows most c₀ v₀ estimates elapsed
     vias log times keys tree c v = most - c
 
+abbrev after-smaller : tie.At-loop Inv-loop μ-loop → tie.After-smaller Inv-loop μ-loop
+after-smaller c = c .before .before .before
+
+abbrev after-fill : tie.At-loop Inv-loop μ-loop → tie.After-fill Inv-loop μ-loop
+after-fill c = after-smaller c .before .before .before
+
+abbrev after-begin : tie.At-loop Inv-loop μ-loop → tie.After-begin Inv-loop μ-loop
+after-begin c = after-fill c .before .before .before .before .before .before .before
+
+abbrev after-ask-start : tie.At-loop Inv-loop μ-loop → tie.After-ask-start Inv-loop μ-loop
+after-ask-start c = after-begin c .before .before .before .before .before .before .before
+
+abbrev after-group : tie.At-loop Inv-loop μ-loop → tie.After-group Inv-loop μ-loop
+after-group c = after-ask-start c .before .before .before
+
+abbrev start : tie.At-loop Inv-loop μ-loop → tie.Start Inv-loop μ-loop
+start c = after-group c .before .before .before .before .before .before .before .before .before .before .before .before
+
+abbrev after-put : tie.After-ask Inv-loop μ-loop → tie.After-put Inv-loop μ-loop
+after-put c = c .before .before .before .before .before .before .before
+
+abbrev in-loop : tie.After-ask Inv-loop μ-loop → tie.In-loop Inv-loop μ-loop
+in-loop c = after-put c .before .before .before
+
+abbrev at-loop : tie.After-ask Inv-loop μ-loop → tie.At-loop Inv-loop μ-loop
+at-loop c = in-loop c .before
+
 group-requires : tie.Need-group-requires Inv-loop μ-loop
 group-requires c κs =
     let z = (let start = c .before .before .before .before .before .before .before .before .before .before .before in
@@ -39,14 +66,14 @@ group-requires c κs =
 
 ask-start-requires : tie.Need-ask-start-requires Inv-loop μ-loop
 ask-start-requires c κs =
-    let after-rows = c .before .before .before in
-    let start = after-rows .before .before .before .before .before .before .before .before .before .before .before in
+    let after-group = c .before .before in
+    let start = after-group .before .before .before .before .before .before .before .before .before .before .before .before in
     (start .pre .0, pairs-in (start .pre .4) refl)
 
 begin-requires : tie.Need-begin-requires Inv-loop μ-loop
 begin-requires c κs =
-    let after-rows = c .before .before .before .before .before .before .before .before .before .before in
-    let start = after-rows .before .before .before .before .before .before .before .before .before .before .before in
+    let after-group = c .before .before .before .before .before .before .before .before .before in
+    let start = after-group .before .before .before .before .before .before .before .before .before .before .before .before in
     (start .pre .0, room-blank (start .pre .4 .n-high) (start .pre .2))
 
 choose-requires : tie.Need-choose-requires Inv-loop μ-loop
@@ -57,80 +84,60 @@ choose-requires c κs =
 loop-holds : tie.Need-loop-holds Inv-loop μ-loop
 loop-holds c =
     let after-begin = c .before .before .before .before .before .before .before .before .before .before .before .before in
-    let after-rows = after-begin .before .before .before .before .before .before .before .before .before .before .before in
-    let start = after-rows .before .before .before .before .before .before .before .before .before .before .before in
+    let after-group = after-begin .before .before .before .before .before .before .before .before .before .before in
+    let start = after-group .before .before .before .before .before .before .before .before .before .before .before .before in
     let room = after-begin .begin .ensures .room in
     running-start _ _ _ _ (first-inside room (omega (arith, start .pre .0)) (c .choose .ensures)) room
 
 slice-write-log : tie.Need-slice-write-log Inv-loop μ-loop
 slice-write-log c =
     let at-loop = c .before in
-    let after-smaller = at-loop .before .before .before in
-    let after-tree = after-smaller .before .before .before .before .before .before .before .before .before .before .before in
-    let after-rows = after-tree .before .before .before .before .before .before .before .before .before .before in
-    let start = after-rows .before .before .before .before .before .before .before .before .before .before .before in
     omega (
       arith,
-      turn-taken (at-loop .loop .v) (start .args .trip .sizes .n) (at-loop .loop .c) (after-smaller .smaller .result)
+      turn-taken (at-loop .loop .v) (start at-loop .args .trip .sizes .n) (at-loop .loop .c) (after-smaller at-loop .smaller .result)
           (c .loop-test .taken) .1,
       at-loop .loop .inv .log-long,
-      after-smaller .smaller .ensures,
-      start .pre .3,
+      after-smaller at-loop .smaller .ensures,
+      start at-loop .pre .3,
     )
 
 add-c : tie.Need-add-c Inv-loop μ-loop
 add-c c =
     let at-loop = c .before in
-    let after-smaller = at-loop .before .before .before in
-    let after-tree = after-smaller .before .before .before .before .before .before .before .before .before .before .before in
-    let after-rows = after-tree .before .before .before .before .before .before .before .before .before .before in
-    let start = after-rows .before .before .before .before .before .before .before .before .before .before .before in
     omega (
       arith,
-      turn-taken (at-loop .loop .v) (start .args .trip .sizes .n) (at-loop .loop .c) (after-smaller .smaller .result)
+      turn-taken (at-loop .loop .v) (start at-loop .args .trip .sizes .n) (at-loop .loop .c) (after-smaller at-loop .smaller .result)
           (c .loop-test .taken) .1,
-      after-smaller .smaller .ensures,
-      start .pre .4 .n-high,
+      after-smaller at-loop .smaller .ensures,
+      start at-loop .pre .4 .n-high,
     )
 
 cast-elapsed : tie.Need-cast-elapsed Inv-loop μ-loop
 cast-elapsed c =
     let at-loop = c .before in
-    let after-smaller = at-loop .before .before .before in
-    let after-tree = after-smaller .before .before .before .before .before .before .before .before .before .before .before in
-    let after-rows = after-tree .before .before .before .before .before .before .before .before .before .before in
-    let start = after-rows .before .before .before .before .before .before .before .before .before .before .before in
     omega (
       arith,
-      turn-taken (at-loop .loop .v) (start .args .trip .sizes .n) (at-loop .loop .c) (after-smaller .smaller .result)
+      turn-taken (at-loop .loop .v) (start at-loop .args .trip .sizes .n) (at-loop .loop .c) (after-smaller at-loop .smaller .result)
           (c .loop-test .taken) .0,
-      start .pre .4 .n-high,
+      start at-loop .pre .4 .n-high,
     )
 
 mul-elapsed : tie.Need-mul-elapsed Inv-loop μ-loop
 mul-elapsed c =
     let at-loop = c .before in
-    let after-smaller = at-loop .before .before .before in
-    let after-tree = after-smaller .before .before .before .before .before .before .before .before .before .before .before in
-    let after-rows = after-tree .before .before .before .before .before .before .before .before .before .before in
-    let start = after-rows .before .before .before .before .before .before .before .before .before .before .before in
     omega (
       arith,
-      turn-taken (at-loop .loop .v) (start .args .trip .sizes .n) (at-loop .loop .c) (after-smaller .smaller .result)
+      turn-taken (at-loop .loop .v) (start at-loop .args .trip .sizes .n) (at-loop .loop .c) (after-smaller at-loop .smaller .result)
           (c .loop-test .taken) .0,
-      start .pre .4 .n-high,
+      start at-loop .pre .4 .n-high,
     )
 
 array-read-elapsed : tie.Need-array-read-elapsed Inv-loop μ-loop
 array-read-elapsed c =
     let at-loop = c .before in
-    let after-smaller = at-loop .before .before .before in
-    let after-tree = after-smaller .before .before .before .before .before .before .before .before .before .before .before in
-    let after-rows = after-tree .before .before .before .before .before .before .before .before .before .before in
-    let start = after-rows .before .before .before .before .before .before .before .before .before .before .before in
     omega (
       arith,
-      turn-taken (at-loop .loop .v) (start .args .trip .sizes .n) (at-loop .loop .c) (after-smaller .smaller .result)
+      turn-taken (at-loop .loop .v) (start at-loop .args .trip .sizes .n) (at-loop .loop .c) (after-smaller at-loop .smaller .result)
           (c .loop-test .taken) .0,
       at-loop .loop .inv .room .times-room,
     )
@@ -138,58 +145,41 @@ array-read-elapsed c =
 cast-elapsed-2 : tie.Need-cast-elapsed-2 Inv-loop μ-loop
 cast-elapsed-2 c =
     let at-loop = c .before in
-    let after-smaller = at-loop .before .before .before in
-    let after-tree = after-smaller .before .before .before .before .before .before .before .before .before .before .before in
-    let after-rows = after-tree .before .before .before .before .before .before .before .before .before .before in
-    let start = after-rows .before .before .before .before .before .before .before .before .before .before .before in
     omega (
       arith,
-      turn-taken (at-loop .loop .v) (start .args .trip .sizes .n) (at-loop .loop .c) (after-smaller .smaller .result)
+      turn-taken (at-loop .loop .v) (start at-loop .args .trip .sizes .n) (at-loop .loop .c) (after-smaller at-loop .smaller .result)
           (c .loop-test .taken) .0,
-      start .pre .4 .n-high,
+      start at-loop .pre .4 .n-high,
     )
 
 mul-elapsed-2 : tie.Need-mul-elapsed-2 Inv-loop μ-loop
 mul-elapsed-2 c =
     let at-loop = c .before in
-    let after-smaller = at-loop .before .before .before in
-    let after-tree = after-smaller .before .before .before .before .before .before .before .before .before .before .before in
-    let after-rows = after-tree .before .before .before .before .before .before .before .before .before .before in
-    let start = after-rows .before .before .before .before .before .before .before .before .before .before .before in
     omega (
       arith,
-      turn-taken (at-loop .loop .v) (start .args .trip .sizes .n) (at-loop .loop .c) (after-smaller .smaller .result)
+      turn-taken (at-loop .loop .v) (start at-loop .args .trip .sizes .n) (at-loop .loop .c) (after-smaller at-loop .smaller .result)
           (c .loop-test .taken) .0,
-      start .pre .4 .n-high,
+      start at-loop .pre .4 .n-high,
     )
 
 slice-write-elapsed : tie.Need-slice-write-elapsed Inv-loop μ-loop
 slice-write-elapsed c =
     let at-loop = c .before in
-    let after-smaller = at-loop .before .before .before in
-    let after-fill = after-smaller .before .before .before in
-    let after-times = after-fill .before .before .before .before .before .before .before .before .before .before .before in
-    let after-rows = after-times .before .before .before .before .before .before .before in
-    let start = after-rows .before .before .before .before .before .before .before .before .before .before .before in
     omega (
       arith,
-      turn-taken (at-loop .loop .v) (start .args .trip .sizes .n) (at-loop .loop .c) (after-smaller .smaller .result)
+      turn-taken (at-loop .loop .v) (start at-loop .args .trip .sizes .n) (at-loop .loop .c) (after-smaller at-loop .smaller .result)
           (c .loop-test .taken) .0,
       at-loop .loop .inv .elapsed-long,
-      after-fill .fill .kept .0,
-      start .pre .4 .elapsed-is,
+      after-fill at-loop .fill .kept .0,
+      start at-loop .pre .4 .elapsed-is,
     )
 
 put-requires : tie.Need-put-requires Inv-loop μ-loop
 put-requires c κs =
     let in-loop = c .before .before in
     let at-loop = in-loop .before in
-    let after-smaller = at-loop .before .before .before in
-    let after-tree = after-smaller .before .before .before .before .before .before .before .before .before .before .before in
-    let after-rows = after-tree .before .before .before .before .before .before .before .before .before .before in
-    let start = after-rows .before .before .before .before .before .before .before .before .before .before .before in
     let room = at-loop .loop .inv .room in (
-      turn-taken (at-loop .loop .v) (start .args .trip .sizes .n) (at-loop .loop .c) (after-smaller .smaller .result)
+      turn-taken (at-loop .loop .v) (start at-loop .args .trip .sizes .n) (at-loop .loop .c) (after-smaller at-loop .smaller .result)
           (in-loop .loop-test .taken) .0,
       room .n-high,
       room .keys-room,
@@ -201,30 +191,21 @@ loop-less : tie.Need-loop-less Inv-loop μ-loop
 loop-less c =
     let in-loop = c .before .before .before .before .before .before .before in
     let at-loop = in-loop .before in
-    let after-smaller = at-loop .before .before .before in
-    let after-tree = after-smaller .before .before .before .before .before .before .before .before .before .before .before in
-    let after-rows = after-tree .before .before .before .before .before .before .before .before .before .before in
-    let start = after-rows .before .before .before .before .before .before .before .before .before .before .before in
     omega (
       arith,
-      turn-taken (at-loop .loop .v) (start .args .trip .sizes .n) (at-loop .loop .c) (after-smaller .smaller .result)
+      turn-taken (at-loop .loop .v) (start at-loop .args .trip .sizes .n) (at-loop .loop .c) (after-smaller at-loop .smaller .result)
           (in-loop .loop-test .taken) .1,
     )
 
 loop-less-2 : tie.Need-loop-less-2 Inv-loop μ-loop
 loop-less-2 c =
-    let after-times3 = c .before .before .before .before .before .before .before .before .before .before .before .before in
-    let after-tree4 = after-times3 .before .before .before .before .before .before .before .before .before .before .before .before in
-    let in-loop = after-tree4 .before .before in
-    let at-loop = in-loop .before in
-    let after-smaller = at-loop .before .before .before in
-    let after-tree = after-smaller .before .before .before .before .before .before .before .before .before .before .before in
-    let after-rows = after-tree .before .before .before .before .before .before .before .before .before .before in
-    let start = after-rows .before .before .before .before .before .before .before .before .before .before .before in
+    let after-relax = c .before .before .before .before .before .before .before in
+    let after-ask = after-relax .before .before .before .before .before .before .before .before .before in
+    let at-loop = at-loop after-ask in
     omega (
       arith,
-      turn-taken (at-loop .loop .v) (start .args .trip .sizes .n) (at-loop .loop .c) (after-smaller .smaller .result)
-          (in-loop .loop-test .taken) .1,
+      turn-taken (at-loop .loop .v) (start at-loop .args .trip .sizes .n) (at-loop .loop .c) (after-smaller at-loop .smaller .result)
+          (in-loop after-ask .loop-test .taken) .1,
     )
 
 loop-again : tie.Need-loop-again Inv-loop μ-loop
@@ -232,11 +213,8 @@ loop-again c =
     let after-put = c .before .before .before .before in
     let in-loop = after-put .before .before .before in
     let at-loop = in-loop .before in
-    let after-smaller = at-loop .before .before .before in
-    let after-tree = after-smaller .before .before .before .before .before .before .before .before .before .before .before in
-    let after-rows = after-tree .before .before .before .before .before .before .before .before .before .before in
-    let start = after-rows .before .before .before .before .before .before .before .before .before .before .before in
-    let taken = turn-taken (at-loop .loop .v) (start .args .trip .sizes .n) (at-loop .loop .c) (after-smaller .smaller .result)
+    let taken = turn-taken (at-loop .loop .v) (start at-loop .args .trip .sizes .n) (at-loop .loop .c)
+    (after-smaller at-loop .smaller .result)
     (in-loop .loop-test .taken) in
     running-goal _ _ _ _ (at-loop .loop .inv) (taken .0) (taken .1) (after-put .put .ensures .0) (after-put .put .ensures .1)
     (after-put .put .kept .1 .0) (sym (c .before .is-goal .ensures) ∙ c .if1 .taken)
@@ -245,54 +223,42 @@ ask-requires : tie.Need-ask-requires Inv-loop μ-loop
 ask-requires c κs =
     let in-loop = c .before .before .before .before .before .before .before .before .before in
     let at-loop = in-loop .before in
-    let after-smaller = at-loop .before .before .before in
-    let after-tree = after-smaller .before .before .before .before .before .before .before .before .before .before .before in
-    let after-ask-start = after-tree .before .before .before .before .before .before in
-    let after-group = after-ask-start .before .before .before in
-    let start = after-group .before .before .before .before .before .before .before .before .before .before .before .before in
-    let z = start .pre .4 in (
-      asking z (at-loop .loop .inv .estimates-long ∙ after-ask-start .ask-start .kept .1 .1 .1 .1 .1 .0),
-      linked (turn-taken (at-loop .loop .v) (start .args .trip .sizes .n) (at-loop .loop .c) (after-smaller .smaller .result)
-          (in-loop .loop-test .taken) .0) (z .n-high) (z .m-high) (after-group .group .ensures)
-          (sym (counted (mostJunctions + mostRoads) 0 (after-group .group .kept .1 .1 .1 .0))),
+    let z = start at-loop .pre .4 in (
+      asking z (at-loop .loop .inv .estimates-long ∙ after-ask-start at-loop .ask-start .kept .1 .1 .1 .1 .1 .0),
+      linked (turn-taken (at-loop .loop .v) (start at-loop .args .trip .sizes .n) (at-loop .loop .c)
+          (after-smaller at-loop .smaller .result)
+          (in-loop .loop-test .taken) .0) (z .n-high) (z .m-high) (after-group at-loop .group .ensures)
+          (sym (counted (mostJunctions + mostRoads) 0 (after-group at-loop .group .kept .1 .1 .1 .0))),
     )
 
 relax-requires : tie.Need-relax-requires Inv-loop μ-loop
 relax-requires c κs =
     let after-ask = c .before .before .before .before .before .before .before .before in
-    let after-put = after-ask .before .before .before .before .before .before .before in
-    let in-loop = after-put .before .before .before in
-    let at-loop = in-loop .before in
-    let after-smaller = at-loop .before .before .before in
-    let after-tree = after-smaller .before .before .before .before .before .before .before .before .before .before .before in
-    let after-ask-start = after-tree .before .before .before .before .before .before in
-    let after-group = after-ask-start .before .before .before in
-    let start = after-group .before .before .before .before .before .before .before .before .before .before .before .before in
-    let z = start .pre .4 in
-    let taken = turn-taken (at-loop .loop .v) (start .args .trip .sizes .n) (at-loop .loop .c) (after-smaller .smaller .result)
-    (in-loop .loop-test .taken) in (
+    let at-loop = at-loop after-ask in
+    let z = start at-loop .pre .4 in
+    let taken = turn-taken (at-loop .loop .v) (start at-loop .args .trip .sizes .n) (at-loop .loop .c)
+    (after-smaller at-loop .smaller .result)
+    (in-loop after-ask .loop-test .taken) in (
       reading z (after-ask .ask .kept .1 .1 .1 .1 .1 .1 .1 .0 ∙ at-loop .loop .inv .estimates-long ∙
-          after-ask-start .ask-start .kept .1 .1 .1 .1 .1 .0),
-      room-settled _ _ _ _ (at-loop .loop .inv) (taken .0) (taken .1) (after-put .put .ensures .0) (after-put .put .ensures .1)
-          (after-put .put .kept .1 .0),
-      linked (taken .0) (z .n-high) (z .m-high) (after-group .group .ensures)
-          (sym (counted (mostJunctions + mostRoads) 0 (after-group .group .kept .1 .1 .1 .0))),
+          after-ask-start at-loop .ask-start .kept .1 .1 .1 .1 .1 .0),
+      room-settled _ _ _ _ (at-loop .loop .inv) (taken .0) (taken .1) (after-put after-ask .put .ensures .0)
+          (after-put after-ask .put .ensures .1)
+          (after-put after-ask .put .kept .1 .0),
+      linked (taken .0) (z .n-high) (z .m-high) (after-group at-loop .group .ensures)
+          (sym (counted (mostJunctions + mostRoads) 0 (after-group at-loop .group .kept .1 .1 .1 .0))),
     )
 
 choose-requires-2 : tie.Need-choose-requires-2 Inv-loop μ-loop
 choose-requires-2 c κs =
     let after-relax = c .before .before .before .before .before .before in
-    let else1 = after-relax .before .before .before .before .before .before .before .before .before .before .before .before in
-    let after-put = else1 .before .before .before .before in
-    let at-loop = after-put .before .before .before .before in
-    let after-times2 = at-loop .before .before .before .before .before .before .before .before .before .before .before .before in
-    let after-begin = after-times2 .before in
+    let after-ask = after-relax .before .before .before .before .before .before .before .before .before in
+    let at-loop = at-loop after-ask in
     omega (
       arith,
       after-relax .relax .kept .1 .1 .1 .1 .1 .1 .1 .0,
-      after-put .put .kept .1 .0,
+      after-put after-ask .put .kept .1 .0,
       at-loop .loop .inv .long .tree-long,
-      after-begin .begin .kept .1 .1 .1 .1 .0,
+      after-begin at-loop .begin .kept .1 .1 .1 .1 .0,
     )
 
 loop-again-2 : tie.Need-loop-again-2 Inv-loop μ-loop
@@ -301,17 +267,14 @@ loop-again-2 c =
     let after-ask = after-relax .before .before .before .before .before .before .before .before .before in
     let else1 = after-ask .before .before .before in
     let after-is-goal = else1 .before in
-    let after-put = after-is-goal .before .before .before in
-    let in-loop = after-put .before .before .before in
-    let at-loop = in-loop .before in
-    let after-smaller = at-loop .before .before .before in
-    let after-tree = after-smaller .before .before .before .before .before .before .before .before .before .before .before in
-    let after-rows = after-tree .before .before .before .before .before .before .before .before .before .before in
-    let start = after-rows .before .before .before .before .before .before .before .before .before .before .before in
-    let taken = turn-taken (at-loop .loop .v) (start .args .trip .sizes .n) (at-loop .loop .c) (after-smaller .smaller .result)
-    (in-loop .loop-test .taken) in
-    running-on _ _ _ _ (at-loop .loop .inv) (taken .0) (taken .1) (after-put .put .ensures .0) (after-put .put .ensures .1)
-    (after-put .put .kept .1 .0) (sym (after-is-goal .is-goal .ensures) ∙ else1 .if1 .left) (after-ask .ask .kept .1 .1 .1 .1 .1 .1 .1 .0)
+    let at-loop = at-loop after-ask in
+    let taken = turn-taken (at-loop .loop .v) (start at-loop .args .trip .sizes .n) (at-loop .loop .c)
+    (after-smaller at-loop .smaller .result)
+    (in-loop after-ask .loop-test .taken) in
+    running-on _ _ _ _ (at-loop .loop .inv) (taken .0) (taken .1) (after-put after-ask .put .ensures .0)
+    (after-put after-ask .put .ensures .1)
+    (after-put after-ask .put .kept .1 .0) (sym (after-is-goal .is-goal .ensures) ∙ else1 .if1 .left)
+    (after-ask .ask .kept .1 .1 .1 .1 .1 .1 .1 .0)
     (record {
       times-long = after-relax .relax .kept .1 .1 .1 .1 .0;
       keys-long = after-relax .relax .kept .1 .1 .1 .1 .1 .0;
@@ -321,17 +284,12 @@ loop-again-2 c =
 
 returns : tie.Need-returns Inv-loop μ-loop
 returns c =
-    let after-choose = c .before .before in
-    let after-smaller = after-choose .before .before in
-    let after-fill = after-smaller .before .before .before in
-    let after-begin = after-fill .before .before .before .before .before .before .before in
-    let after-ask-start = after-begin .before .before .before .before .before .before .before in
-    let after-rows = after-ask-start .before .before .before .before in
-    let start = after-rows .before .before .before .before .before .before .before .before .before .before .before in
-    let lends = start .pre in
-    advances lends (begins-first (lends .0) (blank (lends .4) (lends .2)) (after-ask-start .ask-start .ensures)
-    (after-begin .begin .ensures))
-    (after-fill .fill .ensures) (after-choose .choose .ensures) (after-smaller .smaller .ensures) (c .before .loop .inv)
+    let at-loop = c .before in
+    let after-choose = at-loop .before in
+    let lends = start at-loop .pre in
+    advances lends (begins-first (lends .0) (blank (lends .4) (lends .2)) (after-ask-start at-loop .ask-start .ensures)
+    (after-begin at-loop .begin .ensures))
+    (after-fill at-loop .fill .ensures) (after-choose .choose .ensures) (after-smaller at-loop .smaller .ensures) (at-loop .loop .inv)
     (c .loop-test .left)
 
 pub advance-spec : {M : Type 1} → statement M
@@ -366,73 +324,53 @@ advance-spec =
     slice-write-elapsed
     (λ c.
     let at-loop = c .before .before in
-    let after-times2 = at-loop .before .before .before .before .before .before .before .before .before .before .before .before in
-    let after-begin = after-times2 .before in
-    counted mostJunctions noKey (at-loop .loop .inv .long .keys-long ∙ after-begin .begin .kept .1 .1 .0))
+    counted mostJunctions noKey (at-loop .loop .inv .long .keys-long ∙ after-begin at-loop .begin .kept .1 .1 .0))
     (λ c.
     let at-loop = c .before .before .before in
-    let after-times2 = at-loop .before .before .before .before .before .before .before .before .before .before .before .before in
-    let after-begin = after-times2 .before in
-    counted (2 * mostJunctions) nobodyWord (at-loop .loop .inv .long .tree-long ∙ after-begin .begin .kept .1 .1 .1 .1 .0))
+    counted (2 * mostJunctions) nobodyWord (at-loop .loop .inv .long .tree-long ∙ after-begin at-loop .begin .kept .1 .1 .1 .1 .0))
     put-requires
     (λ c κs. search needs)
     loop-less
     loop-again
     (λ c.
-    let after-tree3 = c .before .before .before .before .before .before .before .before .before .before .before .before in
-    let after-tree = after-tree3 .before .before .before .before .before .before .before .before .before .before .before .before in
-    let after-group = after-tree .before .before .before .before .before .before .before .before .before in
-    counted (mostJunctions + mostRoads) 0 (after-group .group .kept .1 .1 .1 .0))
+    let at-loop = c .before .before .before .before .before .before .before .before .before .before in
+    counted (mostJunctions + mostRoads) 0 (after-group at-loop .group .kept .1 .1 .1 .0))
     ask-requires
     (λ c.
-    let after-tree4 = c .before .before .before .before .before .before .before .before .before .before .before .before in
-    let at-loop = after-tree4 .before .before .before in
-    let after-times2 = at-loop .before .before .before .before .before .before .before .before .before .before .before .before in
-    let after-begin = after-times2 .before in
-    counted mostJunctions noneWord (at-loop .loop .inv .long .times-long ∙ after-begin .begin .kept .1 .0))
+    let after-ask = c .before .before .before .before in
+    let at-loop = at-loop after-ask in
+    counted mostJunctions noneWord (at-loop .loop .inv .long .times-long ∙ after-begin at-loop .begin .kept .1 .0))
     (λ c.
-    let after-put = c .before .before .before .before .before .before .before .before .before .before .before .before in
-    let at-loop = after-put .before .before .before .before in
-    let after-times2 = at-loop .before .before .before .before .before .before .before .before .before .before .before .before in
-    let after-begin = after-times2 .before in
-    counted mostJunctions noKey (after-put .put .kept .0 ∙ at-loop .loop .inv .long .keys-long ∙ after-begin .begin .kept .1 .1 .0))
+    let after-ask = c .before .before .before .before .before in
+    counted mostJunctions noKey (after-put after-ask .put .kept .0 ∙ at-loop after-ask .loop .inv .long .keys-long ∙ after-begin
+    (at-loop after-ask) .begin .kept .1 .1 .0))
     (λ c.
-    let after-tree5 = c .before .before .before .before .before .before .before .before .before .before .before .before in
-    let after-put = after-tree5 .before .before in
-    let at-loop = after-put .before .before .before .before in
-    let after-times2 = at-loop .before .before .before .before .before .before .before .before .before .before .before .before in
-    let after-begin = after-times2 .before in
-    counted (2 * mostJunctions) nobodyWord (after-put .put .kept .1 .0 ∙ at-loop .loop .inv .long .tree-long ∙
-    after-begin .begin .kept .1 .1 .1 .1 .0))
+    let after-ask = c .before .before .before .before .before .before .before in
+    let at-loop = at-loop after-ask in
+    counted (2 * mostJunctions) nobodyWord (after-put after-ask .put .kept .1 .0 ∙ at-loop .loop .inv .long .tree-long ∙
+    after-begin at-loop .begin .kept .1 .1 .1 .1 .0))
     (λ c.
     let after-is-goal = c .before .before .before .before .before .before .before .before .before .before .before .before in
-    let after-elapsed = after-is-goal .before .before .before .before .before .before .before .before .before .before .before .before in
-    let after-times = after-elapsed .before .before .before .before .before .before .before .before .before .before .before .before in
-    let after-group = after-times .before .before .before .before .before .before in
-    counted (mostJunctions + mostRoads) 0 (after-group .group .kept .1 .1 .1 .0))
+    let at-loop = after-is-goal .before .before .before .before .before .before .before in
+    counted (mostJunctions + mostRoads) 0 (after-group at-loop .group .kept .1 .1 .1 .0))
     relax-requires
     (λ c.
     let after-relax = c .before .before .before .before .before .before in
-    let else1 = after-relax .before .before .before .before .before .before .before .before .before .before .before .before in
-    let after-put = else1 .before .before .before .before in
-    let at-loop = after-put .before .before .before .before in
-    let after-times2 = at-loop .before .before .before .before .before .before .before .before .before .before .before .before in
-    let after-begin = after-times2 .before in
-    counted (2 * mostJunctions) nobodyWord (after-relax .relax .kept .1 .1 .1 .1 .1 .1 .1 .0 ∙ after-put .put .kept .1 .0
-    ∙ at-loop .loop .inv .long .tree-long ∙ after-begin .begin .kept .1 .1 .1 .1 .0))
+    let after-ask = after-relax .before .before .before .before .before .before .before .before .before in
+    let at-loop = at-loop after-ask in
+    counted (2 * mostJunctions) nobodyWord (after-relax .relax .kept .1 .1 .1 .1 .1 .1 .1 .0 ∙ after-put after-ask .put .kept .1 .0
+    ∙ at-loop .loop .inv .long .tree-long ∙ after-begin at-loop .begin .kept .1 .1 .1 .1 .0))
     choose-requires-2
     loop-less-2
     loop-again-2
     (λ c.
-    let after-keys2 = c .before .before .before .before .before .before .before .before .before .before .before .before in
-    let after-ask-start = after-keys2 .before .before .before .before .before .before .before .before .before in
-    c .before .loop .inv .estimates-long ∙ after-ask-start .ask-start .kept .1 .1 .1 .1 .1 .0)
+    let at-loop = c .before in
+    at-loop .loop .inv .estimates-long ∙ after-ask-start at-loop .ask-start .kept .1 .1 .1 .1 .1 .0)
     (λ c.
-    let after-fill = c .before .before .before .before .before .before .before in
-    c .before .loop .inv .elapsed-long ∙ after-fill .fill .kept .0)
+    let at-loop = c .before in
+    at-loop .loop .inv .elapsed-long ∙ after-fill at-loop .fill .kept .0)
     (λ c.
-    let after-keys2 = c .before .before .before .before .before .before .before .before .before .before .before .before in
-    let after-begin = after-keys2 .before .before in
-    c .before .loop .inv .long .vias-long ∙ after-begin .begin .kept .1 .1 .1 .0)
+    let at-loop = c .before in
+    at-loop .loop .inv .long .vias-long ∙ after-begin at-loop .begin .kept .1 .1 .1 .0)
     (λ c. c .before .loop .inv .log-long)
     returns)

@@ -21,14 +21,23 @@ start c =
 abbrev areas : tie.Start → Areas
 areas c = let a = c .args in held (a .ranks) (a .pairs) (a .live) (a .down) (a .estimates) (a .elapsed)
 
+abbrev after-fill-ranks : tie.After-contract → tie.After-fill-ranks
+after-fill-ranks c = c .before .before .before .before .before
+
+abbrev after-order-of : tie.After-contract → tie.After-order-of
+after-order-of c = after-fill-ranks c .before .before
+
 bodies : (c : tie.After-order-of) →
-    let s = start (c .before .before) in
+    let after-slice-known6 = c .before .before in
+    let s = start (after-slice-known6) in
     Bodies (s .args .card .now) (s .args .s) (areas s) (c .before .roads-of .result .now) (c .order-of .result .now)
-bodies c = record {
-  accepts = start (c .before .before) .pre;
-  roads-here = c .before .roads-of .ensures;
-  order-here = c .order-of .ensures;
-}
+bodies c =
+    let after-slice-known6 = c .before .before in
+    record {
+      accepts = start (after-slice-known6) .pre;
+      roads-here = c .before .roads-of .ensures;
+      order-here = c .order-of .ensures;
+    }
 
 -- ---- what the callees ask
 
@@ -36,10 +45,14 @@ roads-of-requires : tie.Need-roads-of-requires
 roads-of-requires c κs = omega (arith, card-size (start c .pre))
 
 order-of-requires : tie.Need-order-of-requires
-order-of-requires c κs = omega (arith, card-size (start (c .before) .pre))
+order-of-requires c κs =
+    let after-slice-known6 = c .before in
+    omega (arith, card-size (start (after-slice-known6) .pre))
 
 fill-ranks-requires : tie.Need-fill-ranks-requires
-fill-ranks-requires c κs = let b = bodies (c .before) in ((_, sound b), order-long b)
+fill-ranks-requires c κs =
+    let after-order-of = c .before in
+    let b = bodies (after-order-of) in ((_, sound b), order-long b)
 
 contract-requires : tie.Need-contract-requires
 contract-requires c κs =
@@ -51,9 +64,8 @@ contract-requires c κs =
 
 fill-live-requires : tie.Need-fill-live-requires
 fill-live-requires c κs =
-    let after-fill-ranks = c .before .before .before .before .before .before .before .before .before .before .before in
-    let after-order-of = after-fill-ranks .before .before in
-    roads-long (bodies after-order-of)
+    let after-contract = c .before .before .before .before .before .before in
+    roads-long (bodies (after-order-of after-contract))
 
 -- ---- the two ends
 
@@ -62,11 +74,9 @@ returns c =
     let after-clear = c .before .before .before .before .before .before .before .before .before .before .before .before in
     let after-enum-told = after-clear .before .before .before .before .before .before .before in
     let after-contract = after-enum-told .before .before .before .before in
-    let after-fill-ranks = after-contract .before .before .before .before .before in
-    let after-order-of = after-fill-ranks .before .before in
-    no-room (bodies after-order-of) (after-contract .contract .ensures) (after-enum-told .enum-told .given .1)
+    no-room (bodies (after-order-of after-contract)) (after-contract .contract .ensures) (after-enum-told .enum-told .given .1)
     (alike-same (record {
-      ranks = after-fill-ranks .fill-ranks .kept .1 .0;
+      ranks = after-fill-ranks after-contract .fill-ranks .kept .1 .0;
       pairs = after-contract .contract .kept .1 .1 .1 .0;
       live = refl;
       down = refl;
@@ -82,11 +92,9 @@ returns-2 c =
     let after-fill-live = after-fill .before .before .before .before in
     let after-count = after-fill-live .before .before .before in
     let after-contract = after-count .before .before .before .before in
-    let after-fill-ranks = after-contract .before .before .before .before .before in
-    let after-order-of = after-fill-ranks .before .before in
-    let after-roads-of = after-order-of .before in
-    let b = bodies after-order-of in
-    let ranks-are = after-fill-ranks .fill-ranks .ensures (after-roads-of .roads-of .result .now) in
+    let after-roads-of = after-contract .before .before .before .before .before .before .before .before in
+    let b = bodies (after-order-of after-contract) in
+    let ranks-are = after-fill-ranks after-contract .fill-ranks .ensures (after-roads-of .roads-of .result .now) in
     let room-is = after-contract .contract .kept .1 .1 .1 .0 in
     let made = contraction-prepared (sound b) ranks-are room-is (after-count .count .given .1) (after-contract .contract .ensures) in
     with-room b made room-is (after-fill-live .fill-live .ensures) (after-fill .fill .ensures) (after-fill2 .fill2 .ensures)

@@ -14,8 +14,9 @@ returns c =
 returns-2 : tie.Need-returns-2
 returns-2 c =
     let else1 = c .before .before .before in
-    let start = else1 .before .before in
-    allowed-open _ (start .args .t .0) (eqb-false _ _ (sym (else1 .before .is-closed .ensures) ∙ else1 .if1 .left))
+    let after-is-closed = else1 .before in
+    let start = after-is-closed .before in
+    allowed-open _ (start .args .t .0) (eqb-false _ _ (sym (after-is-closed .is-closed .ensures) ∙ else1 .if1 .left))
 
 pub allowed-spec : {M : Type 1} → statement M
 allowed-spec = tie.close (tie.spec (λ c κs. search needs) returns returns-2)

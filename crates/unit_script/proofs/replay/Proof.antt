@@ -6,23 +6,22 @@ use borrow.Author.Needs.{needs}
 use Rattle.unit_script.proofs.replay.Statement.{statement}
 use Rattle.unit_script.proofs.replay.Tie as tie
 
+abbrev after-prepare : tie.After-make-calls → tie.After-prepare
+after-prepare c =
+    c .before .before .before .before .before .before .before .before .before .before .before .before .before .before .before .before .before .before .before .before .before .before .before
+
 same-length : tie.Need-same-length
 same-length c =
-    let after-down2 = c .before .before .before .before .before .before .before .before .before .before .before in
-    let after-make-calls = after-down2 .before .before .before in
-    let after-header = after-make-calls .before .before .before .before .before .before .before .before .before .before in
-    let after-ranks = after-header .before .before .before .before .before .before .before .before .before .before .before .before in
-    let after-prepare = after-ranks .before in
-    after-prepare .prepare .kept .1 .0
+    let after-slice-known16 = c .before .before .before .before .before .before .before .before .before .before .before .before in
+    let after-make-calls = after-slice-known16 .before .before in
+    after-prepare after-make-calls .prepare .kept .1 .0
 
 returns : tie.Need-returns
 returns c =
-    let after-down2 = c .before .before .before .before .before .before .before .before .before .before .before in
-    let after-make-calls = after-down2 .before .before .before in
-    let after-header = after-make-calls .before .before .before .before .before .before .before .before .before .before in
-    let after-ranks = after-header .before .before .before .before .before .before .before .before .before .before .before .before in
-    let after-prepare = after-ranks .before in
-    replay-made _ _ _ _ _ _ (answeredIn (after-prepare .prepare .result)) _ (after-prepare .prepare .ensures) refl
+    let after-slice-known16 = c .before .before .before .before .before .before .before .before .before .before .before .before in
+    let after-make-calls = after-slice-known16 .before .before in
+    replay-made _ _ _ _ _ _ (answeredIn (after-prepare after-make-calls .prepare .result))
+    _ (after-prepare after-make-calls .prepare .ensures) refl
     (after-make-calls .make-calls .ensures)
 
 pub replay-spec : {M : Type 1} → statement M

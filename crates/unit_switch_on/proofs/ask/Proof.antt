@@ -6,29 +6,33 @@ use borrow.Author.Needs.{needs}
 use Rattle.unit_switch_on.proofs.ask.Statement.{statement}
 use Rattle.unit_switch_on.proofs.ask.Tie as tie
 
+abbrev after-n : tie.After-lengths-fit → tie.After-n
+after-n c = c .before .before
+
+abbrev after-read : tie.After-lengths-fit → tie.After-read
+after-read c = after-n c .before .before
+
+abbrev start : tie.After-lengths-fit → tie.Start
+start c = after-read c .before .before
+
 returns : tie.Need-returns
 returns c =
-    let after-q = c .before in
-    let after-read = after-q .before .before in
+    let after-read = c .before .before .before in
     let start = after-read .before .before in
-    λ a e. asked-unread (start .args .card .now) a (ap readingIn (sym (after-q .q .given .1)) ∙ after-read .read .ensures)
+    λ a e. asked-unread (start .args .card .now) a (ap readingIn (sym (c .before .q .given .1)) ∙ after-read .read .ensures)
 
 returns-2 : tie.Need-returns-2
 returns-2 c =
     let after-lengths-fit = c .before in
-    let after-n = after-lengths-fit .before .before in
-    let after-read = after-n .before .before in
-    let start = after-read .before .before in
-    λ a e. asked-passes (start .args .card .now) a (ap readingIn (sym (after-n .n .given .1)) ∙ after-read .read .ensures) e
+    λ a e. asked-passes (start after-lengths-fit .args .card .now) a
+    (ap readingIn (sym (after-n after-lengths-fit .n .given .1)) ∙ after-read after-lengths-fit .read .ensures) e
     (after-lengths-fit .lengths-fit .ensures) (c .if1 .taken)
 
 returns-3 : tie.Need-returns-3
 returns-3 c =
     let after-lengths-fit = c .before in
-    let after-n = after-lengths-fit .before .before in
-    let after-read = after-n .before .before in
-    let start = after-read .before .before in
-    λ a e. asked-7 (start .args .card .now) a (ap readingIn (sym (after-n .n .given .1)) ∙ after-read .read .ensures) e
+    λ a e. asked-7 (start after-lengths-fit .args .card .now) a
+    (ap readingIn (sym (after-n after-lengths-fit .n .given .1)) ∙ after-read after-lengths-fit .read .ensures) e
     (after-lengths-fit .lengths-fit .ensures) (c .if1 .left)
 
 pub ask-spec : {M : Type 1} → statement M

@@ -44,8 +44,8 @@ returns-2 : tie.Need-returns-2
 returns-2 c =
     let after-ranks = c .before .before .before .before .before .before .before .before .before .before .before .before in
     let after-prepare-areas = after-ranks .before in
-    let after-s = after-prepare-areas .before .before .before .before .before .before .before .before in
-    let s = start (after-s .before .before) in
+    let after-ask = after-prepare-areas .before .before .before .before .before .before .before .before .before .before in
+    let s = start (after-ask) in
     prepare-made (s .args .card .now) (areas s) (c .prepared .ensures) (after-prepare-areas .prepare-areas .ensures)
 
 pub prepare-spec : {M : Type 1} → statement M

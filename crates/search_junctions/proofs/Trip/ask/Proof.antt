@@ -17,6 +17,15 @@ Inv-loop roads order ranks pairs live down estimates₀ rows u sizes m i₀ esti
 abbrev μ-loop : tie.MeasureT-loop
 μ-loop roads order ranks pairs live down estimates₀ rows u sizes m i₀ estimates i = m - i
 
+abbrev start : tie.At-loop Inv-loop μ-loop → tie.Start Inv-loop μ-loop
+start c = c .before .before .before .before .before .before .before .before .before .before .before
+
+abbrev in-loop : tie.After-ask-head Inv-loop μ-loop → tie.In-loop Inv-loop μ-loop
+in-loop c = c .before .before
+
+abbrev at-loop : tie.After-ask-head Inv-loop μ-loop → tie.At-loop Inv-loop μ-loop
+at-loop c = in-loop c .before
+
 shared-slice-read-i : tie.Need-shared-slice-read-i Inv-loop μ-loop
 shared-slice-read-i c =
     let start = c .before .before .before .before .before .before .before .before .before .before in
@@ -31,62 +40,57 @@ loop-holds c =
 ask-head-requires : tie.Need-ask-head-requires Inv-loop μ-loop
 ask-head-requires c κs =
     let at-loop = c .before .before in
-    let start = at-loop .before .before .before .before .before .before .before .before .before .before .before in
-    (c .before .loop-test .taken, estimates-kept (start .pre .0) (at-loop .loop .inv .long))
+    (c .before .loop-test .taken, estimates-kept (start at-loop .pre .0) (at-loop .loop .inv .long))
 
 cast-i : tie.Need-cast-i Inv-loop μ-loop
 cast-i c =
-    let after-sizes = c .before .before .before .before .before .before .before .before in
-    let start = after-sizes .before .before .before .before .before .before .before .before .before in
-    omega (arith, start .pre .0 .over .n-high)
+    let at-loop = c .before .before .before .before .before .before in
+    omega (arith, start at-loop .pre .0 .over .n-high)
 
 cast-i-2 : tie.Need-cast-i-2 Inv-loop μ-loop
 cast-i-2 c =
-    let in-loop = c .before .before .before .before .before in
-    let start = in-loop .before .before .before .before .before .before .before .before .before .before .before .before in
-    omega (arith, in-loop .loop-test .taken, start .pre .0 .m-high)
+    let after-ask-head = c .before .before .before in
+    let at-loop = after-ask-head .before .before .before in
+    omega (arith, in-loop after-ask-head .loop-test .taken, start at-loop .pre .0 .m-high)
 
 add-i : tie.Need-add-i Inv-loop μ-loop
 add-i c =
-    let in-loop = c .before .before .before .before .before in
-    let start = in-loop .before .before .before .before .before .before .before .before .before .before .before .before in
-    omega (arith, in-loop .loop-test .taken, start .pre .0 .m-high, start .pre .0 .over .n-high)
+    let after-ask-head = c .before .before .before in
+    let at-loop = after-ask-head .before .before .before in
+    omega (arith, in-loop after-ask-head .loop-test .taken, start at-loop .pre .0 .m-high, start at-loop .pre .0 .over .n-high)
 
 mul-i-2 : tie.Need-mul-i-2 Inv-loop μ-loop
 mul-i-2 c =
-    let in-loop = c .before .before .before .before .before in
-    let start = in-loop .before .before .before .before .before .before .before .before .before .before .before .before in
-    omega (arith, in-loop .loop-test .taken, start .pre .0 .m-high, start .pre .0 .over .n-high)
+    let after-ask-head = c .before .before .before in
+    let at-loop = after-ask-head .before .before .before in
+    omega (arith, in-loop after-ask-head .loop-test .taken, start at-loop .pre .0 .m-high, start at-loop .pre .0 .over .n-high)
 
 shared-slice-read-i-2 : tie.Need-shared-slice-read-i-2 Inv-loop μ-loop
 shared-slice-read-i-2 c =
-    let in-loop = c .before .before .before .before .before .before in
-    let start = in-loop .before .before .before .before .before .before .before .before .before .before .before .before in
-    omega (arith, in-loop .loop-test .taken, start .pre .1 .rows-room)
+    let after-ask-head = c .before .before .before .before in
+    let at-loop = after-ask-head .before .before .before in
+    omega (arith, in-loop after-ask-head .loop-test .taken, start at-loop .pre .1 .rows-room)
 
 loop-less : tie.Need-loop-less Inv-loop μ-loop
 loop-less c =
-    let in-loop = c .before .before .before .before .before .before in
-    let at-loop = in-loop .before in
-    let start = at-loop .before .before .before .before .before .before .before .before .before .before .before in
+    let after-ask-head = c .before .before .before .before in
+    let at-loop = at-loop after-ask-head in
     omega (
       arith,
-      in-loop .loop-test .taken,
-      next-of (start .pre .1) (in-loop .loop-test .taken) (at-loop .loop .inv .row) .low,
+      in-loop after-ask-head .loop-test .taken,
+      next-of (start at-loop .pre .1) (in-loop after-ask-head .loop-test .taken) (at-loop .loop .inv .row) .low,
     )
 
 loop-again : tie.Need-loop-again Inv-loop μ-loop
 loop-again c =
     let after-ask-head = c .before .before .before .before in
-    let in-loop = after-ask-head .before .before in
-    let at-loop = in-loop .before in
-    let start = at-loop .before .before .before .before .before .before .before .before .before .before .before in
-    let next = next-of (start .pre .1) (in-loop .loop-test .taken) (at-loop .loop .inv .row) in
+    let at-loop = at-loop after-ask-head in
+    let next = next-of (start at-loop .pre .1) (in-loop after-ask-head .loop-test .taken) (at-loop .loop .inv .row) in
     record {
       long = after-ask-head .ask-head .kept .1 .1 .1 .1 .1 .1 .1 .0 ∙ at-loop .loop .inv .long;
       row = row-at next;
       asks =
-          asks-turn (at-loop .loop .inv .row .leaves (in-loop .loop-test .taken)) next (at-loop .loop .inv .asks)
+          asks-turn (at-loop .loop .inv .row .leaves (in-loop after-ask-head .loop-test .taken)) next (at-loop .loop .inv .asks)
           (after-ask-head .ask-head .ensures);
     }
 

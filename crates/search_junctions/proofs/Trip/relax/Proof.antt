@@ -18,6 +18,18 @@ Inv-loop roads live estimates times₀ keys₀ vias₀ tree₀ rows u sizes m fr
 abbrev μ-loop : tie.MeasureT-loop
 μ-loop roads live estimates times₀ keys₀ vias₀ tree₀ rows u sizes m from i₀ times keys vias tree i = m - i
 
+abbrev in-loop : tie.After-relax-road Inv-loop μ-loop → tie.In-loop Inv-loop μ-loop
+in-loop c = c .before .before .before .before .before
+
+abbrev at-loop : tie.After-relax-road Inv-loop μ-loop → tie.At-loop Inv-loop μ-loop
+at-loop c = in-loop c .before
+
+abbrev start : tie.After-relax-road Inv-loop μ-loop → tie.Start Inv-loop μ-loop
+start c = at-loop c .before .before .before .before .before .before .before .before .before .before .before .before .before
+
+abbrev start-of-after-of-word : tie.After-of-word Inv-loop μ-loop → tie.Start Inv-loop μ-loop
+start-of-after-of-word c = c .before .before .before .before .before .before .before .before .before .before .before
+
 slice-read-of-word : tie.Need-slice-read-of-word Inv-loop μ-loop
 slice-read-of-word c =
     let start = c .before .before .before .before .before .before .before .before .before .before in
@@ -25,86 +37,74 @@ slice-read-of-word c =
 
 shared-slice-read-i : tie.Need-shared-slice-read-i Inv-loop μ-loop
 shared-slice-read-i c =
-    let start = c .before .before .before .before .before .before .before .before .before .before .before .before in
-    omega (arith, start .pre .2 .here, start .pre .2 .rows-room)
+    let after-of-word = c .before in
+    omega (arith, start-of-after-of-word after-of-word .pre .2 .here, start-of-after-of-word after-of-word .pre .2 .rows-room)
 
 loop-holds : tie.Need-loop-holds Inv-loop μ-loop
 loop-holds c =
-    let start = c .before .before .before .before .before .before .before .before .before .before .before .before in
+    let after-of-word = c .before in
     record {
       long = record { times-long = refl; keys-long = refl; vias-long = refl; tree-long = refl };
-      row = row-at (first-of (start .pre .2));
-      relaxes = relaxes-skip (start .pre .1) (first-of (start .pre .2));
+      row = row-at (first-of (start-of-after-of-word after-of-word .pre .2));
+      relaxes = relaxes-skip (start-of-after-of-word after-of-word .pre .1) (first-of (start-of-after-of-word after-of-word .pre .2));
     }
 
 relax-road-requires : tie.Need-relax-road-requires Inv-loop μ-loop
 relax-road-requires c κs =
     let in-loop = c .before .before .before .before in
     let at-loop = in-loop .before in
-    let after-sizes = at-loop .before .before .before .before in
-    let start = after-sizes .before .before .before .before .before .before .before .before .before in
-    (in-loop .loop-test .taken, start .pre .0, at-loop .loop .inv .relaxes .room)
+    let after-of-word = at-loop .before .before in
+    (in-loop .loop-test .taken, start-of-after-of-word after-of-word .pre .0, at-loop .loop .inv .relaxes .room)
 
 cast-i : tie.Need-cast-i Inv-loop μ-loop
 cast-i c =
     let after-relax-road = c .before .before .before .before .before .before .before .before .before in
-    let after-sizes = after-relax-road .before .before .before .before .before .before .before .before .before .before in
-    let start = after-sizes .before .before .before .before .before .before .before .before .before in
-    omega (arith, start .pre .1 .n-high)
+    omega (arith, start after-relax-road .pre .1 .n-high)
 
 cast-i-2 : tie.Need-cast-i-2 Inv-loop μ-loop
 cast-i-2 c =
     let after-relax-road = c .before .before .before .before .before .before .before .before .before in
-    let in-loop = after-relax-road .before .before .before .before .before in
-    let after-sizes = in-loop .before .before .before .before .before in
-    let start = after-sizes .before .before .before .before .before .before .before .before .before in
-    omega (arith, in-loop .loop-test .taken, start .pre .0 .m-high)
+    omega (arith, in-loop after-relax-road .loop-test .taken, start after-relax-road .pre .0 .m-high)
 
 add-i : tie.Need-add-i Inv-loop μ-loop
 add-i c =
     let after-relax-road = c .before .before .before .before .before .before .before .before .before in
-    let in-loop = after-relax-road .before .before .before .before .before in
-    let after-sizes = in-loop .before .before .before .before .before in
-    let start = after-sizes .before .before .before .before .before .before .before .before .before in
-    omega (arith, in-loop .loop-test .taken, start .pre .0 .m-high, start .pre .1 .n-high)
+    omega (
+      arith,
+      in-loop after-relax-road .loop-test .taken,
+      start after-relax-road .pre .0 .m-high,
+      start after-relax-road .pre .1 .n-high,
+    )
 
 mul-i-2 : tie.Need-mul-i-2 Inv-loop μ-loop
 mul-i-2 c =
     let after-relax-road = c .before .before .before .before .before .before .before .before .before in
-    let in-loop = after-relax-road .before .before .before .before .before in
-    let after-sizes = in-loop .before .before .before .before .before in
-    let start = after-sizes .before .before .before .before .before .before .before .before .before in
-    omega (arith, in-loop .loop-test .taken, start .pre .0 .m-high, start .pre .1 .n-high)
+    omega (
+      arith,
+      in-loop after-relax-road .loop-test .taken,
+      start after-relax-road .pre .0 .m-high,
+      start after-relax-road .pre .1 .n-high,
+    )
 
 shared-slice-read-i-2 : tie.Need-shared-slice-read-i-2 Inv-loop μ-loop
 shared-slice-read-i-2 c =
     let after-relax-road = c .before .before .before .before .before .before .before .before .before .before in
-    let in-loop = after-relax-road .before .before .before .before .before in
-    let after-sizes = in-loop .before .before .before .before .before in
-    let start = after-sizes .before .before .before .before .before .before .before .before .before in
-    omega (arith, in-loop .loop-test .taken, start .pre .2 .rows-room)
+    omega (arith, in-loop after-relax-road .loop-test .taken, start after-relax-road .pre .2 .rows-room)
 
 loop-less : tie.Need-loop-less Inv-loop μ-loop
 loop-less c =
     let after-relax-road = c .before .before .before .before .before .before .before .before .before .before in
-    let in-loop = after-relax-road .before .before .before .before .before in
-    let at-loop = in-loop .before in
-    let after-sizes = at-loop .before .before .before .before in
-    let start = after-sizes .before .before .before .before .before .before .before .before .before in
     omega (
       arith,
-      in-loop .loop-test .taken,
-      next-of (start .pre .2) (in-loop .loop-test .taken) (at-loop .loop .inv .row) .low,
+      in-loop after-relax-road .loop-test .taken,
+      next-of (start after-relax-road .pre .2) (in-loop after-relax-road .loop-test .taken) (at-loop after-relax-road .loop .inv .row) .low,
     )
 
 loop-again : tie.Need-loop-again Inv-loop μ-loop
 loop-again c =
     let after-relax-road = c .before .before .before .before .before .before .before .before .before .before in
-    let in-loop = after-relax-road .before .before .before .before .before in
-    let at-loop = in-loop .before in
-    let after-sizes = at-loop .before .before .before .before in
-    let start = after-sizes .before .before .before .before .before .before .before .before .before in
-    let next = next-of (start .pre .2) (in-loop .loop-test .taken) (at-loop .loop .inv .row) in
+    let at-loop = at-loop after-relax-road in
+    let next = next-of (start after-relax-road .pre .2) (in-loop after-relax-road .loop-test .taken) (at-loop .loop .inv .row) in
     record {
       long = record {
         times-long = after-relax-road .relax-road .kept .1 .1 .1 .1 .0 ∙ at-loop .loop .inv .long .times-long;
@@ -114,7 +114,7 @@ loop-again c =
       };
       row = row-at next;
       relaxes =
-          relaxes-turn (at-loop .loop .inv .row .leaves (in-loop .loop-test .taken)) next (at-loop .loop .inv .relaxes)
+          relaxes-turn (at-loop .loop .inv .row .leaves (in-loop after-relax-road .loop-test .taken)) next (at-loop .loop .inv .relaxes)
           (after-relax-road .relax-road .ensures);
     }
 

@@ -20,35 +20,39 @@ use Rattle.unit.proofs.Header.aim_part.Statement.{statement}
 use Rattle.unit.proofs.Header.aim_part.Tie as tie
 
 -- no question refuses
+abbrev start : tie.At-match-keys2 → tie.Start
+start c = c .before .before .before .before .before .before
+
 known : (c : tie.After-enum-told) →
-    let start = c .before .before .before .before .before .before .before in
-    let a = start .args in
+    let at-match-keys2 = c .before in
+    let a = start at-match-keys2 .args in
     (fitsBy (headerIn (a .self)) (length (a .card .now)) (lengthsIn (a .l)) ≡ true)
     × (aimRefusal (knownOf (baseOn (a .card .now)) (headerIn (a .self))) (a .j .0) ≡ none)
 known c =
-    let after-aim-asked = c .before .before in
-    let start = after-aim-asked .before .before .before .before .before in
-    let a = start .args in passed (c .enum-told .given .1) (after-aim-asked .aim-asked .ensures (baseOn (a .card .now)))
+    let at-match-keys2 = c .before in
+    let after-aim-asked = at-match-keys2 .before in
+    let a = start at-match-keys2 .args in passed (c .enum-told .given .1) (after-aim-asked .aim-asked .ensures (baseOn (a .card .now)))
 
 order-of-requires : tie.Need-order-of-requires
 order-of-requires c κs =
-    let start = c .before .before .before .before .before .before .before in
-    let a = start .args in
-    omega (arith, fits-facts (headerIn (a .self)) (length (a .card .now)) (lengthsIn (a .l)) (known c .0) .size)
+    let a = (let at-match-keys2 = c .before in
+    start at-match-keys2 .args) in omega (
+      arith,
+      fits-facts (headerIn (a .self)) (length (a .card .now)) (lengthsIn (a .l)) (known c .0) .size,
+    )
 
 down-totals-requires : tie.Need-down-totals-requires
 down-totals-requires c κs =
-    let after-order-of = c .before in
-    let after-enum-told = after-order-of .before in
-    let start = after-enum-told .before .before .before .before .before .before .before in
-    let a = start .args in
+    let after-enum-told = c .before .before in
+    let at-match-keys2 = after-enum-told .before in
+    let a = start at-match-keys2 .args in
     let k = known after-enum-told in
     let f = fits-facts (headerIn (a .self)) (length (a .card .now)) (lengthsIn (a .l)) (k .0) in (
       aim-below (headerIn (a .self)) (baseOn (a .card .now)) (a .j .0) (k .1),
       f .n-high,
-      order-sized (a .card .now) f (after-order-of .order-of .ensures),
-      sym (start .pre .1) ∙ f .lengths .down,
-      omega (arith, f .lengths .room, start .pre .0),
+      order-sized (a .card .now) f (c .before .order-of .ensures),
+      sym (start at-match-keys2 .pre .1) ∙ f .lengths .down,
+      omega (arith, f .lengths .room, start at-match-keys2 .pre .0),
       pairs-few f,
     )
 
@@ -69,8 +73,8 @@ returns-2 c b w p u k =
     let after-down-totals = after-fill .before .before .before .before in
     let after-order-of = after-down-totals .before .before in
     let after-enum-told = after-order-of .before in
-    let start = after-enum-told .before .before .before .before .before .before .before in
-    let a = start .args in
+    let at-match-keys2 = after-enum-told .before in
+    let a = start at-match-keys2 .args in
     let q = known after-enum-told in
     aim-made (a .card .now) (a .self) (a .j .0) b k w (q .0) (q .1) p u (after-order-of .order-of .ensures)
     (after-down-totals .down-totals .ensures)

@@ -20,33 +20,39 @@ use Rattle.unit.proofs.Header.estimate_part.Statement.{statement}
 use Rattle.unit.proofs.Header.estimate_part.Tie as tie
 
 -- no question refuses
+abbrev start : tie.At-match-keys2 → tie.Start
+start c = c .before .before .before .before .before .before .before
+
 known : (c : tie.After-enum-told) →
-    let start = c .before .before .before .before .before .before .before .before in
-    let a = start .args in
+    let at-match-keys2 = c .before in
+    let a = start at-match-keys2 .args in
     (fitsBy (headerIn (a .self)) (length (a .card .now)) (lengthsIn (a .l)) ≡ true)
     × (estimateRefusal (knownOf (baseOn (a .card .now)) (headerIn (a .self))) (a .j .0) ≡ none)
 known c =
-    let after-estimate-asked = c .before .before in
-    let start = after-estimate-asked .before .before .before .before .before .before in
-    let a = start .args in passed (c .enum-told .given .1) (after-estimate-asked .estimate-asked .ensures (baseOn (a .card .now)))
+    let at-match-keys2 = c .before in
+    let after-estimate-asked = at-match-keys2 .before in
+    let a = start at-match-keys2 .args in
+    passed (c .enum-told .given .1) (after-estimate-asked .estimate-asked .ensures (baseOn (a .card .now)))
 
 order-of-requires : tie.Need-order-of-requires
 order-of-requires c κs =
-    let start = c .before .before .before .before .before .before .before .before in
-    let a = start .args in
-    omega (arith, fits-facts (headerIn (a .self)) (length (a .card .now)) (lengthsIn (a .l)) (known c .0) .size)
+    let a = (let at-match-keys2 = c .before in
+    start at-match-keys2 .args) in omega (
+      arith,
+      fits-facts (headerIn (a .self)) (length (a .card .now)) (lengthsIn (a .l)) (known c .0) .size,
+    )
 
 estimate-requires : tie.Need-estimate-requires
 estimate-requires c κs =
-    let after-order-of = c .before in
-    let after-enum-told = after-order-of .before in
-    let start = after-enum-told .before .before .before .before .before .before .before .before in
+    let after-enum-told = c .before .before in
+    let at-match-keys2 = after-enum-told .before in
+    let start = start at-match-keys2 in
     let a = start .args in
     let k = known after-enum-told in
     let f = fits-facts (headerIn (a .self)) (length (a .card .now)) (lengthsIn (a .l)) (k .0) in (
       estimate-below (headerIn (a .self)) (baseOn (a .card .now)) (a .j .0) (k .1) .0,
       f .n-high,
-      order-sized (a .card .now) f (after-order-of .order-of .ensures),
+      order-sized (a .card .now) f (c .before .order-of .ensures),
       sym (start .pre .0) ∙ f .lengths .ranks,
       sym (start .pre .2) ∙ f .lengths .down,
       sym (start .pre .3) ∙ f .lengths .estimates,
@@ -70,8 +76,8 @@ returns-2 c b w p u k =
     let after-estimate = c .before .before .before in
     let after-order-of = after-estimate .before .before in
     let after-enum-told = after-order-of .before in
-    let start = after-enum-told .before .before .before .before .before .before .before .before in
-    let a = start .args in
+    let at-match-keys2 = after-enum-told .before in
+    let a = start at-match-keys2 .args in
     let q = known after-enum-told in
     estimate-made (a .card .now) (a .self) (a .j .0) b k w (q .0) (q .1) p u (after-order-of .order-of .ensures)
     (after-estimate .estimate .ensures)

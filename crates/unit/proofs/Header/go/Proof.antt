@@ -28,58 +28,69 @@ abbrev lent : tie.Start → Lent
 lent s = lentOf (s .args .route .now) (s .args .log .now)
 
 -- no question refuses
+abbrev start : tie.At-match-keys2 → tie.Start
+start c = c .before .before .before .before .before .before .before .before .before .before .before .before .before .before
+
+abbrev after-order-of : tie.After-aimed-at → tie.After-order-of
+after-order-of c = c .before .before .before .before .before
+
+abbrev after-roads-of : tie.After-aimed-at → tie.After-roads-of
+after-roads-of c = after-order-of c .before
+
+abbrev after-enum-told : tie.After-aimed-at → tie.After-enum-told
+after-enum-told c = after-roads-of c .before
+
+abbrev at-match-keys2 : tie.After-aimed-at → tie.At-match-keys2
+at-match-keys2 c = after-enum-told c .before
+
 known : (c : tie.After-enum-told) →
-    let after-lengths-of = c .before .before .before in
-    let start = after-lengths-of .before .before .before .before .before .before .before .before .before .before .before .before in
-    let a = start .args in
-    GoPassed (headerIn (a .self)) (baseOn (a .card .now)) (length (a .card .now)) (lengths (areas start)) (a .start .0)
+    let at-match-keys2 = c .before in
+    let a = start at-match-keys2 .args in
+    GoPassed (headerIn (a .self)) (baseOn (a .card .now)) (length (a .card .now)) (lengths (areas (start at-match-keys2))) (a .start .0)
     (length (a .route .now)) (length (a .log .now))
 known c =
-    let after-go-asked = c .before .before in
+    let at-match-keys2 = c .before in
+    let after-go-asked = at-match-keys2 .before in
     let after-lengths-of = after-go-asked .before in
-    let start = after-lengths-of .before .before .before .before .before .before .before .before .before .before .before .before in
-    let a = start .args in
+    let a = start at-match-keys2 .args in
     let h = headerIn (a .self) in
     let base = baseOn (a .card .now) in
     let k = length (a .card .now) in
     let r = length (a .route .now) in
     let l = length (a .log .now) in
-    go-passed h base k (lengths (areas start)) (a .start .0) r l (c .enum-told .given .1)
+    go-passed h base k (lengths (areas (start at-match-keys2))) (a .start .0) r l (c .enum-told .given .1)
     (after-go-asked .go-asked .ensures base ∙ ap (λ (x : Each ℕ). asksGo base h k x (a .start .0) r l)
     (after-lengths-of .lengths-of .ensures))
 
 roads-of-requires : tie.Need-roads-of-requires
 roads-of-requires c κs =
-    let after-lengths-of = c .before .before .before in
-    let start = after-lengths-of .before .before .before .before .before .before .before .before .before .before .before .before in
-    let a = start .args in
-    omega (arith, fits-facts (headerIn (a .self)) (length (a .card .now)) (lengths (areas start)) (known c .fits) .size)
+    let at-match-keys2 = c .before in
+    let a = start at-match-keys2 .args in
+    omega (arith, fits-facts (headerIn (a .self)) (length (a .card .now)) (lengths (areas (start at-match-keys2))) (known c .fits) .size)
 
 order-of-requires : tie.Need-order-of-requires
 order-of-requires c κs =
     let after-enum-told = c .before in
-    let after-lengths-of = after-enum-told .before .before .before in
-    let start = after-lengths-of .before .before .before .before .before .before .before .before .before .before .before .before in
-    let a = start .args in
-    omega (arith, fits-facts (headerIn (a .self)) (length (a .card .now)) (lengths (areas start)) (known after-enum-told .fits) .size)
+    let at-match-keys2 = after-enum-told .before in
+    let a = start at-match-keys2 .args in
+    omega (
+      arith,
+      fits-facts (headerIn (a .self)) (length (a .card .now)) (lengths (areas (start at-match-keys2))) (known after-enum-told .fits) .size,
+    )
 
 search-requires : tie.Need-search-requires
 search-requires c κs =
-    let after-order-of = c .before .before .before .before .before in
-    let after-roads-of = after-order-of .before in
-    let after-enum-told = after-roads-of .before in
-    let after-lengths-of = after-enum-told .before .before .before in
-    let start = after-lengths-of .before .before .before .before .before .before .before .before .before .before .before .before in
-    let a = start .args in
-    let k = known after-enum-told in
+    let at-match-keys2 = c .before .before .before .before .before .before .before .before in
+    let a = start at-match-keys2 .args in
+    let k = known (after-enum-told c) in
     let g = go-facts (headerIn (a .self)) (baseOn (a .card .now)) (a .start .0) (length (a .route .now)) (length (a .log .now))
     (k .asked) in
-    let f = fits-facts (headerIn (a .self)) (length (a .card .now)) (lengths (areas start)) (k .fits) in (
+    let f = fits-facts (headerIn (a .self)) (length (a .card .now)) (lengths (areas (start at-match-keys2))) (k .fits) in (
       g .start,
       omega (arith, c .aimed-at .ensures, k .target),
       g .route-room,
       g .log-room,
-      sized (a .card .now) (areas start) f (after-roads-of .roads-of .ensures) (after-order-of .order-of .ensures),
+      sized (a .card .now) (areas (start at-match-keys2)) f (after-roads-of c .roads-of .ensures) (after-order-of c .order-of .ensures),
     )
 
 returns : tie.Need-returns
@@ -103,16 +114,13 @@ returns-2 : tie.Need-returns-2
 returns-2 c =
     let after-search = c .before .before .before .before .before .before .before .before .before .before in
     let after-aimed-at = after-search .before in
-    let after-order-of = after-aimed-at .before .before .before .before .before in
-    let after-roads-of = after-order-of .before in
-    let after-enum-told = after-roads-of .before in
-    let after-lengths-of = after-enum-told .before .before .before in
-    let start = after-lengths-of .before .before .before .before .before .before .before .before .before .before .before .before in
-    let a = start .args in
-    let k = known after-enum-told in
+    let at-match-keys2 = after-aimed-at .before .before .before .before .before .before .before .before in
+    let a = start at-match-keys2 .args in
+    let k = known (after-enum-told after-aimed-at) in
     let e = after-search .search .ensures in
-    go-handed (a .card .now) (a .self) (areas start) (a .start .0) (lent start) (k .fits) (k .asked)
-    (after-aimed-at .aimed-at .ensures) (after-roads-of .roads-of .ensures) (after-order-of .order-of .ensures) e
+    go-handed (a .card .now) (a .self) (areas (start at-match-keys2)) (a .start .0) (lent (start at-match-keys2)) (k .fits) (k .asked)
+    (after-aimed-at .aimed-at .ensures) (after-roads-of after-aimed-at .roads-of .ensures)
+    (after-order-of after-aimed-at .order-of .ensures) e
     (c .before .gone .ensures) (c .answered2 .result) (c .answered2 .ensures)
 
 pub go-spec : {M : Type 1} → statement M

@@ -19,45 +19,48 @@ start c = c .before .before
 
 -- 9 has passed
 known : (c : tie.Else1) →
-    let a = start (c .before) .args in
+    let after-fits2 = c .before in
+    let a = start (after-fits2) .args in
     Fits (headerIn (a .self)) (length (a .card .now)) (lengthsIn (a .l))
 known c = fits-facts _ _ _ (sym (c .before .fits2 .ensures) ∙ not-false _ (c .if1 .left))
 
 returns : tie.Need-returns
 returns c =
-    let start-here = c .before .before .before in
-    let a = start-here .args in
+    let after-fits2 = c .before in
+    let a = start after-fits2 .args in
     set-9 (baseOn (a .card .now)) (headerIn (a .self)) (length (a .card .now)) (lengthsIn (a .l)) (a .road) (a .time .0)
-    (c .before .fits2 .ensures) (not-true _ (c .if1 .taken))
+    (after-fits2 .fits2 .ensures) (not-true _ (c .if1 .taken))
 
 returns-2 : tie.Need-returns-2
 returns-2 c =
-    let else1 = c .before in
-    let a = start (else1 .before) .args in
+    let after-fits2 = c .before .before in
+    let a = start (after-fits2) .args in
     set-10 (baseOn (a .card .now)) (headerIn (a .self)) (length (a .card .now)) (lengthsIn (a .l)) (a .road) (a .time .0)
-    (else1 .before .fits2 .ensures) (not-false _ (else1 .if1 .left)) (c .if2 .taken)
+    (after-fits2 .fits2 .ensures) (not-false _ (c .before .if1 .left)) (c .if2 .taken)
 
 roads-of-requires : tie.Need-roads-of-requires
-roads-of-requires c κs = omega (arith, known (c .before) .size)
+roads-of-requires c κs =
+    let else1 = c .before in
+    omega (arith, known (else1) .size)
 
 base-of-requires : tie.Need-base-of-requires
 base-of-requires c κs =
-    let else2 = c .before in
-    let else1 = else2 .before in
-    road-there (start (else1 .before) .args .card .now) (known else1) _ _ (c .roads-of .ensures) (else2 .if2 .left)
+    let else1 = c .before .before in
+    let after-fits2 = else1 .before in
+    road-there (start (after-fits2) .args .card .now) (known else1) _ _ (c .roads-of .ensures) (c .before .if2 .left)
 
 returns-3 : tie.Need-returns-3
 returns-3 c =
-    let after-allowed = c .before in
-    let after-base-of = after-allowed .before in
+    let after-base-of = c .before .before in
     let after-roads-of = after-base-of .before in
     let else2 = after-roads-of .before in
     let else1 = else2 .before in
-    let a = start (else1 .before) .args in
+    let after-fits2 = else1 .before in
+    let a = start (after-fits2) .args in
     set-11 (baseOn (a .card .now)) (headerIn (a .self)) (length (a .card .now)) (lengthsIn (a .l)) (a .road) (a .time .0)
-    (else1 .before .fits2 .ensures) (not-false _ (else1 .if1 .left)) (else2 .if2 .left) (c .ask .ensures)
-    (word-read (start (else1 .before) .args .card .now) _ _ _ _ _ (else2 .if2 .left) (after-roads-of .roads-of .ensures)
-    (after-base-of .base-of .ensures) (after-allowed .allowed .ensures))
+    (after-fits2 .fits2 .ensures) (not-false _ (else1 .if1 .left)) (else2 .if2 .left) (c .ask .ensures)
+    (word-read (start (after-fits2) .args .card .now) _ _ _ _ _ (else2 .if2 .left) (after-roads-of .roads-of .ensures)
+    (after-base-of .base-of .ensures) (c .before .allowed .ensures))
 
 pub set-asked-spec : {M : Type 1} → statement M
 set-asked-spec =
