@@ -40,9 +40,11 @@ times u d t = record { entry = timesOf (u .entry) (d .entry) (t .entry); exit = 
 -- ---- the roads of the rows
 
 -- room for the lists of roads, of which none has begun
-abbrev pub Unlinked : Links → Type 0
-Unlinked l = Ranked (l .roads) (l .ranks) × (length (l .ranks) ≤ length (l .first)) × (length (l .roads) / 12 ≤ length (l .next))
-    × ((r : ℕ) → r < length (l .ranks) → getD (l .first) r 0 ≡ 0)
+pub record Unlinked (l : Links) : Type 0 where
+  pub ranked : Ranked (l .roads) (l .ranks)
+  pub firsts-in : length (l .ranks) ≤ length (l .first)
+  pub nexts-in : length (l .roads) / 12 ≤ length (l .next)
+  pub firsts-none : (r : ℕ) → r < length (l .ranks) → getD (l .first) r 0 ≡ 0
 
 -- every road is linked
 abbrev pub AllLinked : Links → Type 0

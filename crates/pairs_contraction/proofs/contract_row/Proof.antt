@@ -29,7 +29,7 @@ relax-roads-requires : tie.Need-relax-roads-requires
 relax-roads-requires c κs =
     let after-shared-slice-known3 = c .before .before .before .before .before .before .before .before .before .before .before .before in
     let start = after-shared-slice-known3 .before .before .before in
-    (start .pre .0, start .pre .2, start .pre .1 .ups-none, start .pre .1 .downs-none, blocks mostBlocks _ 0 (start .pre .3))
+    (start .pre .grouped, start .pre .rank-in, start .pre .ready .ups-none, start .pre .ready .downs-none, blocks mostBlocks _ 0 (start .pre .ranks-high))
 
 pass-lower-requires : tie.Need-pass-lower-requires
 pass-lower-requires c κs =
@@ -39,10 +39,10 @@ pass-lower-requires c κs =
     let start = after-slice-known .before .before .before .before .before in (
       (
         _,
-        (lower-start (start .pre .1) (start .pre .2) (after-relax-roads .relax-roads .ensures .ups-are)
+        (lower-start (start .pre .ready) (start .pre .rank-in) (after-relax-roads .relax-roads .ensures .ups-are)
             (after-relax-roads .relax-roads .ensures .downs-are) (after-relax-roads .relax-roads .ensures .marked)),
       ),
-      start .pre .3,
+      start .pre .ranks-high,
     )
 
 append-row-requires : tie.Need-append-row-requires
@@ -54,24 +54,24 @@ append-row-requires c κs =
     let after-slice-known = after-relax-roads .before .before .before .before .before .before .before .before .before .before .before in
     let start = after-slice-known .before .before .before .before .before in
     let s = (after-pass-lower .pass-lower .ensures
-    _ (lower-start (start .pre .1) (start .pre .2) (after-relax-roads .relax-roads .ensures .ups-are)
+    _ (lower-start (start .pre .ready) (start .pre .rank-in) (after-relax-roads .relax-roads .ensures .ups-are)
     (after-relax-roads .relax-roads .ensures .downs-are) (after-relax-roads .relax-roads .ensures .marked))) .stage in (
-      start .pre .2,
-      start .pre .3,
+      start .pre .rank-in,
+      start .pre .ranks-high,
       s .marked .wide,
       s .ups-are .wide,
       s .downs-are .wide,
-      start .pre .1 .holds .room,
-      start .pre .1 .area,
+      start .pre .ready .holds .room,
+      start .pre .ready .area,
     )
 
 ahead-at-requires : tie.Need-ahead-at-requires
 ahead-at-requires c κs =
     let after-k = c .before .before in
     let after-append-row = after-k .before .before .before .before .before .before .before .before in
-    (after-append-row .append-row .ensures _ (row-times (start after-append-row .pre .1)
+    (after-append-row .append-row .ensures _ (row-times (start after-append-row .pre .ready)
     (after-pass-lower after-append-row .pass-lower .ensures
-    _ (lower-start (start after-append-row .pre .1) (start after-append-row .pre .2)
+    _ (lower-start (start after-append-row .pre .ready) (start after-append-row .pre .rank-in)
     (after-relax-roads after-append-row .relax-roads .ensures .ups-are)
     (after-relax-roads after-append-row .relax-roads .ensures .downs-are)
     (after-relax-roads after-append-row .relax-roads .ensures .marked))))) .appended .all
@@ -83,13 +83,13 @@ begin-front-requires c κs =
     let after-append-row = at-match-keys2 .before .before .before .before .before .before .before in
     let start = start after-append-row in
     let s = (after-pass-lower after-append-row .pass-lower .ensures
-    _ (lower-start (start .pre .1) (start .pre .2) (after-relax-roads after-append-row .relax-roads .ensures .ups-are)
+    _ (lower-start (start .pre .ready) (start .pre .rank-in) (after-relax-roads after-append-row .relax-roads .ensures .ups-are)
     (after-relax-roads after-append-row .relax-roads .ensures .downs-are)
     (after-relax-roads after-append-row .relax-roads .ensures .marked))) in (
-      lt-le (start .pre .2) (s .stage .wide .cursors),
-      lt-le (start .pre .2) (s .stage .wide .aheads),
-      lt-le (start .pre .2) (s .stage .wide .ends-too),
-      lt-le (start .pre .2) (s .sooner .wide),
+      lt-le (start .pre .rank-in) (s .stage .wide .cursors),
+      lt-le (start .pre .rank-in) (s .stage .wide .aheads),
+      lt-le (start .pre .rank-in) (s .stage .wide .ends-too),
+      lt-le (start .pre .rank-in) (s .sooner .wide),
     )
 
 same-length : tie.Need-same-length
@@ -132,12 +132,12 @@ returns c =
     let after-append-row = c .before .before .before .before .before .before .before .before in
     let after-relax-roads = after-relax-roads after-append-row in
     let start = start after-append-row in
-    row-overflow (start .pre .1) (after-pass-lower after-append-row .pass-lower .ensures
-    _ (lower-start (start .pre .1) (start .pre .2) (after-relax-roads .relax-roads .ensures .ups-are)
+    row-overflow (start .pre .ready) (after-pass-lower after-append-row .pass-lower .ensures
+    _ (lower-start (start .pre .ready) (start .pre .rank-in) (after-relax-roads .relax-roads .ensures .ups-are)
     (after-relax-roads .relax-roads .ensures .downs-are) (after-relax-roads .relax-roads .ensures .marked))) (c .enum-told .given .1)
-    (after-append-row .append-row .ensures _ (row-times (start .pre .1)
+    (after-append-row .append-row .ensures _ (row-times (start .pre .ready)
     (after-pass-lower after-append-row .pass-lower .ensures
-    _ (lower-start (start .pre .1) (start .pre .2) (after-relax-roads .relax-roads .ensures .ups-are)
+    _ (lower-start (start .pre .ready) (start .pre .rank-in) (after-relax-roads .relax-roads .ensures .ups-are)
     (after-relax-roads .relax-roads .ensures .downs-are) (after-relax-roads .relax-roads .ensures .marked)))))
 
 same-length-8 : tie.Need-same-length-8
@@ -193,12 +193,12 @@ returns-2 c =
     let after-append-row = after-append-row after-begin-front in
     let after-relax-roads = after-relax-roads after-append-row in
     let start = start after-append-row in
-    row-kept (start .pre .1) (after-pass-lower after-append-row .pass-lower .ensures
-    _ (lower-start (start .pre .1) (start .pre .2) (after-relax-roads .relax-roads .ensures .ups-are)
+    row-kept (start .pre .ready) (after-pass-lower after-append-row .pass-lower .ensures
+    _ (lower-start (start .pre .ready) (start .pre .rank-in) (after-relax-roads .relax-roads .ensures .ups-are)
     (after-relax-roads .relax-roads .ensures .downs-are) (after-relax-roads .relax-roads .ensures .marked)))
-    (after-append-row .append-row .ensures _ (row-times (start .pre .1)
+    (after-append-row .append-row .ensures _ (row-times (start .pre .ready)
     (after-pass-lower after-append-row .pass-lower .ensures
-    _ (lower-start (start .pre .1) (start .pre .2) (after-relax-roads .relax-roads .ensures .ups-are)
+    _ (lower-start (start .pre .ready) (start .pre .rank-in) (after-relax-roads .relax-roads .ensures .ups-are)
     (after-relax-roads .relax-roads .ensures .downs-are) (after-relax-roads .relax-roads .ensures .marked))))) (after-k .k .given .1)
     (after-ahead-at .ahead-at .ensures) (after-append-row .append-row .kept .1 .1 .1 .1 .1 .1 .0) (after-begin-front .begin-front .ensures)
 

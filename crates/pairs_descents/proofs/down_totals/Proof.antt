@@ -21,7 +21,7 @@ loop-holds c =
     let start = after-fill .before .before .before .before .before in (
       search needs,
       simp length-set (search needs),
-      descend-start _ _ _ _ _ (search needs) _ _ _ (start .pre .3)
+      descend-start _ _ _ _ _ (search needs) _ _ _ (start .pre .down-is)
           (after-fill .fill .ensures) (c .word .ensures ∙ c .before .of-word .ensures),
     )
 

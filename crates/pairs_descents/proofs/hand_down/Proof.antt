@@ -49,7 +49,7 @@ slice-write-down c =
     let else5 = c .before .before .before .before .before .before in
     let else2 = else5 .before .before .before .before .before .before .before .before .before .before .before in
     let start = else2 .before .before .before .before .before .before .before .before .before in
-    omega (arith, else5 .if5 .left, start .pre .2)
+    omega (arith, else5 .if5 .left, start .pre .down-is)
 
 returns-6 : tie.Need-returns-6
 returns-6 c =

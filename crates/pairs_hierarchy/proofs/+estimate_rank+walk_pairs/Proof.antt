@@ -126,7 +126,7 @@ pub +estimate-rank+walk-pairs-spec : {M : Type 1} → statement M
       arith,
       u,
       after-walk-pairs .walk-pairs .kept .1 .1 .1 .1 .1 .0,
-      start .pre .1 .4,
+      start .pre .n-high .4,
     ))
     (λ c. search needs)
     (λ c.
@@ -140,7 +140,7 @@ pub +estimate-rank+walk-pairs-spec : {M : Type 1} → statement M
     let u = unasked-entry _ _ _ _ _ (after-junction-of .junction-of .ensures)
     (sym (after-known-of .known-of .ensures) ∙ eqb-true
     _ _ (sym (after-is-unasked .is-unasked .ensures) ∙ not-false _ (else1 .if1 .left))) in
-    let p = start .pre .1 in
+    let p = start .pre .n-high in
     computed _ _ _ _ _ _ _ (p .0) (after-junction-of .junction-of .result .0) (after-junction-of .junction-of .ensures) _ _ _ _ _ (u .1)
     (after-walk-pairs .walk-pairs .kept .1 .1 .1 .1 .1 .0 ∙ p .4) (after-of-word .of-word .ensures)
     (after-walk-pairs .walk-pairs .ensures) (c .before .answer-of .ensures)
@@ -187,7 +187,7 @@ pub +estimate-rank+walk-pairs-spec : {M : Type 1} → statement M
     let at-loop = after-leads-up .before .before .before .before .before .before .before .before in
     let start = at-loop .before .before .before .before .before .before in
     let f = leads-facts _ _ _ _ _ (sym (after-leads-up .leads-up .ensures) ∙ c .before .if2 .taken) in
-    let p = start .pre .1 in
+    let p = start .pre .n-high in
     (f .below, p .1, p .2, at-loop .loop .inv .1))
     (λ c κs. search needs)
     (λ c κs.
@@ -196,8 +196,8 @@ pub +estimate-rank+walk-pairs-spec : {M : Type 1} → statement M
     let at-loop = after-leads-up .before .before .before .before .before .before .before .before in
     let start = at-loop .before .before .before .before .before .before in
     let f = leads-facts _ _ _ _ _ (sym (after-leads-up .leads-up .ensures) ∙ then2 .if2 .taken) in
-    let p = start .pre .1 in (
-      omega (arith, f .rises, f .below, start .pre .0),
+    let p = start .pre .n-high in (
+      omega (arith, f .rises, f .below, start .pre .rank-in),
       (f .below, p .1, p .2, p .3, at-loop .loop .inv .1, p .5, p .6),
     ))
     (λ c κs. search needs)
@@ -214,7 +214,7 @@ pub +estimate-rank+walk-pairs-spec : {M : Type 1} → statement M
     let start = at-loop .before .before .before .before .before .before in (
       search needs,
       after-estimate-rank .estimate-rank .kept .1 .1 .1 .1 .1 .0 ∙ at-loop .loop .inv .1,
-      walk-take _ _ _ _ _ _ _ _ (start .pre .1 .0) _ _ _ (at-loop .loop .inv .2) (in-loop .loop-test .taken)
+      walk-take _ _ _ _ _ _ _ _ (start .pre .n-high .0) _ _ _ (at-loop .loop .inv .2) (in-loop .loop-test .taken)
           (leads-read _ _ _ _ _ _ _ _ _ (after-leads-up .leads-up .ensures) (after-low-of .low-of .ensures)
           (after-high-of .high-of .ensures) (after-up-of .up-of .ensures) ∙ then2 .if2 .taken) _ _ _ _ _ (after-high-of .high-of .ensures)
           (after-up-of .up-of .ensures) (after-estimate-rank .estimate-rank .ensures) (c .or-sum .ensures),
@@ -236,7 +236,7 @@ pub +estimate-rank+walk-pairs-spec : {M : Type 1} → statement M
     let f = leads-facts _ _ _ _ _ (sym (after-leads-up .leads-up .ensures) ∙ then2 .if2 .taken) in (
       search needs,
       search needs,
-      walk-take _ _ _ _ _ _ _ _ (start .pre .1 .0) _ _ _ (l .2) (in-loop .loop-test .taken)
+      walk-take _ _ _ _ _ _ _ _ (start .pre .n-high .0) _ _ _ (l .2) (in-loop .loop-test .taken)
           (leads-read _ _ _ _ _ _ _ _ _ (after-leads-up .leads-up .ensures) (after-low-of .low-of .ensures)
           (after-high-of .high-of .ensures) (after-up-of .up-of .ensures) ∙ then2 .if2 .taken) _ _ _ _ _ (after-high-of .high-of .ensures)
           (after-up-of .up-of .ensures) (stands _ _ _ _ _ _ _ (f .below) (l .1) _ (after-known-of .known-of .ensures)
@@ -252,7 +252,7 @@ pub +estimate-rank+walk-pairs-spec : {M : Type 1} → statement M
     let start = at-loop .before .before .before .before .before .before in (
       search needs,
       search needs,
-      walk-skip _ _ _ _ _ _ _ _ (start .pre .1 .0) _ _ _ (at-loop .loop .inv .2) (in-loop .loop-test .taken)
+      walk-skip _ _ _ _ _ _ _ _ (start .pre .n-high .0) _ _ _ (at-loop .loop .inv .2) (in-loop .loop-test .taken)
           (leads-read _ _ _ _ _ _ _ _ _ (c .before .leads-up .ensures) (after-low-of .low-of .ensures) (after-high-of .high-of .ensures)
           (after-up-of .up-of .ensures) ∙ c .if2 .left),
     ))

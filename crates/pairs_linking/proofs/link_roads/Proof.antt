@@ -25,27 +25,27 @@ start c = at-loop c .before .before .before .before .before
 loop-holds : tie.Need-loop-holds Inv-loop μ-loop
 loop-holds c =
     let start = c .before .before .before .before in
-    (search needs, search needs, search needs, linked-start _ _ _ _ (start .pre .3))
+    (search needs, search needs, search needs, linked-start _ _ _ _ (start .pre .firsts-none))
 
 slice-read-next : tie.Need-slice-read-next Inv-loop μ-loop
 slice-read-next c =
     let after-row-of = c .before .before in
-    omega (arith, after-row-of .row-of .ensures .1, start after-row-of .pre .1, at-loop after-row-of .loop .inv .1)
+    omega (arith, after-row-of .row-of .ensures .1, start after-row-of .pre .firsts-in, at-loop after-row-of .loop .inv .1)
 
 slice-write-next : tie.Need-slice-write-next Inv-loop μ-loop
 slice-write-next c =
     let after-row-of = c .before .before in
-    omega (arith, start after-row-of .pre .2, at-loop after-row-of .loop .inv .2)
+    omega (arith, start after-row-of .pre .nexts-in, at-loop after-row-of .loop .inv .2)
 
 cast-first : tie.Need-cast-first Inv-loop μ-loop
 cast-first c =
     let after-row-of = c .before .before in
-    omega (arith, start after-row-of .pre .0 .most)
+    omega (arith, start after-row-of .pre .ranked .most)
 
 slice-write-first : tie.Need-slice-write-first Inv-loop μ-loop
 slice-write-first c =
     let after-row-of = c .before .before in
-    omega (arith, after-row-of .row-of .ensures .1, start after-row-of .pre .1, at-loop after-row-of .loop .inv .1)
+    omega (arith, after-row-of .row-of .ensures .1, start after-row-of .pre .firsts-in, at-loop after-row-of .loop .inv .1)
 
 loop-again : tie.Need-loop-again Inv-loop μ-loop
 loop-again c =
@@ -56,10 +56,10 @@ loop-again c =
       simp length-set (at-loop .loop .inv .2),
       linked-turn _ _ _ _ (at-loop .loop .i) (after-row-of .row-of .result .0) _ (omega (
         arith,
-        start after-row-of .pre .1,
+        start after-row-of .pre .firsts-in,
         at-loop .loop .inv .1,
       ))
-          (omega (arith, start after-row-of .pre .2, at-loop .loop .inv .2)) (after-row-of .row-of .ensures .1)
+          (omega (arith, start after-row-of .pre .nexts-in, at-loop .loop .inv .2)) (after-row-of .row-of .ensures .1)
           (after-row-of .row-of .ensures .0) refl
           (at-loop .loop .inv .3),
     )

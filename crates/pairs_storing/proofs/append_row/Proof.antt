@@ -41,23 +41,23 @@ start-of-in-loop c = c .before .before .before .before .before .before .before
 loop-holds : tie.Need-loop-holds Inv-loop μ-loop
 loop-holds c =
     let start = c .before .before .before .before .before in
-    (search needs, lt-next (start .pre .0), start .pre .5, refl, refl, refl, λ w g. append-start g)
+    (search needs, lt-next (start .pre .rank-in), start .pre .records-in, refl, refl, refl, λ w g. append-start g)
 
 shared-slice-read-if1 : tie.Need-shared-slice-read-if1 Inv-loop μ-loop
 shared-slice-read-if1 c =
     let in-loop = c .before in
-    omega (arith, start-of-in-loop in-loop .pre .2, in-loop .loop-test .taken)
+    omega (arith, start-of-in-loop in-loop .pre .touched-long, in-loop .loop-test .taken)
 
 mul-least : tie.Need-mul-least Inv-loop μ-loop
 mul-least c =
     let p = (let in-loop = c .before .before in
-    start-of-in-loop in-loop .pre .1) in let q = (let in-loop = c .before .before in
+    start-of-in-loop in-loop .pre .n-high) in let q = (let in-loop = c .before .before in
     in-loop .loop-test .taken) in search needs
 
 add-least : tie.Need-add-least Inv-loop μ-loop
 add-least c =
     let p = (let in-loop = c .before .before in
-    start-of-in-loop in-loop .pre .1) in let q = (let in-loop = c .before .before in
+    start-of-in-loop in-loop .pre .n-high) in let q = (let in-loop = c .before .before in
     in-loop .loop-test .taken) in search needs
 
 loop-less : tie.Need-loop-less Inv-loop μ-loop
@@ -83,13 +83,13 @@ take-time-requires : tie.Need-take-time-requires Inv-loop μ-loop
 take-time-requires c κs =
     let in-loop = c .before .before .before in
     let at-loop = in-loop .before in
-    in-kept (in-loop .loop-test .taken) (start-of-in-loop in-loop .pre .3) (at-loop .loop .inv .4)
+    in-kept (in-loop .loop-test .taken) (start-of-in-loop in-loop .pre .ups-long) (at-loop .loop .inv .4)
 
 take-time-requires-2 : tie.Need-take-time-requires-2 Inv-loop μ-loop
 take-time-requires-2 c κs =
     let in-loop = c .before .before .before .before .before .before .before in
     let at-loop = in-loop .before in
-    in-kept (in-loop .loop-test .taken) (start-of-in-loop in-loop .pre .4) (at-loop .loop .inv .5)
+    in-kept (in-loop .loop-test .taken) (start-of-in-loop in-loop .pre .downs-long) (at-loop .loop .inv .5)
 
 same-length : tie.Need-same-length Inv-loop μ-loop
 same-length c =
@@ -114,9 +114,9 @@ returns c =
     λ w g. append-full g (at-loop .loop .h) (after-take-time after-is-kept .take-time .result .0)
     (after-take-time2 after-is-kept .take-time2 .result .0)
     (at-loop .loop .k) (at-loop .loop .ups) (at-loop .loop .downs) _ _ (at-loop .loop .pairs) _ (at-loop .loop .inv .0)
-    (in-loop after-is-kept .loop-test .taken) (in-kept (in-loop after-is-kept .loop-test .taken) (start after-is-kept .pre .3)
+    (in-loop after-is-kept .loop-test .taken) (in-kept (in-loop after-is-kept .loop-test .taken) (start after-is-kept .pre .ups-long)
     (at-loop .loop .inv .4))
-    (in-kept (in-loop after-is-kept .loop-test .taken) (start after-is-kept .pre .4) (at-loop .loop .inv .5))
+    (in-kept (in-loop after-is-kept .loop-test .taken) (start after-is-kept .pre .downs-long) (at-loop .loop .inv .5))
     (after-take-time after-is-kept .take-time .ensures .0)
     (after-take-time after-is-kept .take-time .ensures .1) (after-take-time2 after-is-kept .take-time2 .ensures .0)
     (after-take-time2 after-is-kept .take-time2 .ensures .1)
@@ -131,12 +131,12 @@ put-record-requires c κs =
 add-k : tie.Need-add-k Inv-loop μ-loop
 add-k c =
     let after-is-kept = c .before .before .before .before .before .before .before in
-    record { fits = count-fits _ (at-loop after-is-kept .loop .inv .2) (start after-is-kept .pre .6) }
+    record { fits = count-fits _ (at-loop after-is-kept .loop .inv .2) (start after-is-kept .pre .pairs-high) }
 
 add-words-of : tie.Need-add-words-of Inv-loop μ-loop
 add-words-of c =
     let after-is-kept = c .before in
-    record { fits = count-fits _ (at-loop after-is-kept .loop .inv .2) (start after-is-kept .pre .6) }
+    record { fits = count-fits _ (at-loop after-is-kept .loop .inv .2) (start after-is-kept .pre .pairs-high) }
 
 loop-less-2 : tie.Need-loop-less-2 Inv-loop μ-loop
 loop-less-2 c =
@@ -162,8 +162,8 @@ loop-again-2 c =
       after-take-time2 .take-time2 .kept .0 ∙ at-loop .loop .inv .5,
       λ w g. append-put g (at-loop .loop .h) (after-take-time .take-time .result .0) (after-take-time2 .take-time2 .result .0)
           (at-loop .loop .k) (at-loop .loop .ups) (at-loop .loop .downs) _ _ (at-loop .loop .pairs) _ (at-loop .loop .inv .0)
-          (in-loop .loop-test .taken) (in-kept (in-loop .loop-test .taken) (start after-is-kept .pre .3) (at-loop .loop .inv .4))
-          (in-kept (in-loop .loop-test .taken) (start after-is-kept .pre .4) (at-loop .loop .inv .5))
+          (in-loop .loop-test .taken) (in-kept (in-loop .loop-test .taken) (start after-is-kept .pre .ups-long) (at-loop .loop .inv .4))
+          (in-kept (in-loop .loop-test .taken) (start after-is-kept .pre .downs-long) (at-loop .loop .inv .5))
           (after-take-time .take-time .ensures .0)
           (after-take-time .take-time .ensures .1) (after-take-time2 .take-time2 .ensures .0) (after-take-time2 .take-time2 .ensures .1)
           (after-is-kept .is-kept .ensures) (at-loop .loop .inv .6 w g) (then2 .if2 .taken) _ _ (after-put-record .put-record .ensures)
@@ -190,8 +190,8 @@ loop-again-3 c =
       after-take-time2 .take-time2 .kept .0 ∙ at-loop .loop .inv .5,
       λ w g. append-skip g (at-loop .loop .h) (after-take-time .take-time .result .0) (after-take-time2 .take-time2 .result .0)
           (at-loop .loop .k) (at-loop .loop .ups) (at-loop .loop .downs) _ _ (at-loop .loop .pairs) _ (at-loop .loop .inv .0)
-          (in-loop .loop-test .taken) (in-kept (in-loop .loop-test .taken) (start after-is-kept .pre .3) (at-loop .loop .inv .4))
-          (in-kept (in-loop .loop-test .taken) (start after-is-kept .pre .4) (at-loop .loop .inv .5))
+          (in-loop .loop-test .taken) (in-kept (in-loop .loop-test .taken) (start after-is-kept .pre .ups-long) (at-loop .loop .inv .4))
+          (in-kept (in-loop .loop-test .taken) (start after-is-kept .pre .downs-long) (at-loop .loop .inv .5))
           (after-take-time .take-time .ensures .0)
           (after-take-time .take-time .ensures .1) (after-take-time2 .take-time2 .ensures .0) (after-take-time2 .take-time2 .ensures .1)
           (after-is-kept .is-kept .ensures) (at-loop .loop .inv .6 w g) (c .if2 .left),

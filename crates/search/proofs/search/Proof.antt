@@ -21,8 +21,8 @@ returns c =
     let after-is-none = c .before in
     let after-of-word = after-is-none .before in
     let start = start after-is-none in
-    searches-lost _ _ _ _ _ (start .args .route .now) _ _ _ (start .pre .4 .roads-are)
-    (start .pre .4 .order-is) (start .pre .0) (start .pre .1) (after-advance after-is-none .advance .ensures)
+    searches-lost _ _ _ _ _ (start .args .route .now) _ _ _ (start .pre .sized .roads-are)
+    (start .pre .sized .order-is) (start .pre .start-in) (start .pre .target-in) (after-advance after-is-none .advance .ensures)
     (after-of-word .of-word .ensures)
     (sym (after-is-none .is-none .ensures) ∙ c .if1 .taken)
 
@@ -30,10 +30,10 @@ way-back-requires : tie.Need-way-back-requires
 way-back-requires c κs =
     let after-is-none = c .before .before .before in
     let start = start after-is-none in (
-      start .pre .1,
-      omega (arith, after-advance after-is-none .advance .kept .1 .1 .1 .1 .1 .1 .1 .1 .1 .1 .0, start .pre .4 .n-high),
-      omega (arith, start .pre .4 .roads-are),
-      start .pre .2,
+      start .pre .target-in,
+      omega (arith, after-advance after-is-none .advance .kept .1 .1 .1 .1 .1 .1 .1 .1 .1 .1 .0, start .pre .sized .n-high),
+      omega (arith, start .pre .sized .roads-are),
+      start .pre .ways-long,
     )
 
 returns-2 : tie.Need-returns-2
@@ -43,8 +43,8 @@ returns-2 c =
     let after-is-none = else1 .before in
     let after-of-word = after-is-none .before in
     let start = start after-is-none in
-    searches-found _ _ _ _ _ (start .args .route .now) _ _ _ (start .pre .4 .roads-are)
-    (start .pre .4 .order-is) (start .pre .0) (start .pre .1) (after-advance after-is-none .advance .ensures)
+    searches-found _ _ _ _ _ (start .args .route .now) _ _ _ (start .pre .sized .roads-are)
+    (start .pre .sized .order-is) (start .pre .start-in) (start .pre .target-in) (after-advance after-is-none .advance .ensures)
     (after-of-word .of-word .ensures)
     _ _ (sym (after-is-none .is-none .ensures) ∙ else1 .if1 .left) (after-way-back .way-back .ensures .0)
     (after-way-back .way-back .ensures .1)
@@ -61,7 +61,7 @@ search-spec =
     let after-advance = c .before .before .before .before .before .before .before .before .before in
     let after-shared-slice-known5 = after-advance .before .before .before .before .before .before .before .before .before .before in
     let start = after-shared-slice-known5 .before .before .before .before .before in
-    below-kept (start .pre .1) (start .pre .4 .elapsed-is) (after-advance .advance .kept .1 .1 .1 .1 .1 .1 .1 .1 .1 .0))
+    below-kept (start .pre .target-in) (start .pre .sized .elapsed-is) (after-advance .advance .kept .1 .1 .1 .1 .1 .1 .1 .1 .1 .0))
     (λ c κs. search needs)
     (λ c κs. search needs)
     (λ c.

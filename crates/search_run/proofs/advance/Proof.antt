@@ -59,7 +59,7 @@ at-loop c = in-loop c .before
 group-requires : tie.Need-group-requires Inv-loop μ-loop
 group-requires c κs =
     let z = (let start = c .before .before .before .before .before .before .before .before .before .before .before in
-    start .pre .4) in (
+    start .pre .sized) in (
       omega (arith, z .roads-are),
       simp length-replicate (omega (arith, z .n-high, z .m-high)),
     )
@@ -68,13 +68,13 @@ ask-start-requires : tie.Need-ask-start-requires Inv-loop μ-loop
 ask-start-requires c κs =
     let after-group = c .before .before in
     let start = after-group .before .before .before .before .before .before .before .before .before .before .before .before in
-    (start .pre .0, pairs-in (start .pre .4) refl)
+    (start .pre .start-in, pairs-in (start .pre .sized) refl)
 
 begin-requires : tie.Need-begin-requires Inv-loop μ-loop
 begin-requires c κs =
     let after-group = c .before .before .before .before .before .before .before .before .before in
     let start = after-group .before .before .before .before .before .before .before .before .before .before .before .before in
-    (start .pre .0, room-blank (start .pre .4 .n-high) (start .pre .2))
+    (start .pre .start-in, room-blank (start .pre .sized .n-high) (start .pre .ways-long))
 
 choose-requires : tie.Need-choose-requires Inv-loop μ-loop
 choose-requires c κs =
@@ -87,7 +87,7 @@ loop-holds c =
     let after-group = after-begin .before .before .before .before .before .before .before .before .before .before in
     let start = after-group .before .before .before .before .before .before .before .before .before .before .before .before in
     let room = after-begin .begin .ensures .room in
-    running-start _ _ _ _ (first-inside room (omega (arith, start .pre .0)) (c .choose .ensures)) room
+    running-start _ _ _ _ (first-inside room (omega (arith, start .pre .start-in)) (c .choose .ensures)) room
 
 slice-write-log : tie.Need-slice-write-log Inv-loop μ-loop
 slice-write-log c =
@@ -98,7 +98,7 @@ slice-write-log c =
           (c .loop-test .taken) .1,
       at-loop .loop .inv .log-long,
       after-smaller at-loop .smaller .ensures,
-      start at-loop .pre .3,
+      start at-loop .pre .log-long,
     )
 
 add-c : tie.Need-add-c Inv-loop μ-loop
@@ -109,7 +109,7 @@ add-c c =
       turn-taken (at-loop .loop .v) (start at-loop .args .trip .sizes .n) (at-loop .loop .c) (after-smaller at-loop .smaller .result)
           (c .loop-test .taken) .1,
       after-smaller at-loop .smaller .ensures,
-      start at-loop .pre .4 .n-high,
+      start at-loop .pre .sized .n-high,
     )
 
 cast-elapsed : tie.Need-cast-elapsed Inv-loop μ-loop
@@ -119,7 +119,7 @@ cast-elapsed c =
       arith,
       turn-taken (at-loop .loop .v) (start at-loop .args .trip .sizes .n) (at-loop .loop .c) (after-smaller at-loop .smaller .result)
           (c .loop-test .taken) .0,
-      start at-loop .pre .4 .n-high,
+      start at-loop .pre .sized .n-high,
     )
 
 mul-elapsed : tie.Need-mul-elapsed Inv-loop μ-loop
@@ -129,7 +129,7 @@ mul-elapsed c =
       arith,
       turn-taken (at-loop .loop .v) (start at-loop .args .trip .sizes .n) (at-loop .loop .c) (after-smaller at-loop .smaller .result)
           (c .loop-test .taken) .0,
-      start at-loop .pre .4 .n-high,
+      start at-loop .pre .sized .n-high,
     )
 
 array-read-elapsed : tie.Need-array-read-elapsed Inv-loop μ-loop
@@ -149,7 +149,7 @@ cast-elapsed-2 c =
       arith,
       turn-taken (at-loop .loop .v) (start at-loop .args .trip .sizes .n) (at-loop .loop .c) (after-smaller at-loop .smaller .result)
           (c .loop-test .taken) .0,
-      start at-loop .pre .4 .n-high,
+      start at-loop .pre .sized .n-high,
     )
 
 mul-elapsed-2 : tie.Need-mul-elapsed-2 Inv-loop μ-loop
@@ -159,7 +159,7 @@ mul-elapsed-2 c =
       arith,
       turn-taken (at-loop .loop .v) (start at-loop .args .trip .sizes .n) (at-loop .loop .c) (after-smaller at-loop .smaller .result)
           (c .loop-test .taken) .0,
-      start at-loop .pre .4 .n-high,
+      start at-loop .pre .sized .n-high,
     )
 
 slice-write-elapsed : tie.Need-slice-write-elapsed Inv-loop μ-loop
@@ -171,7 +171,7 @@ slice-write-elapsed c =
           (c .loop-test .taken) .0,
       at-loop .loop .inv .elapsed-long,
       after-fill at-loop .fill .kept .0,
-      start at-loop .pre .4 .elapsed-is,
+      start at-loop .pre .sized .elapsed-is,
     )
 
 put-requires : tie.Need-put-requires Inv-loop μ-loop
@@ -223,7 +223,7 @@ ask-requires : tie.Need-ask-requires Inv-loop μ-loop
 ask-requires c κs =
     let in-loop = c .before .before .before .before .before .before .before .before .before in
     let at-loop = in-loop .before in
-    let z = start at-loop .pre .4 in (
+    let z = start at-loop .pre .sized in (
       asking z (at-loop .loop .inv .estimates-long ∙ after-ask-start at-loop .ask-start .kept .1 .1 .1 .1 .1 .0),
       linked (turn-taken (at-loop .loop .v) (start at-loop .args .trip .sizes .n) (at-loop .loop .c)
           (after-smaller at-loop .smaller .result)
@@ -235,7 +235,7 @@ relax-requires : tie.Need-relax-requires Inv-loop μ-loop
 relax-requires c κs =
     let after-ask = c .before .before .before .before .before .before .before .before in
     let at-loop = at-loop after-ask in
-    let z = start at-loop .pre .4 in
+    let z = start at-loop .pre .sized in
     let taken = turn-taken (at-loop .loop .v) (start at-loop .args .trip .sizes .n) (at-loop .loop .c)
     (after-smaller at-loop .smaller .result)
     (in-loop after-ask .loop-test .taken) in (
