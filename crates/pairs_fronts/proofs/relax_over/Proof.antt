@@ -81,7 +81,7 @@ loop-again c =
           (after-high-of after-down-of2 .high-of .ensures)
           (after-up-of2 .up-of2 .ensures) (after-relax-entry .relax-entry .ensures) (after-down-of2 .down-of2 .ensures)
           (after-relax-entry2 .relax-entry2 .ensures) (in-blocks
-          _ _ _ (by-below (after-high-of after-down-of2 .high-of .ensures)
+          (by-below (after-high-of after-down-of2 .high-of .ensures)
           (start after-down-of2 .pre .2 .marks-in (at-loop .loop .j) (at-loop .loop .inv .0)
           (in-loop after-down-of2 .loop-test .taken))) (at-loop .loop .inv .4))
           (after-mark .mark .ensures) (at-loop .loop .inv .5),
