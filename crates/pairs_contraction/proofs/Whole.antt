@@ -17,7 +17,7 @@ use mir.Val.{Fits}
 use Rattle.graph.specs.Total.{some-some}
 use Rattle.graph.specs.Least.{minBelow, minBelow-cong}
 use Rattle.graph.specs.Path.{EndsBelow, Weighs, Weights}
-use Rattle.graph.specs.Network.{Arc, arcOf, costBetween, direct, direct-least, ends-below}
+use Rattle.graph.specs.Network.{Arc, Network, arcOf, costBetween, direct, direct-least, ends-below}
 use Rattle.graph.specs.Pairs.{down, down-at, up, up-at}
 use Rattle.graph.specs.Records.{Pair, begins-length, edge, row, row-low, rows, rows-at, rows-begins}
 use Rattle.graph.specs.Bound.{CostsAtMost, down-bound, up-bound}
@@ -31,8 +31,8 @@ use Rattle.model.specs.Areas.{words}
 use Rattle.model.specs.Laws.{listed-at, listed-length}
 use Rattle.network.specs.Bodies.{MapFacts, Sound, base-in, head-in, map-facts, mapIn, tail-in}
 use Rattle.pairs_contraction.specs.declared.Contracted.the-variants.{Kept, Overflow}
-use Rattle.pairs_rows.specs.Links.{Grouped, Linked, Ranked, netIn}
-use Rattle.pairs_rows.specs.Rows.{Marked, Row, block}
+use Rattle.pairs_rows.specs.Links.{Ranked, netIn}
+use Rattle.pairs_rows.specs.Rows.{RoadTimes, Row, block, mostBlocks}
 use Rattle.pairs_rows.specs.Entries.{row-same}
 use Rattle.pairs_fronts.specs.Fronts.{Begun, Front, Holds, Lower, Narrow, Sooner, Stage}
 use Rattle.pairs_fronts.specs.Holding.{holds-at}
@@ -40,6 +40,7 @@ use Rattle.pairs_storing.specs.declared.Stored.{Stored}
 use Rattle.pairs_storing.specs.declared.Stored.the-variants.{All, Full}
 use Rattle.pairs_storing.specs.Storing.{RowAppended, RowTimes}
 use Rattle.pairs_contraction.specs.Contraction.{Contraction, Ready, RowDone}
+use Rattle.pairs_contraction.specs.Lending.{Lent}
 
 -- ---- the answers
 
@@ -49,42 +50,73 @@ kept-same e = cc
 kept-overflow : {a : ℕ} → Kept a ≡ Overflow → ⊥
 kept-overflow e = let z : _≡_ {A = ℕ} 0 1 = cc in omega arith
 
+-- ---- the areas
+
+-- no area has become longer or shorter
+pub record SameLengths (a a′ : Lent) : Type 0 where
+  pub pairs : length (a′ .pairs) ≡ length (a .pairs)
+  pub cursor : length (a′ .cursor) ≡ length (a .cursor)
+  pub ahead : length (a′ .ahead) ≡ length (a .ahead)
+  pub ends : length (a′ .ends) ≡ length (a .ends)
+  pub soon : length (a′ .soon) ≡ length (a .soon)
+  pub ups : length (a′ .ups) ≡ length (a .ups)
+  pub downs : length (a′ .downs) ≡ length (a .downs)
+
+pub lengths-same : {a : Lent} → SameLengths a a
+lengths-same = record { pairs = refl; cursor = refl; ahead = refl; ends = refl; soon = refl; ups = refl; downs = refl }
+
+pub lengths-on : {a a′ a″ : Lent} → SameLengths a a′ → SameLengths a′ a″ → SameLengths a a″
+lengths-on s t = record {
+  pairs = t .pairs ∙ s .pairs;
+  cursor = t .cursor ∙ s .cursor;
+  ahead = t .ahead ∙ s .ahead;
+  ends = t .ends ∙ s .ends;
+  soon = t .soon ∙ s .soon;
+  ups = t .ups ∙ s .ups;
+  downs = t .downs ∙ s .downs;
+}
+
+-- the row is relaxed over the ranks below k
+abbrev pub LowerIn : Weights → (n r k : ℕ) → Lent → (touched : List ℕ) → Type 0
+LowerIn w n r k a touched = Lower w n r k (a .pairs) (a .cursor) (a .ahead) (a .ends) (a .soon) (a .ups) (a .downs) touched
+
 -- ---- the row of times at first
 
-pub long : (k n v : ℕ) → n ≤ k → n ≤ length (replicate k v)
-long k n v h = rw (length-replicate k v) h
+pub long : {n : ℕ} (k v : ℕ) → n ≤ k → n ≤ length (replicate k v)
+long k v h = rw (length-replicate k v) h
 
 -- a word for each block
-pub blocks : (k n v : ℕ) → n ≤ block * k → n ≤ block * length (replicate k v)
-blocks k n v h = rw (length-replicate k v) h
+pub blocks : {n : ℕ} (k v : ℕ) → n ≤ block * k → n ≤ block * length (replicate k v)
+blocks k v h = rw (length-replicate k v) h
 
-pub none-row : (k r n : ℕ) → n ≤ k → Row r n (replicate k noneWord) (λ h. none)
-none-row k r n l = record { wide = long k n noneWord l; at = λ h rh hn. getD-replicate k h noneWord 0 (omega arith) }
+pub none-row : {n : ℕ} (k r : ℕ) → n ≤ k → Row r n (replicate k noneWord) (λ h. none)
+none-row k r l = record { wide = long k noneWord l; at = λ h rh hn. getD-replicate k h noneWord 0 (omega arith) }
 
 -- ---- a row
 
+-- the times of its roads are those over no rank
+pub lower-start : {N : Network} {n r count : ℕ} {pairs cursor ahead ends soon ups₀ downs₀ ups downs touched : List ℕ}
+    → Ready (direct N) n r count pairs cursor ahead ends soon ups₀ downs₀ → r < n → RoadTimes N r n ups downs touched
+    → Lower (direct N) n r 0 pairs cursor ahead ends soon ups downs touched
+lower-start {count = count} y rn t = record {
+  stage = record {
+    inside = rn;
+    wide = y .wide;
+    area = y .area;
+    narrow = y .narrow;
+    count = count;
+    holds = y .holds;
+    passed = λ v h. absurd (not-suc-le-zero h);
+    waiting = λ v h l. y .fronts v l;
+    ups-are = t .ups-are;
+    downs-are = t .downs-are;
+    marked = t .marked;
+  };
+  sooner = y .sooner;
+}
+
 module _ {w : Weights} {n r count : ℕ} {pairs cursor ahead ends soon ups₀ downs₀ : List ℕ}
     (y : Ready w n r count pairs cursor ahead ends soon ups₀ downs₀) where
-  pub lower-start : {ups downs touched : List ℕ} → r < n → Row r n ups (λ h. w r h) → Row r n downs (λ h. w h r)
-      → Marked r n touched ups downs
-      → Lower w n r 0 pairs cursor ahead ends soon ups downs touched
-  lower-start rn u d m = record {
-    stage = record {
-      inside = rn;
-      wide = y .wide;
-      area = y .area;
-      narrow = y .narrow;
-      count = count;
-      holds = y .holds;
-      passed = λ v h. absurd (not-suc-le-zero h);
-      waiting = λ v h l. y .fronts v l;
-      ups-are = u;
-      downs-are = d;
-      marked = m;
-    };
-    sooner = y .sooner;
-  }
-
   module _ {cursor′ ahead′ soon′ ups downs touched : List ℕ} (z : Lower w n r r pairs cursor′ ahead′ ends soon′ ups downs touched) where
     s : Stage w n r r pairs cursor′ ahead′ ends ups downs touched
     s = z .stage
@@ -223,22 +255,13 @@ module _ {w : Weights} {n r count : ℕ} {pairs cursor ahead ends soon ups₀ do
 -- ---- all rows
 
 -- the number of the next row fits
-pub row-fits : (r n k : ℕ) → r < n → n ≡ k → k ≤ mostJunctions → Fits w32 (r + 1)
-row-fits r n k h e l = omega arith
-
-pub grouped : {roads ranks first next : List ℕ} → Ranked roads ranks
-    → Linked (netIn roads ranks) (length ranks) (length roads / 12) first next → length ranks ≤ length first
-    → length roads / 12 ≤ length next → Grouped roads ranks first next
-grouped s l f x = record { ranked = s; linked = l; firsts-in = f; nexts-in = x }
+pub row-fits : {r n : ℕ} → r < n → n ≤ mostJunctions → Fits w32 (r + 1)
+row-fits {r} {n} h l = omega arith
 
 -- the roads and ranks that the code holds are the map's
 pub record Given (roads order ranks : List ℕ) : Type 0 where
   pub sound : Sound roads order
   pub ranks-are : ranks ≡ listed (mapIn roads order .vertices) (rank (mapIn roads order))
-
-pub given : {roads order ranks : List ℕ} → Sound roads order → ranks ≡ listed (mapIn roads order .vertices) (rank (mapIn roads order))
-    → Given roads order ranks
-given s e = record { sound = s; ranks-are = e }
 
 module _ {roads order ranks : List ℕ} (g : Given roads order ranks) where
   facts : MapFacts roads order
@@ -327,26 +350,30 @@ module _ {roads order ranks : List ℕ} (g : Given roads order ranks) where
       most : CostsAtMost (Arc (renamed (rank (mapIn roads order)) (mapIn roads order .base))) mostTime
       most x y k o = facts .most _ _ k (arcOf (o .index) (o .below) refl refl (o .at .costs))
 
-  pub ready-start : (pairs cursor ahead ends soon : List ℕ) → length pairs ≤ 4 * mostPairs → mostJunctions ≤ length cursor
-      → mostJunctions ≤ length ahead
-      → mostJunctions ≤ length ends → mostJunctions ≤ block * length soon
-      → Ready (direct (netIn roads ranks)) (length ranks) 0 0 pairs cursor ahead ends soon (replicate mostJunctions noneWord)
-      (replicate mostJunctions noneWord)
-  ready-start pairs cursor ahead ends soon area lc la le ls = record {
-    wide = record { cursors = omega (arith, ranks-most); aheads = omega (arith, ranks-most); ends-too = omega (arith, ranks-most) };
+  -- no row is made, in the areas as they are at first
+  pub ready-start : {pairs : List ℕ} → length pairs ≤ 4 * mostPairs → Ready (direct (netIn roads ranks)) (length ranks) 0 0 pairs
+      (replicate mostJunctions 0) (replicate mostJunctions 0) (replicate mostJunctions 0) (replicate mostBlocks mostJunctions)
+      (replicate mostJunctions noneWord) (replicate mostJunctions noneWord)
+  ready-start area = record {
+    wide = record {
+      cursors = long mostJunctions 0 ranks-most;
+      aheads = long mostJunctions 0 ranks-most;
+      ends-too = long mostJunctions 0 ranks-most;
+    };
     area = area;
     narrow = times-narrow;
     holds = record { count-is = refl; room = omega arith; words-are = refl };
     fronts = λ v h. absurd (not-suc-le-zero h);
-    sooner = record { wide = omega (arith, ranks-most); before = λ v h. absurd (not-suc-le-zero h) };
-    ups-none = none-row mostJunctions 0 (length ranks) ranks-most;
-    downs-none = none-row mostJunctions 0 (length ranks) ranks-most;
+    sooner = record { wide = blocks mostBlocks mostJunctions ranks-most; before = λ v h. absurd (not-suc-le-zero h) };
+    ups-none = none-row mostJunctions 0 ranks-most;
+    downs-none = none-row mostJunctions 0 ranks-most;
   }
 
-  pub contract-overflow : (r room : ℕ) (pairs : List ℕ) → r < length ranks → length pairs ≡ room
+  -- the pairs up to those of r do not fit, so all do not
+  pub contract-overflow : {r room : ℕ} {pairs : List ℕ} → r < length ranks → length pairs ≡ room
       → length pairs < 4 * length (rows (direct (netIn roads ranks)) (length ranks) (suc r))
       → Contraction (mapIn roads order) room pairs Overflow
-  contract-overflow r room pairs h e l = record {
+  contract-overflow {r} {room} {pairs} h e l = record {
     kept = λ k. absurd (omega (
       arith,
       begins-length (rows-begins (direct (netIn roads ranks)) (length ranks) (suc r) (length ranks) h),
@@ -355,14 +382,13 @@ module _ {roads order ranks : List ℕ} (g : Given roads order ranks) where
     overflow = λ k. refl;
   }
 
-  pub contract-end : {r count : ℕ} {pairs cursor ahead ends soon ups downs : List ℕ} (room : ℕ) (z : List ℕ) → r ≡ length ranks
-      → length pairs ≡ room
+  -- all rows are made, and the rest of the area is cleared
+  pub contract-end : {r count room : ℕ} {pairs cursor ahead ends soon ups downs pairs′ : List ℕ} → r ≡ length ranks → length pairs ≡ room
       → Ready (direct (netIn roads ranks)) (length ranks) r count pairs cursor ahead ends soon ups downs
-      → z ≡ take (4 * count) pairs ++ replicate (length pairs - 4 * count) 0
-      → Contraction (mapIn roads order) room z (Kept count)
-  contract-end {r} {count} {pairs} room z e l y ez =
-      let same : rows (direct (netIn roads ranks)) (length ranks) r ≡ pairsOf
-      (mapIn roads order) = ap (rows (direct (netIn roads ranks)) (length ranks)) e ∙ pairs-are in
+      → pairs′ ≡ take (4 * count) pairs ++ replicate (length pairs - 4 * count) 0 → Contraction (mapIn roads order) room pairs′ (Kept count)
+  contract-end {r} {count} {room} {pairs} e l y ez =
+      let same : rows (direct (netIn roads ranks)) (length ranks) r ≡ pairsOf (mapIn roads order) =
+      ap (rows (direct (netIn roads ranks)) (length ranks)) e ∙ pairs-are in
       let k : count ≡ length (pairsOf (mapIn roads order)) = y .holds .count-is ∙ ap length same in
       record {
         kept = λ h. (
