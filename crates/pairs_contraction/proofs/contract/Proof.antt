@@ -30,7 +30,8 @@ areas p c a e s u d = record { pairs = p; cursor = c; ahead = a; ends = e; soon 
 
 abbrev Inv-loop : tie.InvT-loop
 Inv-loop roads order ranks pairs₀ n first next cursor₀ ahead₀ ends₀ soon₀ ups₀ downs₀ count₀ r₀ pairs cursor ahead ends soon ups downs count
-    r = Contracting roads ranks n (areas pairs₀ cursor₀ ahead₀ ends₀ soon₀ ups₀ downs₀) r count (areas pairs cursor ahead ends soon ups downs)
+    r = Contracting roads ranks n (areas pairs₀ cursor₀ ahead₀ ends₀ soon₀ ups₀ downs₀) r count
+    (areas pairs cursor ahead ends soon ups downs)
 
 abbrev μ-loop : tie.MeasureT-loop
 μ-loop roads order ranks pairs₀ n first next cursor₀ ahead₀ ends₀ soon₀ ups₀ downs₀ count₀ r₀ pairs cursor ahead ends soon ups downs count
@@ -72,7 +73,8 @@ in-loop c = c .before .before .before .before .before .before .before .before .b
 lengths-kept : (c : tie.After-contract-row Inv-loop μ-loop) →
     let l = in-loop c .before .loop in
     let (_, (_, (_, (_, (_, (cursor, (ahead, (ends, (soon, (ups, (downs, (pairs, _)))))))))))) = c .contract-row .last in
-    SameLengths (areas (l .pairs) (l .cursor) (l .ahead) (l .ends) (l .soon) (l .ups) (l .downs)) (areas pairs cursor ahead ends soon ups downs)
+    SameLengths (areas (l .pairs) (l .cursor) (l .ahead) (l .ends) (l .soon) (l .ups) (l .downs))
+    (areas pairs cursor ahead ends soon ups downs)
 lengths-kept c =
     let (_, (_, (_, (_, (_, (cursor, (ahead, (ends, (soon, (ups, (downs, (pairs, _)))))))))))) = c .contract-row .kept in
     record { pairs = pairs; cursor = cursor; ahead = ahead; ends = ends; soon = soon; ups = ups; downs = downs }

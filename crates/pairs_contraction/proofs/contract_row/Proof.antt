@@ -76,16 +76,14 @@ lent-begun c =
 
 -- ---- what is known there
 
-lower : (c : tie.After-pass-lower)
-    → LowerIn (weights (start (relaxed c))) (number (start (relaxed c))) (rank (start (relaxed c))) (rank (start (relaxed c))) (lent-passed c)
-    (marks-passed c)
+lower : (c : tie.After-pass-lower) → let s = start (relaxed c) in
+    LowerIn (weights s) (number s) (rank s) (rank s) (lent-passed c) (marks-passed c)
 lower c =
     let asked = start (relaxed c) .pre in
     c .pass-lower .ensures _ (lower-start (asked .ready) (asked .rank-in) (relaxed c .relax-roads .ensures))
 
-row-appended : (c : tie.After-append-row)
-    → RowAppended (weights (asked c)) (number (asked c)) (rank (asked c)) (lent-appended c .ups) (lent-appended c .downs)
-    (lent-appended c .pairs) (c .append-row .result)
+row-appended : (c : tie.After-append-row) → let s = asked c in let a = lent-appended c in
+    RowAppended (weights s) (number s) (rank s) (a .ups) (a .downs) (a .pairs) (c .append-row .result)
 row-appended c = c .append-row .ensures _ (row-times (asked c .pre .ready) (lower (passed c)))
 
 lengths-appended : (c : tie.After-append-row) → SameLengths (lent (asked c)) (lent-appended c)
@@ -138,8 +136,8 @@ pass-lower-requires c κs =
 
 append-row-requires : tie.Need-append-row-requires
 append-row-requires c κs =
-    let after-pass-lower =
-    c .before .before .before .before .before .before .before .before .before .before .before .before .before .before .before in
+    let after-ahead = c .before .before .before .before .before .before .before .before .before .before .before .before in
+    let after-pass-lower = after-ahead .before .before .before in
     let asked = start (relaxed after-pass-lower) .pre in
     let stage = lower after-pass-lower .stage in record {
       rank-in = asked .rank-in;
