@@ -14,8 +14,9 @@ use Rattle.pairs_rows.specs.Links.{Grouped, netIn}
 use Rattle.pairs_rows.specs.Rows.{mostBlocks}
 use Rattle.pairs_rows.specs.Steps.{le-kept, less, lt-next}
 use Rattle.pairs_contraction.specs.Lending.{Lent, ReadyIn}
-use Rattle.pairs_contraction.proofs.Whole.{Given, SameLengths, contract-end, contract-overflow, lengths-on, lengths-same, long}
-use Rattle.pairs_contraction.proofs.Whole.{next-ready, ranked, ranks-most, ranks-number, ready-start, row-fits}
+use Rattle.pairs_contraction.proofs.OneRow.{SameLengths, lengths-on, lengths-same, long}
+use Rattle.pairs_contraction.proofs.AllRows.{Given, contract-end, contract-overflow, next-ready, ranked, ranks-most, ranks-number}
+use Rattle.pairs_contraction.proofs.AllRows.{ready-start, row-fits}
 use Rattle.pairs_contraction.proofs.contract.Statement.{statement}
 use Rattle.pairs_contraction.proofs.contract.Tie as tie
 

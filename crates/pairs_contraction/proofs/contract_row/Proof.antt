@@ -12,7 +12,7 @@ use Rattle.pairs_rows.specs.Rows.{mostBlocks}
 use Rattle.pairs_rows.specs.Steps.{lt-le}
 use Rattle.pairs_storing.specs.Storing.{RowAppended}
 use Rattle.pairs_contraction.specs.Lending.{Lent, lentOf}
-use Rattle.pairs_contraction.proofs.Whole.{LowerIn, SameLengths, blocks, lower-start, row-kept, row-overflow, row-times}
+use Rattle.pairs_contraction.proofs.OneRow.{LowerIn, SameLengths, blocks, lower-start, row-kept, row-overflow, row-times}
 use Rattle.pairs_contraction.proofs.contract_row.Statement.{statement}
 use Rattle.pairs_contraction.proofs.contract_row.Tie as tie
 
@@ -35,8 +35,8 @@ fitted c = c .before .before .before .before .before .before .before .before
 
 -- ---- the call, and its areas at the places
 
-abbrev asked : tie.After-append-row → tie.Start
-asked c = start (relaxed (passed c))
+abbrev called : tie.After-append-row → tie.Start
+called c = start (relaxed (passed c))
 
 abbrev weights : tie.Start → Weights
 weights s = direct (netIn (s .args .roads .now) (s .args .ranks .now))
@@ -76,17 +76,20 @@ lent-begun c =
 
 -- ---- what is known there
 
+-- the row is relaxed over all lower ranks
 lower : (c : tie.After-pass-lower) → let s = start (relaxed c) in
     LowerIn (weights s) (number s) (rank s) (rank s) (lent-passed c) (marks-passed c)
 lower c =
     let asked = start (relaxed c) .pre in
     c .pass-lower .ensures _ (lower-start (asked .ready) (asked .rank-in) (relaxed c .relax-roads .ensures))
 
-row-appended : (c : tie.After-append-row) → let s = asked c in let a = lent-appended c in
+-- its records stand in the area too, if they fit
+row-appended : (c : tie.After-append-row) → let s = called c in let a = lent-appended c in
     RowAppended (weights s) (number s) (rank s) (a .ups) (a .downs) (a .pairs) (c .append-row .result)
-row-appended c = c .append-row .ensures _ (row-times (asked c .pre .ready) (lower (passed c)))
+row-appended c = c .append-row .ensures _ (row-times (called c .pre .ready) (lower (passed c)))
 
-lengths-appended : (c : tie.After-append-row) → SameLengths (lent (asked c)) (lent-appended c)
+-- no area has another length
+lengths-appended : (c : tie.After-append-row) → SameLengths (lent (called c)) (lent-appended c)
 lengths-appended c =
     let (_, (_, (_, (_, (_, (ups-relaxed, (downs-relaxed, _))))))) = relaxed (passed c) .relax-roads .kept in
     let (_, (_, (_, (cursor-kept, (ahead-kept, (_, (soon-kept, (ups-passed, (downs-passed, _))))))))) = passed c .pass-lower .kept in
@@ -101,7 +104,7 @@ lengths-appended c =
       downs = downs-taken ∙ downs-passed ∙ downs-relaxed;
     }
 
-lengths-begun : (c : tie.After-begin-front) → SameLengths (lent (asked (appended (fitted c)))) (lent-begun c)
+lengths-begun : (c : tie.After-begin-front) → SameLengths (lent (called (appended (fitted c)))) (lent-begun c)
 lengths-begun c =
     let so-far = lengths-appended (appended (fitted c)) in
     let (_, (_, (_, (_, (cursor-kept, (ahead-kept, (ends-kept, (soon-kept, _)))))))) = c .begin-front .kept in
@@ -157,7 +160,7 @@ ahead-at-requires c κs =
 begin-front-requires : tie.Need-begin-front-requires
 begin-front-requires c κs =
     let after-k = c .before .before .before .before .before .before .before in
-    let rank-in = asked (appended after-k) .pre .rank-in in
+    let rank-in = called (appended after-k) .pre .rank-in in
     let done = lower (passed (appended after-k)) in record {
       cursor-in = lt-le rank-in (done .stage .wide .cursors);
       ahead-in = lt-le rank-in (done .stage .wide .aheads);
@@ -194,7 +197,7 @@ same-length-7 c = lengths-appended (overflowed c) .pairs
 returns : tie.Need-returns
 returns c =
     let after-append-row = overflowed c in
-    row-overflow (asked after-append-row .pre .ready) (lower (passed after-append-row)) (c .enum-told .given .1)
+    row-overflow (called after-append-row .pre .ready) (lower (passed after-append-row)) (c .enum-told .given .1)
     (row-appended after-append-row)
 
 -- they do
@@ -229,7 +232,7 @@ returns-2 c =
     let after-ahead-at = after-begin-front .before .before .before .before .before in
     let after-k = fitted after-begin-front in
     let after-append-row = appended after-k in
-    row-kept (asked after-append-row .pre .ready) (lower (passed after-append-row)) (row-appended after-append-row) (after-k .k .given .1)
+    row-kept (called after-append-row .pre .ready) (lower (passed after-append-row)) (row-appended after-append-row) (after-k .k .given .1)
     (after-ahead-at .ahead-at .ensures) (lengths-appended after-append-row .pairs) (after-begin-front .begin-front .ensures)
 
 pub contract-row-spec : {M : Type 1} → statement M
