@@ -27,7 +27,8 @@ use Rattle.model.specs.Good.{AimFacts, Filled, filled-no, filled-yes}
 use Rattle.model.specs.Ends.{filled-is}
 use Rattle.network.specs.Width.{fit, fit-is, fit-min}
 use Rattle.pairs_hierarchy.specs.Estimates.{aim-filled}
-use Rattle.pairs_hierarchy.specs.Walks.{Climbed, Risen, Walked, above, downAt, estimateAt, over, pairAt, standing}
+use Rattle.pairs_hierarchy.specs.Walks.{AboveFilled, Climbed, Risen, Walked, above, downAt, estimateAt, leastBelow, over, pairAt}
+use Rattle.pairs_hierarchy.specs.Walks.{standing}
 use Rattle.pairs_hierarchy.specs.Lending.{KnownAsked, Lent, RankAsked}
 use Rattle.pairs_records.specs.Holds.{Holds, Ranked, down-small, order-rank, ranked}
 use Rattle.pairs_records.specs.Words.{Starts, answer, highIn, leads, lowIn, upIn}
@@ -49,13 +50,23 @@ module _ {M : Map} {n : ℕ} {order pairs : List ℕ} {count : ℕ} (o : Holds M
       go none f = let z : x ≡ noneWord = e ∙ ap word f in omega arith
       go (some u) f = let z : x ≡ u = e ∙ ap word f in let b = estimate-small o t lt lr f in omega arith
 
+  -- the least over records that give none
+  least-none : {r : ℕ} (t s : ℕ) → r < M .vertices → ((i : ℕ) → i < s → pairAt M i .low ≡ r → ⊥)
+      → word (fit (leastBelow M t r s)) ≡ word (downAt M t r)
+  least-none {r} t s lr off =
+      let none-yet = minBelow-none s (over M t r) (λ i l. over-other o t r i (off i l)) in
+      ap (λ (x : Total). word (fit x)) (ap (_⊓_ (downAt M t r)) none-yet ∙ ⊓-none (downAt M t r))
+      ∙ ap word (fit-is (downAt M t r) (λ u q. down-small o t r u lr q))
+
+  least-same : (t r k : ℕ) → over M t r k ≡ none → leastBelow M t r (suc k) ≡ leastBelow M t r k
+  least-same t r k e = ap (_⊓_ (downAt M t r)) (ap (_⊓_ (minBelow k (over M t r))) e ∙ ⊓-none (minBelow k (over M t r)))
+
   module _ {t r : ℕ} {down e₀ : List ℕ} (lr : r < M .vertices) where
+    -- no record of r is met yet
     risen-start : {own s : ℕ} → Starts pairs count r s → AimFacts M t down e₀ → own ≡ word (downAt M t r)
         → Risen M t r s down e₀ e₀ own
     risen-start {own} {s} st a d = record {
-      best-is = d ∙ sym (ap word (ap fit (ap (_⊓_ (downAt M t r))
-          (minBelow-none s (over M t r) (λ i l. over-other o t r i (off i l))) ∙ ⊓-none (downAt M t r)) ∙ fit-is
-          (downAt M t r) (λ u q. down-small o t r u lr q)));
+      best-is = d ∙ sym (least-none t s lr off);
       aims = a;
       reached = λ i c l q. absurd (off i l q);
       apart = λ v l q. refl;
@@ -65,26 +76,27 @@ module _ {M : Map} {n : ℕ} {order pairs : List ℕ} {count : ℕ} (o : Holds M
         off i l q = let x = st .before (ascending o) i l in let y = o .records i (omega (arith, st .bound)) .low in omega arith
 
     module _ {k best : ℕ} {e : List ℕ} (w : Risen M t r k down e₀ e best) where
+      -- a record that does not lead up gives none
       risen-skip : k < count → leads n r (lowIn pairs k) (highIn pairs k) (upIn pairs k) ≡ false → Risen M t r (suc k) down e₀ e best
       risen-skip l f = record {
-        best-is = w .best-is ∙ sym (ap (λ (x : Total). word (fit (downAt M t r ⊓ x)))
-            (ap (_⊓_ (minBelow k (over M t r))) (over-idle o t r k l f) ∙ ⊓-none (minBelow k (over M t r))));
+        best-is = w .best-is ∙ sym (ap (λ (x : Total). word (fit x)) (least-same t r k (over-idle o t r k l f)));
         aims = w .aims;
         reached = λ i c il q u. at i c (ℕ-discrete i k) il q u;
         apart = w .apart;
       }
         where
           at : (i c : ℕ) → Dec (i ≡ k) → i < suc k → pairAt M i .low ≡ r → pairAt M i .upTime ≡ some c
-              → (v : ℕ) → v < M .vertices → above M (pairAt M i .high) v ≡ true → getD e v 0 ≡ word (estimateOf M t v)
+              → AboveFilled M t (pairAt M i .high) e
           at i c (yes p) il q u = absurd (none-some (idle o {i = i} (omega arith) (rw (← p) at f) q) u)
           at i c (no p) il q u = w .reached i c (omega arith) q u
 
+      -- one that does gives its up time plus the estimate of its high, and what is above that is filled
       risen-take : {v best′ : ℕ} {z : List ℕ} → k < count → Leads n r (lowIn pairs k) (highIn pairs k) (upIn pairs k)
           → Climbed n order pairs count down e z (highIn pairs k) v → best′ ≡ min best (word (fit (ofWord (upIn pairs k) ⊕ ofWord v)))
           → Risen M t r (suc k) down e₀ z best′
       risen-take {v} {best′} {z} l f c b = record {
         best-is = b ∙ ap₂ min (w .best-is) (ap (λ (y : Total). word (fit y)) sum)
-            ∙ fit-min (downAt M t r ⊓ minBelow k (over M t r)) (over M t r k)
+            ∙ fit-min (leastBelow M t r k) (over M t r k)
             ∙ ap (λ (y : Total). word (fit y)) (⊓-assoc (downAt M t r) (minBelow k (over M t r)) (over M t r k));
         aims = subst (AimFacts M t down) (sym z-is) (aim-filled M t (above M h) down e (above-closed M h) (w .aims));
         reached = λ i c' il q u v' lv p. at i c' (ℕ-discrete i k) il q u v' lv p;
@@ -129,7 +141,7 @@ module _ {M : Map} {n : ℕ} {order pairs : List ℕ} {count : ℕ} (o : Holds M
               go (some c') g = true-false (above-link M r h c' v' g (rk .below) q) p
 
           at : (i c' : ℕ) → Dec (i ≡ k) → i < suc k → pairAt M i .low ≡ r → pairAt M i .upTime ≡ some c'
-              → (v' : ℕ) → v' < M .vertices → above M (pairAt M i .high) v' ≡ true → getD z v' 0 ≡ word (estimateOf M t v')
+              → AboveFilled M t (pairAt M i .high) z
           at i c' (yes p) il q u v' lv a = ap (λ (y : List ℕ). getD y v' 0) z-is
               ∙ filled-yes M t (above M h) e v' lv (subst (λ (y : ℕ). above M (pairAt M y .high) v' ≡ true) p a)
           at i c' (no p) il q u v' lv a =
@@ -148,7 +160,7 @@ module _ {M : Map} {n : ℕ} {order pairs : List ℕ} {count : ℕ} (o : Holds M
       }
         where
           at : (i c : ℕ) → Dec (i < k) → i < count → pairAt M i .low ≡ r → pairAt M i .upTime ≡ some c
-              → (v : ℕ) → v < M .vertices → above M (pairAt M i .high) v ≡ true → getD e v 0 ≡ word (estimateOf M t v)
+              → AboveFilled M t (pairAt M i .high) e
           at i c (yes p) ic q u = w .reached i c p q u
           at i c (no p) ic q u = absurd (off i (omega arith) ic q)
 
@@ -262,7 +274,7 @@ module _ {n : ℕ} {order pairs : List ℕ} {count r i : ℕ} (lr : r < n) (i-is
     }
       where
         full : (M : Map) (t : ℕ) (o : Holds M n order pairs count) → (getD e i 0 ≡ unasked) ⊎ Filled M t e i
-            → (u : ℕ) → u < M .vertices → above M r u ≡ true → getD e u 0 ≡ word (estimateOf M t u)
+            → AboveFilled M t r e
         full M t o (inl z) = absurd (h (q ∙ z))
         full M t o (inr f) = λ u lu p. f u lu (subst (λ (y : ℕ). reaches (weights M) (M .vertices) y (rank M u) ≡ true) (sym (ranks o)) p)
 

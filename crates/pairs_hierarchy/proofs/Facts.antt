@@ -21,7 +21,7 @@ use Rattle.model.specs.LimitLaws.{totals-fit}
 use Rattle.model.specs.Word.{noneWord, unasked, word}
 use Rattle.model.specs.Good.{UpClosed}
 use Rattle.network.specs.Width.{fit, fit-is}
-use Rattle.pairs_hierarchy.specs.Walks.{above, downAt, estimateAt, over, pairAt}
+use Rattle.pairs_hierarchy.specs.Walks.{above, downAt, estimateAt, leastBelow, over, pairAt}
 use Rattle.pairs_records.specs.Holds.{Holds, Ranked, ranked}
 use Rattle.pairs_records.specs.Words.{Ascending, highIn, leads, lowIn, upIn}
 use Rattle.pairs_records.specs.Tests.{leads-by}
@@ -128,7 +128,7 @@ module _ {M : Map} {n : ℕ} {order pairs : List ℕ} {count : ℕ} (o : Holds M
 
   -- document 01: the estimate is the least of the own down total and, for each higher junction with an up time, that time plus its estimate
   pub over-all : (t r : ℕ) → rank M t < M .vertices → r < M .vertices
-      → word (fit (downAt M t r ⊓ minBelow count (over M t r))) ≡ word (estimateAt M t r)
+      → word (fit (leastBelow M t r count)) ≡ word (estimateAt M t r)
   over-all t r lt lr =
       let w = weights M in
       let v = M .vertices in

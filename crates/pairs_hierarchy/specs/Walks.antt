@@ -38,11 +38,19 @@ downAt M t r = downTotal (weights M) (rank M t) r
 abbrev pub above : Map → ℕ → ℕ → Bool
 above M r v = reaches (weights M) (M .vertices) r (rank M v)
 
+-- the estimates of these junctions stand in z
+abbrev pub AboveFilled : Map → (t r : ℕ) → List ℕ → Type 0
+AboveFilled M t r z = (v : ℕ) → v < M .vertices → above M r v ≡ true → getD z v 0 ≡ word (estimateOf M t v)
+
 -- what record i gives to the estimate of rank r: its up time plus the estimate of the higher rank
 abbrev pub over : Map → ℕ → ℕ → ℕ → Total
 over M t r i =
     let p = pairAt M i in
     cond (eqb (p .low) r) (p .upTime ⊕ estimateAt M t (p .high)) none
+
+-- the least of its down total and what the records below k give
+abbrev pub leastBelow : Map → (t r k : ℕ) → Total
+leastBelow M t r k = downAt M t r ⊓ minBelow k (over M t r)
 
 -- what stands in the estimates e for rank r: the entry of the junction that the order has there; none, if that is none of the n
 unfoldable pub standing : (n : ℕ) (order e : List ℕ) (r : ℕ) → ℕ
@@ -59,10 +67,9 @@ pub record Climbed (n : ℕ) (order pairs : List ℕ) (count : ℕ) (down e z : 
 
 -- where the walk over the records below k stands: the least over them, and all that they lead to filled
 pub record Risen (M : Map) (t r k : ℕ) (down e z : List ℕ) (best : ℕ) : Type 0 where
-  pub best-is : best ≡ word (fit (downAt M t r ⊓ minBelow k (over M t r)))
+  pub best-is : best ≡ word (fit (leastBelow M t r k))
   pub aims : AimFacts M t down z
-  pub reached : (i c : ℕ) → i < k → pairAt M i .low ≡ r → pairAt M i .upTime ≡ some c
-      → (v : ℕ) → v < M .vertices → above M (pairAt M i .high) v ≡ true → getD z v 0 ≡ word (estimateOf M t v)
+  pub reached : (i c : ℕ) → i < k → pairAt M i .low ≡ r → pairAt M i .upTime ≡ some c → AboveFilled M t (pairAt M i .high) z
   pub apart : (v : ℕ) → v < M .vertices → above M r v ≡ false → getD z v 0 ≡ getD e v 0
 
 -- the walk over the records below k, from the down total
