@@ -142,14 +142,14 @@ module _ {w : Weights} {n r count : ℕ} {pairs cursor ahead ends soon ups₀ do
       abbrev soon₁ : List ℕ
       soon₁ = set soon′ (r / block) bound₁
 
-      lc : r < length cursor′
-      lc = omega (arith, s .inside, s .wide .cursors)
+      cursor-in : r < length cursor′
+      cursor-in = omega (arith, s .inside, s .wide .cursors)
 
-      la : r < length ahead′
-      la = omega (arith, s .inside, s .wide .aheads)
+      ahead-in : r < length ahead′
+      ahead-in = omega (arith, s .inside, s .wide .aheads)
 
-      le : r < length ends
-      le = omega (arith, s .inside, s .wide .ends-too)
+      ends-in : r < length ends
+      ends-in = omega (arith, s .inside, s .wide .ends-too)
 
       holds′ : Holds (rows w n (suc r)) k pairs′
       holds′ = let h = a .appended .all k ec in rw (add-one r) at h
@@ -157,8 +157,8 @@ module _ {w : Weights} {n r count : ℕ} {pairs cursor ahead ends soon ups₀ do
       k-is : k ≡ length (rows w n r) + length (row w r n)
       k-is = holds′ .count-is ∙ length-append (rows w n r) (row w r n)
 
-      low : row w r (suc r) ≡ []
-      low = row-low w r (suc r) (omega arith)
+      none-low : row w r (suc r) ≡ []
+      none-low = row-low w r (suc r) (omega arith)
 
       -- the high of its first record, or n
       first-high : cond (ltb count k) (getD pairs′ (4 * count + 1) 0) n ≡ getD (row w r n) 0 (edge n) .high
@@ -181,9 +181,9 @@ module _ {w : Weights} {n r count : ℕ} {pairs cursor ahead ends soon ups₀ do
       -- the front of r
       own : Front w n r (suc r) cursor₁ ahead₁ ends₁
       own = record {
-        cursor-is = getD-set-same cursor′ r count 0 lc ∙ y .holds .count-is ∙ rw low (omega arith);
-        ahead-is = getD-set-same ahead′ r x 0 la ∙ ex ∙ first-high ∙ rw low refl;
-        end-is = getD-set-same ends r k 0 le ∙ k-is;
+        cursor-is = getD-set-same cursor′ r count 0 cursor-in ∙ y .holds .count-is ∙ rw none-low (omega arith);
+        ahead-is = getD-set-same ahead′ r x 0 ahead-in ∙ ex ∙ first-high ∙ rw none-low refl;
+        end-is = getD-set-same ends r k 0 ends-in ∙ k-is;
       }
 
       sooner′ : Sooner n (suc r) ahead₁ soon₁
@@ -192,16 +192,16 @@ module _ {w : Weights} {n r count : ℕ} {pairs cursor ahead ends soon ups₀ do
         before = λ v l. at v l (ℕ-discrete v r) (ℕ-discrete (v / block) (r / block));
       }
         where
-          lb : r / block < length soon′
-          lb = omega (arith, s .inside, z .sooner .wide)
+          soon-in : r / block < length soon′
+          soon-in = omega (arith, s .inside, z .sooner .wide)
 
           same : (v : ℕ) → v / block ≡ r / block → getD soon₁ (v / block) 0 ≡ bound₁
-          same v q = ap (λ (j : ℕ). getD soon₁ j 0) q ∙ getD-set-same soon′ (r / block) bound₁ 0 lb
+          same v q = ap (λ (j : ℕ). getD soon₁ j 0) q ∙ getD-set-same soon′ (r / block) bound₁ 0 soon-in
 
           at : (v : ℕ) → v < suc r → Dec (v ≡ r) → Dec (v / block ≡ r / block) → getD soon₁ (v / block) 0 ≤ getD ahead₁ v 0
           at v l (yes e) q =
               let f : v / block ≡ r / block = ap (λ (j : ℕ). j / block) e in
-              let g : getD ahead₁ v 0 ≡ x = ap (λ (j : ℕ). getD ahead₁ j 0) e ∙ getD-set-same ahead′ r x 0 la in
+              let g : getD ahead₁ v 0 ≡ x = ap (λ (j : ℕ). getD ahead₁ j 0) e ∙ getD-set-same ahead′ r x 0 ahead-in in
               omega (arith, same v f, g)
           at v l (no ne) (yes f) =
               let q : getD soon′ (r / block) 0 ≤ getD ahead′ v 0 = rw f at (z .sooner .before v (omega arith)) in

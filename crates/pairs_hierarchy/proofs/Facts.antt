@@ -5,10 +5,11 @@ use mathlib.Core.Bool.{cond, false, true}
 use mathlib.Core.Option.{none, some}
 use mathlib.Core.List.{List}
 use Prim.Native.Nat.{_<_, ℕ}
-use borrow.Author.Tests.{eq-eqb, eqb-true, ne-eqb}
+use borrow.Author.Tests.{eq-eqb, ne-eqb}
 use lib.Dec.{eqb}
+use native.Mathlib.Decide.{ℕ-discrete}
 use native.Mathlib.Omega.{arith}
-use Rattle.graph.specs.Total.{Tested, Total, _⊓_, _⊕_, cond-no, cond-yes, decide, decideOption, true-false}
+use Rattle.graph.specs.Total.{Total, _⊓_, _⊕_, cond-no, cond-yes, decideOption, true-false}
 use Rattle.graph.specs.Least.{minBelow}
 use Rattle.graph.specs.Path.{Path, Weights, empty, link, path-join}
 use Rattle.graph.specs.Pairs.{up}
@@ -94,37 +95,30 @@ module _ {M : Map} {n : ℕ} {order pairs : List ℕ} {count : ℕ} (o : Holds M
       go (inl q) = q
       go (inr (c, q)) =
           let w = o .records i l in
-          let u : upIn pairs i ≡ c = w .ups ∙ ap word q in
-          let s = up-small l q in
-          let ne : eqb (upIn pairs i) noneWord ≡ false = ne-eqb (upIn pairs i) noneWord (λ z. omega (arith, u, s, z)) in
-          let x = w .low in
-          let y = w .high in
-          let z = leads-by n r (lowIn pairs i) (highIn pairs i) (upIn pairs i) (x ∙ e) (omega (arith, y, e, k .rises)) (omega (
-            arith,
-            y,
-            k .below,
-            o .vertices-are,
-          )) false (sym ne) in
-          absurd (true-false (sym z) f)
+          let up-is : upIn pairs i ≡ c = w .ups ∙ ap word q in
+          let small = up-small l q in
+          let there : eqb (upIn pairs i) noneWord ≡ false = ne-eqb (upIn pairs i) noneWord (λ z. omega (arith, up-is, small, z)) in
+          let rises : r < highIn pairs i = omega (arith, w .high, e, k .rises) in
+          let below : highIn pairs i < n = omega (arith, w .high, k .below, o .vertices-are) in
+          let leads-up = leads-by n r (lowIn pairs i) (highIn pairs i) (upIn pairs i) (w .low ∙ e) rises below false (sym there) in
+          absurd (true-false (sym leads-up) f)
 
-  pub over-idle : (t r i : ℕ) → i < count → leads n r (lowIn pairs i) (highIn pairs i) (upIn pairs i) ≡ false → over M t r i ≡ none
-  over-idle t r i l f = go (decide (eqb (pairAt M i .low) r))
-    where
-      go : Tested (eqb (pairAt M i .low) r) → over M t r i ≡ none
-      go (inl q) =
-          cond-yes (eqb (pairAt M i .low) r) (pairAt M i .upTime ⊕ estimateAt M t (pairAt M i .high)) none q
-          ∙ ap (λ (x : Total). x ⊕ estimateAt M t (pairAt M i .high)) (idle l f (eqb-true (pairAt M i .low) r q))
-      go (inr q) = cond-no (eqb (pairAt M i .low) r) (pairAt M i .upTime ⊕ estimateAt M t (pairAt M i .high))
-          none q
+  -- ---- what record i gives to the estimate of rank r
+
+  pub over-here : (t r i : ℕ) → pairAt M i .low ≡ r → over M t r i ≡ pairAt M i .upTime ⊕ estimateAt M t (pairAt M i .high)
+  over-here t r i e = cond-yes (eqb (pairAt M i .low) r) (pairAt M i .upTime ⊕ estimateAt M t (pairAt M i .high)) none
+      (eq-eqb (pairAt M i .low) r e)
 
   pub over-other : (t r i : ℕ) → (pairAt M i .low ≡ r → ⊥) → over M t r i ≡ none
-  over-other t r i ne = cond-no (eqb (pairAt M i .low) r)
-      (pairAt M i .upTime ⊕ estimateAt M t (pairAt M i .high)) none (ne-eqb (pairAt M i .low) r ne)
+  over-other t r i ne = cond-no (eqb (pairAt M i .low) r) (pairAt M i .upTime ⊕ estimateAt M t (pairAt M i .high)) none
+      (ne-eqb (pairAt M i .low) r ne)
 
-  pub over-here : (t r i : ℕ) → pairAt M i .low ≡ r
-      → over M t r i ≡ pairAt M i .upTime ⊕ estimateAt M t (pairAt M i .high)
-  over-here t r i e = cond-yes (eqb (pairAt M i .low) r)
-      (pairAt M i .upTime ⊕ estimateAt M t (pairAt M i .high)) none (eq-eqb (pairAt M i .low) r e)
+  pub over-idle : (t r i : ℕ) → i < count → leads n r (lowIn pairs i) (highIn pairs i) (upIn pairs i) ≡ false → over M t r i ≡ none
+  over-idle t r i l f = go (ℕ-discrete (pairAt M i .low) r)
+    where
+      go : Dec (pairAt M i .low ≡ r) → over M t r i ≡ none
+      go (yes e) = over-here t r i e ∙ ap (λ (x : Total). x ⊕ estimateAt M t (pairAt M i .high)) (idle l f e)
+      go (no ne) = over-other t r i ne
 
   -- document 01: the estimate is the least of the own down total and, for each higher junction with an up time, that time plus its estimate
   pub over-all : (t r : ℕ) → rank M t < M .vertices → r < M .vertices

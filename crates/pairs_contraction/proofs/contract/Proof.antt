@@ -30,13 +30,11 @@ abbrev areas : (pairs cursor ahead ends soon ups downs : List ℕ) → Lent
 areas p c a e s u d = record { pairs = p; cursor = c; ahead = a; ends = e; soon = s; ups = u; downs = d }
 
 abbrev Inv-loop : tie.InvT-loop
-Inv-loop roads order ranks pairs₀ n first next cursor₀ ahead₀ ends₀ soon₀ ups₀ downs₀ count₀ r₀ pairs cursor ahead ends soon ups downs count
-    r = Contracting roads ranks n (areas pairs₀ cursor₀ ahead₀ ends₀ soon₀ ups₀ downs₀) r count
-    (areas pairs cursor ahead ends soon ups downs)
+Inv-loop roads _ ranks pairs₀ n _ _ cursor₀ ahead₀ ends₀ soon₀ ups₀ downs₀ _ _ pairs cursor ahead ends soon ups downs count r =
+    Contracting roads ranks n (areas pairs₀ cursor₀ ahead₀ ends₀ soon₀ ups₀ downs₀) r count (areas pairs cursor ahead ends soon ups downs)
 
 abbrev μ-loop : tie.MeasureT-loop
-μ-loop roads order ranks pairs₀ n first next cursor₀ ahead₀ ends₀ soon₀ ups₀ downs₀ count₀ r₀ pairs cursor ahead ends soon ups downs count
-    r = n - r
+μ-loop roads _ ranks pairs₀ n _ _ cursor₀ ahead₀ ends₀ soon₀ ups₀ downs₀ _ _ pairs cursor ahead ends soon ups downs count r = n - r
 
 -- ---- the map, and its roads linked
 
@@ -46,6 +44,7 @@ given c = record { sound = c .pre .0; ranks-are = c .pre .1 }
 abbrev called : tie.After-link-roads Inv-loop μ-loop → tie.Start Inv-loop μ-loop
 called c = c .before .before .before .before .before .before .before
 
+-- the roads are linked by their rows
 linked : (c : tie.After-link-roads Inv-loop μ-loop) → let (_, (_, (first, (next, _)))) = c .link-roads .last in
     Grouped (called c .args .roads .now) (called c .args .ranks .now) first next
 linked c =
@@ -65,12 +64,14 @@ after-link-roads c = c .before .before .before
 abbrev start : tie.At-loop Inv-loop μ-loop → tie.Start Inv-loop μ-loop
 start c = called (after-link-roads c)
 
+-- the rank of this turn
 rank-in : (c : tie.In-loop Inv-loop μ-loop) → c .before .loop .r < length (start (c .before) .args .ranks .now)
 rank-in c = omega (arith, c .loop-test .taken, ranks-number (given (start (c .before))))
 
 abbrev in-loop : tie.After-contract-row Inv-loop μ-loop → tie.In-loop Inv-loop μ-loop
 in-loop c = c .before .before .before .before .before .before .before .before .before .before
 
+-- making its row changes no length
 lengths-kept : (c : tie.After-contract-row Inv-loop μ-loop) →
     let l = in-loop c .before .loop in
     let (_, (_, (_, (_, (_, (cursor, (ahead, (ends, (soon, (ups, (downs, (pairs, _)))))))))))) = c .contract-row .last in
