@@ -232,16 +232,16 @@ junction-at order e g = rw e at g
 module _ {n i : ℕ} {order pairs d : List ℕ} where
   -- a rank or a junction that is none: nothing is handed
   pub no-low : {low : ℕ} → low ≡ lowIn pairs i → n ≤ low → Handed n order pairs i d d
-  no-low {low} e h = record { exact = λ l _ _ _ _. absurd (omega (arith, e, h, l)) }
+  no-low {low} e h = record { exact = λ low-in high-in lower-in higher-in w. absurd (omega (arith, e, h, low-in)) }
 
   pub no-high : {high : ℕ} → high ≡ highIn pairs i → n ≤ high → Handed n order pairs i d d
-  no-high {high} e h = record { exact = λ _ l _ _ _. absurd (omega (arith, e, h, l)) }
+  no-high {high} e h = record { exact = λ low-in high-in lower-in higher-in w. absurd (omega (arith, e, h, high-in)) }
 
   pub no-lower : {a : ℕ} → a ≡ lowerIn order pairs i → n ≤ a → Handed n order pairs i d d
-  no-lower {a} e h = record { exact = λ _ _ l _ _. absurd (omega (arith, e, h, l)) }
+  no-lower {a} e h = record { exact = λ low-in high-in lower-in higher-in w. absurd (omega (arith, e, h, lower-in)) }
 
   pub no-higher : {b : ℕ} → b ≡ higherIn order pairs i → n ≤ b → Handed n order pairs i d d
-  no-higher {b} e h = record { exact = λ _ _ _ l _. absurd (omega (arith, e, h, l)) }
+  no-higher {b} e h = record { exact = λ low-in high-in lower-in higher-in w. absurd (omega (arith, e, h, higher-in)) }
 
   -- a lower junction without a total has nothing to hand down
   pub no-rest : {a rest : ℕ} → a ≡ lowerIn order pairs i → rest ≡ getD d a 0 → rest ≡ noneWord → Handed n order pairs i d d
