@@ -27,6 +27,13 @@ lent o p d e = record {
 
 -- ---- by rank
 
+-- what stands for rank r may be asked
+pub record KnownAsked (n r : ℕ) (order estimates : List ℕ) : Type 0 where
+  pub rank-in : r < n
+  pub n-high : n ≤ mostJunctions
+  pub order-is : length order ≡ 4 * n
+  pub estimates-are : length estimates ≡ n
+
 -- the estimate of rank r may be asked; it is answered; the walk over the records of r has answered
 pub record RankAsked (n count r : ℕ) (a : Lent) : Type 0 where
   pub rank-in : r < n
