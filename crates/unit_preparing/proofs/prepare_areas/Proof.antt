@@ -1,6 +1,6 @@
 -- The two bodies are sound and have the card's map (`bodies`), so ranks and contraction are that map's. Where its pairs do not fit, all
 -- areas have their lengths still and become zeros (`no-room`); where they fit, each of the others is filled by its own call (`with-room`).
-use mathlib.Core.Path.{_≡_, refl}
+use mathlib.Core.Path.{refl}
 use native.Mathlib.Omega.{arith}
 use Rattle.model.specs.Areas.{Areas}
 use Rattle.pairs_contraction.specs.Contraction.{contraction-prepared}

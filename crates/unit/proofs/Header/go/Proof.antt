@@ -1,25 +1,28 @@
--- A refusal leaves everything as it was; otherwise answer and areas are the search's, as `made` has them.
-use mathlib.Core.Path.{_∙_, _≡_, ap, refl, subst, sym}
-use mathlib.Core.Bool.{true}
-use mathlib.Core.Option.{none}
+-- A refusal leaves everything as it was (`go-refused`); otherwise answer and areas are the search's (`go-handed`).
+use mathlib.Core.Path.{_∙_, _≡_, ap}
 use mathlib.Core.List.{List}
 use Prim.Native.Nat.{ℕ}
 use borrow.Author.Needs.{needs}
-use lib.ListN.{length}
 use native.Mathlib.Omega.{arith}
-use Rattle.model.specs.Types as model
+use Rattle.model.specs.Types.{Header}
 use Rattle.model.specs.Areas.{Areas, Each, areasOf, lengths}
 use Rattle.model.specs.State.{Lent}
-use Rattle.model.specs.Calls.{goCall}
-use Rattle.model.specs.Contracts.{CallContract, after, baseOn, before}
-use Rattle.unit_questions.specs.Lending.{lengthsIn, lentOf}
-use Rattle.unit.specs.declared.Answered.{Answered}
-use Rattle.unit.specs.Shape.{answeredIn, headerIn}
-use Rattle.unit.specs.Meets.{asksGo}
-use Rattle.unit.proofs.Fitting.{fits-facts, sized}
-use Rattle.unit.proofs.Going.{GoPassed, go-facts, go-handed, go-passed, go-refused, goneAreas}
+use Rattle.model.specs.Contracts.{baseOn}
+use Rattle.network.specs.Refusals.{verdictIn}
+use Rattle.unit_questions.specs.Lending.{lentOf}
+use Rattle.unit.specs.Shape.{headerIn}
+use Rattle.unit.proofs.Fitting.{sized}
+use Rattle.unit.proofs.Going.{GoPassed, go-handed, go-passed, go-refused, goVerdict}
 use Rattle.unit.proofs.Header.go.Statement.{statement}
 use Rattle.unit.proofs.Header.go.Tie as tie
+
+-- ---- the call: card and header, the unit's areas and the two that it is lent
+
+abbrev card : tie.Start → List ℕ
+card s = s .args .card .now
+
+abbrev header : tie.Start → Header
+header s = headerIn (s .args .self)
 
 abbrev areas : tie.Start → Areas
 areas s = let a = s .args in areasOf (a .ranks .now) (a .pairs .now) (a .live .now) (a .down .now) (a .estimates .now) (a .elapsed .now)
@@ -27,101 +30,60 @@ areas s = let a = s .args in areasOf (a .ranks .now) (a .pairs .now) (a .live .n
 abbrev lent : tie.Start → Lent
 lent s = lentOf (s .args .route .now) (s .args .log .now)
 
--- no question refuses
-abbrev start : tie.At-match-keys2 → tie.Start
-start c = c .before .before .before .before .before .before .before .before .before .before .before .before .before .before
+-- ---- what the questions said
 
-abbrev after-order-of : tie.After-aimed-at → tie.After-order-of
-after-order-of c = c .before .before .before .before .before
+abbrev start : tie.After-go-asked → tie.Start
+start c = c .before .before .before .before .before .before .before .before .before .before .before .before .before
 
-abbrev after-roads-of : tie.After-aimed-at → tie.After-roads-of
-after-roads-of c = after-order-of c .before
+said : (c : tie.After-go-asked) → let s = start c in
+    verdictIn (c .go-asked .result) ≡ goVerdict (card s) (header s) (lengths (areas s)) (s .args .start .0) (lent s)
+said c =
+    let s = start c in
+    c .go-asked .ensures (baseOn (card s))
+    ∙ ap (λ (l : Each ℕ). goVerdict (card s) (header s) l (s .args .start .0) (lent s)) (c .before .lengths-of .ensures)
 
-abbrev after-enum-told : tie.After-aimed-at → tie.After-enum-told
-after-enum-told c = after-roads-of c .before
+-- none refuses
+passed : (c : tie.After-enum-told) → let s = start (c .before .before) in
+    GoPassed (card s) (s .args .self) (lengths (areas s)) (s .args .start .0) (lent s)
+passed c = go-passed (c .enum-told .given .1) (said (c .before .before))
 
-abbrev at-match-keys2 : tie.After-aimed-at → tie.At-match-keys2
-at-match-keys2 c = after-enum-told c .before
-
-known : (c : tie.After-enum-told) →
-    let at-match-keys2 = c .before in
-    let a = start at-match-keys2 .args in
-    GoPassed (headerIn (a .self)) (baseOn (a .card .now)) (length (a .card .now)) (lengths (areas (start at-match-keys2))) (a .start .0)
-    (length (a .route .now)) (length (a .log .now))
-known c =
-    let at-match-keys2 = c .before in
-    let after-go-asked = at-match-keys2 .before in
-    let after-lengths-of = after-go-asked .before in
-    let a = start at-match-keys2 .args in
-    let h = headerIn (a .self) in
-    let base = baseOn (a .card .now) in
-    let k = length (a .card .now) in
-    let r = length (a .route .now) in
-    let l = length (a .log .now) in
-    go-passed h base k (lengths (areas (start at-match-keys2))) (a .start .0) r l (c .enum-told .given .1)
-    (after-go-asked .go-asked .ensures base ∙ ap (λ (x : Each ℕ). asksGo base h k x (a .start .0) r l)
-    (after-lengths-of .lengths-of .ensures))
-
-roads-of-requires : tie.Need-roads-of-requires
-roads-of-requires c κs =
-    let at-match-keys2 = c .before in
-    let a = start at-match-keys2 .args in
-    omega (arith, fits-facts (headerIn (a .self)) (length (a .card .now)) (lengths (areas (start at-match-keys2))) (known c .fits) .size)
-
-order-of-requires : tie.Need-order-of-requires
-order-of-requires c κs =
-    let after-enum-told = c .before in
-    let at-match-keys2 = after-enum-told .before in
-    let a = start at-match-keys2 .args in
-    omega (
-      arith,
-      fits-facts (headerIn (a .self)) (length (a .card .now)) (lengths (areas (start at-match-keys2))) (known after-enum-told .fits) .size,
-    )
-
-search-requires : tie.Need-search-requires
-search-requires c κs =
-    let at-match-keys2 = c .before .before .before .before .before .before .before .before in
-    let a = start at-match-keys2 .args in
-    let k = known (after-enum-told c) in
-    let g = go-facts (headerIn (a .self)) (baseOn (a .card .now)) (a .start .0) (length (a .route .now)) (length (a .log .now))
-    (k .asked) in
-    let f = fits-facts (headerIn (a .self)) (length (a .card .now)) (lengths (areas (start at-match-keys2))) (k .fits) in (
-      g .start,
-      omega (arith, c .aimed-at .ensures, k .target),
-      g .route-room,
-      g .log-room,
-      sized (a .card .now) (areas (start at-match-keys2)) f (after-roads-of c .roads-of .ensures) (after-order-of c .order-of .ensures),
-    )
+-- ---- the answers
 
 returns : tie.Need-returns
 returns c =
     let after-q = c .before .before in
     let after-go-asked = after-q .before .before in
-    let after-lengths-of = after-go-asked .before in
-    let start = after-lengths-of .before .before .before .before .before .before .before .before .before .before .before .before in
-    let a = start .args in
-    let h = headerIn (a .self) in
-    let base = baseOn (a .card .now) in
-    let k = length (a .card .now) in
-    let r = length (a .route .now) in
-    let l = length (a .log .now) in
-    go-refused (a .card .now) (a .self) (areas start) (a .start .0) (lent start) (after-q .q .given .1)
-    (after-go-asked .go-asked .ensures base ∙ ap (λ (x : Each ℕ). asksGo base h k x (a .start .0) r l)
-    (after-lengths-of .lengths-of .ensures))
-    (c .answered .ensures)
+    go-refused (after-q .q .given .1) (said after-go-asked) (c .answered .ensures)
+
+roads-of-requires : tie.Need-roads-of-requires
+roads-of-requires c κs = omega (arith, passed c .sizes .size)
+
+order-of-requires : tie.Need-order-of-requires
+order-of-requires c κs = omega (arith, passed (c .before) .sizes .size)
+
+abbrev after-order-of : tie.After-aimed-at → tie.After-order-of
+after-order-of c = c .before .before .before .before .before
+
+search-requires : tie.Need-search-requires
+search-requires c κs =
+    let after-roads-of = after-order-of c .before in
+    let after-enum-told = after-roads-of .before in
+    let s = start (after-enum-told .before .before) in
+    let p = passed after-enum-told in (
+      p .facts .start,
+      omega (arith, c .aimed-at .ensures, p .target),
+      p .facts .route-room,
+      p .facts .log-room,
+      sized (areas s) (p .sizes) (after-roads-of .roads-of .ensures) (after-order-of c .order-of .ensures),
+    )
 
 returns-2 : tie.Need-returns-2
 returns-2 c =
     let after-search = c .before .before .before .before .before .before .before .before .before .before in
     let after-aimed-at = after-search .before in
-    let at-match-keys2 = after-aimed-at .before .before .before .before .before .before .before .before in
-    let a = start at-match-keys2 .args in
-    let k = known (after-enum-told after-aimed-at) in
-    let e = after-search .search .ensures in
-    go-handed (a .card .now) (a .self) (areas (start at-match-keys2)) (a .start .0) (lent (start at-match-keys2)) (k .fits) (k .asked)
-    (after-aimed-at .aimed-at .ensures) (after-roads-of after-aimed-at .roads-of .ensures)
-    (after-order-of after-aimed-at .order-of .ensures) e
-    (c .before .gone .ensures) (c .answered2 .result) (c .answered2 .ensures)
+    let after-roads-of = after-order-of after-aimed-at .before in
+    go-handed (passed (after-roads-of .before)) (after-aimed-at .aimed-at .ensures) (after-roads-of .roads-of .ensures)
+    (after-order-of after-aimed-at .order-of .ensures) (after-search .search .ensures) (c .before .gone .ensures) (c .answered2 .ensures)
 
 pub go-spec : {M : Type 1} → statement M
 go-spec =
