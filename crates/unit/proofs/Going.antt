@@ -193,8 +193,8 @@ module _ (card : List ℕ) (h : Header) (a : Areas) (s : ℕ) (k : Lent) where
         below-marks : (t : ℕ) → t ≤ mostTotal → t < noneWord
         below-marks t q = omega arith
 
-    go-made : fitsBy h (length card) (lengths a) ≡ true → own card h s k ≡ none → {z : ℕ} → z ≡ targetOf (h .target) → roads ≡ roadsIn card (h .m)
-        → order ≡ orderIn card (h .n) (h .m)
+    go-made : fitsBy h (length card) (lengths a) ≡ true → own card h s k ≡ none → {z : ℕ} → z ≡ targetOf (h .target)
+        → roads ≡ roadsIn card (h .m) → order ≡ orderIn card (h .n) (h .m)
         → Searches roads order (a .built .ranks) (a .built .pairs) (a .live) (a .aimed .down) (h .pairs) s z (a .aimed .estimates)
         (k .route) (k .log) e elapsed route log total count number
         → x ≡ goAnswer (ofWord total) count number
