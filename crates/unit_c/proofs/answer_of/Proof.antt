@@ -1,4 +1,4 @@
--- Each arm spells the answer of its case, beside the words of the header.
+-- Each arm spells the answer of its case, beside the words of the header (`answer-told`).
 use mathlib.Core.Path.{_∙_}
 use borrow.Author.Needs.{needs}
 use Rattle.unit_c.proofs.Told.{answer-told}

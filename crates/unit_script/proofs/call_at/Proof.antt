@@ -11,7 +11,8 @@ returns c =
     let after-word-at = after-word-at2 .before in
     let start = after-word-at .before .before in
     let a = start .args in
-    call-there (a .script .now) (a .at) (a .route) (a .log) (after-word-at .word-at .ensures) (after-word-at2 .word-at2 .ensures) (after-word-at3 .word-at3 .ensures) (c .before .word-at4 .ensures) (c .spell .ensures)
+    call-there (a .script .now) (a .at) (a .route) (a .log) (after-word-at .word-at .ensures) (after-word-at2 .word-at2 .ensures)
+    (after-word-at3 .word-at3 .ensures) (c .before .word-at4 .ensures) (c .spell .ensures)
 
 pub call-at-spec : {M : Type 1} → statement M
 call-at-spec =

@@ -80,17 +80,17 @@ loop-again c =
     let at-put = after-put-answer .before in
     let make-call = after-make-call at-put .make-call in
     let inv = at-loop at-put .loop .inv in
-    let (_, (_, (_, (_, (live, (down, (estimates, (elapsed, (route, (log, _)))))))))) = make-call .kept in
-    let (words, _) = after-put-answer .put-answer .kept in
+    let (_, (_, (_, (_, (live-kept, (down-kept, (estimates-kept, (elapsed-kept, (route-kept, (log-kept, _)))))))))) = make-call .kept in
+    let (words-kept, _) = after-put-answer .put-answer .kept in
     record {
       within = turn-ends inv (c .end-at .ensures);
-      live = live ∙ inv .live;
-      down = down ∙ inv .down;
-      estimates = estimates ∙ inv .estimates;
-      elapsed = elapsed ∙ inv .elapsed;
-      route = route ∙ inv .route;
-      log = log ∙ inv .log;
-      words = words ∙ inv .words;
+      live = live-kept ∙ inv .live;
+      down = down-kept ∙ inv .down;
+      estimates = estimates-kept ∙ inv .estimates;
+      elapsed = elapsed-kept ∙ inv .elapsed;
+      route = route-kept ∙ inv .route;
+      log = log-kept ∙ inv .log;
+      words = words-kept ∙ inv .words;
       run = run-turn (inv .run) (next-is (then1 at-put)) (inv .route) (inv .log) (after-call-at at-put .call-at .ensures)
           (c .end-at .ensures) (make-call .ensures) (after-put-answer .put-answer .ensures);
     }

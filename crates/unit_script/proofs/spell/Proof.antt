@@ -32,8 +32,8 @@ returns-4 c =
     let else1 = else2 .before in
     let a = else1 .before .args in
     c .lending4 .ensures
-    ∙ spells-go (a .one) (a .two) (a .three) (a .route) (a .log) (else1 .if1 .left) (else2 .if2 .left) (else3 .if3 .left) (after-at-most .at-most .ensures)
-    (c .before .at-most2 .ensures)
+    ∙ spells-go (a .one) (a .two) (a .three) (a .route) (a .log) (else1 .if1 .left) (else2 .if2 .left) (else3 .if3 .left)
+    (after-at-most .at-most .ensures) (c .before .at-most2 .ensures)
 
 pub spell-spec : {M : Type 1} → statement M
 spell-spec =
