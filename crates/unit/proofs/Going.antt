@@ -1,4 +1,4 @@
--- A go by what its questions and its search say. Assumes nothing.
+-- A go by what its questions and its search say: refused (`go-refused`), or made (`go-handed`). Assumes nothing.
 use mathlib.Core.Path.{_∙_, _≡_, ap, ap₂, refl, subst, subst₂, sym}
 use mathlib.Core.Logic.{_⊎_, inl, inr}
 use mathlib.Core.Bool.{Bool, _&&_, false, true}
@@ -89,9 +89,9 @@ pub record GoPassed (card : List ℕ) (u : unit.Header) (l : Each ℕ) (s : ℕ)
 
 pub go-passed : {card : List ℕ} {u : unit.Header} {l : Each ℕ} {s : ℕ} {k : Lent} {x : Verdict} → x ≡ Passed
     → verdictIn x ≡ goVerdict card (headerIn u) l s k → GoPassed card u l s k
-go-passed {card} {u} {l} {s} {k} e v =
+go-passed {card} {u} {l} {s} {k} passes verdict-is =
     let h = headerIn u in
-    let none-says-no = sym (ap verdictIn (sym e) ∙ v) in
+    let none-says-no = sym (ap verdictIn (sym passes) ∙ verdict-is) in
     let (first-ones, then) = andThen-none (ask (fitsBy h (length card) l) Lengths (own card h s k)) _ none-says-no in
     let (fits, asked) = ask-none (fitsBy h (length card) l) Lengths (own card h s k) first-ones in
     let (inside, _) = ask-none (ltb (targetOf (h .target)) (h .n)) Lengths none then in
@@ -126,10 +126,10 @@ module _ (card : List ℕ) (h : unit.Header) (a : Areas) (s : ℕ) (k : Lent) wh
 pub go-refused : {card : List ℕ} {h : unit.Header} {a : Areas} {s : ℕ} {k : Lent} {x : Verdict} {q : code.Refusal} {r : Answered}
     → x ≡ Failed q → verdictIn x ≡ goVerdict card (headerIn h) (lengths a) s k → r ≡ record { header = h; answer = answers.Refused q }
     → CallContract card (before (headerIn h) a) (goCall s k) (after (answeredIn r) a k)
-go-refused {card} {h} {a} {s} {k} {q = q} e v i =
+go-refused {card} {h} {a} {s} {k} {q = q} fails verdict-is handed =
     let inside = ltb (targetOf (targetIn (h .target))) (h .sizes .n) in
-    subst (λ (y : Answered). CallContract card (before (headerIn h) a) (goCall s k) (after (answeredIn y) a k)) (sym i)
-    (go (which (ask fits Lengths (own card (headerIn h) s k)) inside (refusalIn q) (ap verdictIn (sym e) ∙ v)))
+    subst (λ (y : Answered). CallContract card (before (headerIn h) a) (goCall s k) (after (answeredIn y) a k)) (sym handed)
+    (go (which (ask fits Lengths (own card (headerIn h) s k)) inside (refusalIn q) (ap verdictIn (sym fails) ∙ verdict-is)))
   where
     fits : Bool
     fits = fitsBy (headerIn h) (length card) (lengths a)
@@ -200,8 +200,8 @@ module _ (card : List ℕ) (h : Header) (a : Areas) (s : ℕ) (k : Lent) where
         → x ≡ goAnswer (ofWord total) count number
         → CallContract card (before h a) (goCall s k) (answering x (before h (goneAreas a e elapsed)) (lentOf route log))
     unfolding left-by
-    go-made f g {z} ez er eo d y =
-        made-by f g (λ w. exactly w (subst (Searched roads order) ez d)) (record { leaves = refl; kept = d .kept })
+    go-made f g {z} target-is roads-are order-is d answer-is =
+        made-by f g (λ w. exactly w (subst (Searched roads order) target-is d)) (record { leaves = refl; kept = d .kept })
       where
         Searched : (roads order : List ℕ) → ℕ → Type 0
         Searched r o z = Searches r o (a .built .ranks) (a .built .pairs) (a .live) (a .aimed .down) (h .pairs) s z (a .aimed .estimates)
@@ -211,14 +211,14 @@ module _ (card : List ℕ) (h : Header) (a : Areas) (s : ℕ) (k : Lent) where
             → left-by x e elapsed route log ≡ goMade (mapOn card) (before h a) s k
         exactly w searched =
             let z = targetOf (h .target) in
-            let here : mapIn roads order ≡ mapOn card = ap₂ mapIn er eo ∙ good-map w in
+            let here : mapIn roads order ≡ mapOn card = ap₂ mapIn roads-are order-is ∙ good-map w in
             let prepared = subst₂ (λ (r : List ℕ) (o : List ℕ). Prepared r o (a .built .ranks) (a .built .pairs) (h .pairs))
-            (sym er) (sym eo) (good-prepared w) in
+            (sym roads-are) (sym order-is) (good-prepared w) in
             let aims = subst (λ (N : Map). AimFacts N z (a .aimed .down) (a .aimed .estimates)) (sym here)
             (aimed-at w (go-facts card h s k g .aimed)) in
             let times = subst (λ (N : Map). (i : ℕ) → i < N .base .arcs → settable (N .base .cost i) (liveOf (a .live) i) ≡ true)
             (sym here) (w .times) in
-            found-is (searched .exact prepared aims times) y ∙ ap gone-on here ∙ made-is
+            found-is (searched .exact prepared aims times) answer-is ∙ ap gone-on here ∙ made-is
 
 -- the same of what is handed back
 pub go-handed : {card : List ℕ} {h : unit.Header} {a : Areas} {s : ℕ} {k : Lent} {roads order e elapsed route log : List ℕ}
@@ -228,7 +228,7 @@ pub go-handed : {card : List ℕ} {h : unit.Header} {a : Areas} {s : ℕ} {k : L
     (k .route) (k .log) e elapsed route log total count number
     → answerIn x ≡ goAnswer (ofWord total) count number → r ≡ record { header = h; answer = x }
     → CallContract card (before (headerIn h) a) (goCall s k) (after (answeredIn r) (goneAreas a e elapsed) (lentOf route log))
-go-handed {card} {h} {a} {s} {k} {e = e} {elapsed} {route} {log} p ez er eo d y i =
+go-handed {card} {h} {a} {s} {k} {e = e} {elapsed} {route} {log} p target-is roads-are order-is searched answer-is handed =
     subst (λ (u : Answered). CallContract card (before (headerIn h) a) (goCall s k)
     (after (answeredIn u) (goneAreas a e elapsed) (lentOf route log)))
-    (sym i) (go-made card (headerIn h) a s k (p .fits) (p .asked) ez er eo d y)
+    (sym handed) (go-made card (headerIn h) a s k (p .fits) (p .asked) target-is roads-are order-is searched answer-is)

@@ -48,7 +48,7 @@ use Rattle.unit.proofs.Refused.{made-by, refused-by}
 
 -- ---- what the questions passed
 
--- 9 and the call's own questions pass, so card and areas have the lengths that the header calls for
+-- 9 and the questions of the call c itself pass, so card and areas have the lengths that the header calls for
 pub record CallPassed (card : List ℕ) (h : unit.Header) (l : Each ℕ) (c : Asked) : Type 0 where
   pub fits : fitsBy (headerIn h) (length card) l ≡ true
   pub asked : refusalOf (knownOf (baseOn card) (headerIn h)) c 0 0 ≡ none
@@ -57,9 +57,9 @@ pub record CallPassed (card : List ℕ) (h : unit.Header) (l : Each ℕ) (c : As
 module _ {card : List ℕ} {h : unit.Header} {l : Each ℕ} where
   pub call-passed : {c : Asked} {x : Verdict} → x ≡ Passed → verdictIn x ≡ asks (baseOn card) (headerIn h) (length card) l c 0 0
       → CallPassed card h l c
-  call-passed {c} e k =
+  call-passed {c} passes verdict-is =
       let own = refusalOf (knownOf (baseOn card) (headerIn h)) c 0 0 in
-      let (fits, asked) = ask-none (fitsBy (headerIn h) (length card) l) Lengths own (sym (ap verdictIn (sym e) ∙ k)) in
+      let (fits, asked) = ask-none (fitsBy (headerIn h) (length card) l) Lengths own (sym (ap verdictIn (sym passes) ∙ verdict-is)) in
       record { fits = fits; asked = asked; sizes = fits-facts fits }
 
   -- of areas that have these lengths
@@ -90,18 +90,19 @@ pub aimed-at : {card : List ℕ} {h : Header} {a : Areas} → Good card (before 
 aimed-at {card} {h} {a} g e =
     subst (λ (y : Target). Aims (mapOn card) y (a .aimed .down) (a .aimed .estimates)) (at-target (h .target) e) (g .aims)
 
--- ---- a refusal
+-- ---- a refusal leaves header and areas as they were
 
 pub refused : {card : List ℕ} {h : unit.Header} {a : Areas} {c : Asked} {k : Lent} {x : Verdict} {q : code.Refusal} {r : Answered}
     {l : Each ℕ} → lengths a ≡ l → x ≡ Failed q
     → verdictIn x ≡ ask (fitsBy (headerIn h) (length card) l) Lengths (refusalBy (baseOn card) (headerIn h) (calling c k))
     → r ≡ record { header = h; answer = answers.Refused q }
     → CallContract card (before (headerIn h) a) (calling c k) (after (answeredIn r) a k)
-refused {card} {h} {a} {c} {k} {q} w e v i =
+refused {card} {h} {a} {c} {k} {q} lengths-are fails verdict-is handed =
     let own = refusalBy (baseOn card) (headerIn h) (calling c k) in
     let says-no : some (refusalIn q) ≡ ask (fitsBy (headerIn h) (length card) (lengths a)) Lengths own =
-    ap verdictIn (sym e) ∙ v ∙ ap (λ (y : Each ℕ). ask (fitsBy (headerIn h) (length card) y) Lengths own) (sym w) in
-    subst (λ (y : Answered). CallContract card (before (headerIn h) a) (calling c k) (after (answeredIn y) a k)) (sym i)
+    ap verdictIn (sym fails) ∙ verdict-is
+    ∙ ap (λ (y : Each ℕ). ask (fitsBy (headerIn h) (length card) y) Lengths own) (sym lengths-are) in
+    subst (λ (y : Answered). CallContract card (before (headerIn h) a) (calling c k) (after (answeredIn y) a k)) (sym handed)
     (refused-by says-no)
 
 -- the areas as they were, by those of them that were handed on
@@ -114,20 +115,20 @@ module _ {card : List ℕ} {s : State} {a : Areas} {c : Call} {x : model.Answere
       → CallContract card s c (after x (withAimed a d e) k)
   same-aimed u = subst (λ (z : Aimed (List ℕ)). CallContract card s c (after x (withAimed a (z .down) (z .estimates)) k)) u m
 
--- ---- set
+-- ---- set: one live time is written
 
 pub set-made : {card : List ℕ} {h : unit.Header} {a : Areas} {k : Lent} {l : Each ℕ} {i t : ℕ} → lengths a ≡ l
     → CallPassed card h l (Set i t) → {live : List ℕ} → a .live ≡ live → {v : ℕ} → v ≡ t
     → {r : Answered} → r ≡ record { header = h; answer = answers.Accepted }
     → CallContract card (before (headerIn h) a) (calling (Set i t) k) (after (answeredIn r) (withLive a (set live i v)) k)
-set-made {card} {h} {a} {k} {i} {t} w p {live} u {v} e {r} y =
+set-made {card} {h} {a} {k} {i} {t} lengths-are p {live} live-is {v} time-is {r} handed =
     let written : after (answeredIn r) (withLive a (set live i v)) k ≡ made (mapOn card) (before (headerIn h) a) (Set i t) k =
-    ap (λ (s : Answered). after (answeredIn s) (withLive a (set live i v)) k) y
+    ap (λ (s : Answered). after (answeredIn s) (withLive a (set live i v)) k) handed
     ∙ ap₂ (λ (s : List ℕ) (b : ℕ). after (record { header = headerIn h; answer = model.Accepted }) (withLive a (set s i b)) k)
-    (sym u) e in
-    made-by (passed-of a w p .fits) (p .asked) (λ g. written) written
+    (sym live-is) time-is in
+    made-by (passed-of a lengths-are p .fits) (p .asked) (λ g. written) written
 
--- ---- aim
+-- ---- aim: d are the down totals of the target, and e are marks unasked
 
 -- what is handed back and left
 module _ (h : Header) (a : Areas) (j : ℕ) (k : Lent) where
@@ -140,23 +141,22 @@ pub aim-made : {card : List ℕ} {h : unit.Header} {a : Areas} {k : Lent} {l : E
     → Descended order pairs (h .sizes .pairs) d (j .0) → e ≡ replicate (length estimates) unasked
     → {r : Answered} → r ≡ record { header = record { sizes = h .sizes; target = targets.At j }; answer = answers.Accepted }
     → CallContract card (before (headerIn h) a) (calling (Aim (j .0)) k) (after (answeredIn r) (withAimed a d e) k)
-aim-made {card} {h} {a} {k} {j} w p {d = d} {e} same-pairs u o m v y =
-    let here = passed-of a w p in
-    let handed = ap (λ (s : Answered). after (answeredIn s) (withAimed a d e) k) y in
+aim-made {card} {h} {a} {k} {j} lengths-are p {d = d} {e} pairs-are aimed-is order-is descended filled-is handed =
+    let here = passed-of a lengths-are p in
+    let left = ap (λ (s : Answered). after (answeredIn s) (withAimed a d e) k) handed in
     let unasked-are : e ≡ replicate (length (a .aimed .estimates)) unasked =
-    v ∙ ap (λ (b : Aimed (List ℕ)). replicate (length (b .estimates)) unasked) (sym u) in
+    filled-is ∙ ap (λ (b : Aimed (List ℕ)). replicate (length (b .estimates)) unasked) (sym aimed-is) in
     made-by (here .fits) (p .asked)
-    (λ g. handed ∙ ap₂ (aimed-with (headerIn h) a (j .0) k) (downs g)
+    (λ g. left ∙ ap₂ (aimed-with (headerIn h) a (j .0) k) (downs g)
     (unasked-are ∙ ap (λ (b : ℕ). replicate b unasked) (here .sizes .lengths .estimates ∙ g .n-is)))
-    (handed ∙ ap (aimed-with (headerIn h) a (j .0) k d) unasked-are)
+    (left ∙ ap (aimed-with (headerIn h) a (j .0) k d) unasked-are)
   where
     downs : Good card (before (headerIn h) a) → d ≡ listed (mapOn card .vertices) (λ v. word (downTotalOf (mapOn card) (j .0) v))
     downs g =
-        let descended = descended-at o same-pairs m in
-        descended .exact (roadsIn card (h .sizes .m)) (a .built .ranks) (good-prepared g)
+        descended-at order-is pairs-are descended .exact (roadsIn card (h .sizes .m)) (a .built .ranks) (good-prepared g)
         ∙ ap (λ (M : Map). listed (M .vertices) (λ v. word (downTotalOf M (j .0) v))) (good-map g)
 
--- ---- estimate
+-- ---- estimate: v is that of the junction j, and e are the estimates with those that it filled
 
 pub estimate-made : {card : List ℕ} {h : unit.Header} {a : Areas} {k : Lent} {l : Each ℕ} {j : ℕ} → lengths a ≡ l
     → CallPassed card h l (Estimate j) → {ranks pairs order down estimates e : List ℕ} {v : Time}
@@ -165,14 +165,14 @@ pub estimate-made : {card : List ℕ} {h : unit.Header} {a : Areas} {k : Lent} {
     → estimates-of.Estimated order ranks pairs (h .sizes .pairs) down estimates e j (v .0)
     → {r : Answered} → r ≡ record { header = h; answer = answers.Estimated v }
     → CallContract card (before (headerIn h) a) (calling (Estimate j) k) (after (answeredIn r) (withAimed a down e) k)
-estimate-made {card} {h} {a} {k} {j} w p {down = down} {e = e} {v} b u o m {r} y =
-    let here = estimated-at o b u m in
-    let handed : after (answeredIn r) (withAimed a down e) k ≡ answered-with (v .0) e =
-    ap (λ (s : Answered). after (answeredIn s) (withAimed a down e) k) y
+estimate-made {card} {h} {a} {k} {j} lengths-are p {down = down} {e = e} {v} built-is aimed-is order-is done {r} handed =
+    let here = estimated-at order-is built-is aimed-is done in
+    let left : after (answeredIn r) (withAimed a down e) k ≡ answered-with (v .0) e =
+    ap (λ (s : Answered). after (answeredIn s) (withAimed a down e) k) handed
     ∙ ap (λ (c : Aimed (List ℕ)). answering (model.Estimated (v .0)) (leaving (before (headerIn h) a) (targetIn (h .target)) (a .live)
-    (record { down = c .down; estimates = e }) (a .trip)) k) (sym u) in
-    made-by (passed-of a w p .fits) (p .asked) (λ g. handed ∙ estimated here g)
-    (subst (EstimateWrites (before (headerIn h) a) k) (sym handed)
+    (record { down = c .down; estimates = e }) (a .trip)) k) (sym aimed-is) in
+    made-by (passed-of a lengths-are p .fits) (p .asked) (λ g. left ∙ estimated here g)
+    (subst (EstimateWrites (before (headerIn h) a) k) (sym left)
     (record { time = v .0; known = here .answered; leaves = refl; kept = here .kept }))
   where
     answered-with : ℕ → List ℕ → Step
