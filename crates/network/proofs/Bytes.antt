@@ -12,7 +12,8 @@ use Rattle.network.specs.Bytes.{bytes-append}
 
 -- the four stores of a word
 pub stored : (s : List ℕ) (i w : ℕ) → i + 4 ≤ length s
-    → set (set (set (set s i (w % 256)) (i + 1) (w / 256 % 256)) (i + 2) (w / 65536 % 256)) (i + 3) (w / 16777216 % 256) ≡ take i s ++ bytesOf (w ∷ []) ++ drop (i + 4) s
+    → set (set (set (set s i (w % 256)) (i + 1) (w / 256 % 256)) (i + 2) (w / 65536 % 256)) (i + 3) (w / 16777216 % 256)
+    ≡ take i s ++ bytesOf (w ∷ []) ++ drop (i + 4) s
 stored s i w h =
     let e1 : i + 1 ≡ suc i = omega arith in
     let e2 : i + 2 ≡ suc (suc i) = omega arith in
@@ -27,10 +28,12 @@ module _ (s₀ words : List ℕ) where
   front : (i : ℕ) → i ≤ length words → length (bytesOf (take i words)) ≡ 4 * i
   front i h = bytes-length (take i words) ∙ ap (λ (k : ℕ). 4 * k) (length-take-le i words h)
 
-  pub put-turn : (i : ℕ) (s z : List ℕ) → i < length words → Put s₀ words i s → z ≡ take (4 * i) s ++ bytesOf (getD words i 0 ∷ []) ++ drop (4 * i + 4) s → Put s₀ words (i + 1) z
+  pub put-turn : (i : ℕ) (s z : List ℕ) → i < length words → Put s₀ words i s
+      → z ≡ take (4 * i) s ++ bytesOf (getD words i 0 ∷ []) ++ drop (4 * i + 4) s → Put s₀ words (i + 1) z
   put-turn i s z h p q =
       let f = front i (omega arith) in
-      let t : take (4 * i) s ≡ bytesOf (take i words) = ap (take (4 * i)) p ∙ take-at (bytesOf (take i words)) (drop (4 * i) s₀) (4 * i) f in
+      let t : take (4 * i) s ≡ bytesOf (take i words) =
+      ap (take (4 * i)) p ∙ take-at (bytesOf (take i words)) (drop (4 * i) s₀) (4 * i) f in
       let d : drop (4 * i + 4) s ≡ drop (4 * i + 4) s₀ =
       ap (drop (4 * i + 4)) p
       ∙ ap (λ (k : ℕ). drop (k + 4) (bytesOf (take i words) ++ drop (4 * i) s₀)) (sym f)
@@ -45,5 +48,6 @@ module _ (s₀ words : List ℕ) where
   pub put-end : (i : ℕ) (s : List ℕ) → length s₀ ≡ 4 * length words → i ≡ length words → Put s₀ words i s → s ≡ bytesOf words
   put-end i s e h p =
       let l : 4 * i ≡ length s₀ = omega arith in
-      p ∙ ap₂ (λ (x : List ℕ) (y : List ℕ). bytesOf x ++ y) (ap (λ (k : ℕ). take k words) h ∙ take-length words) (ap (λ (k : ℕ). drop k s₀) l ∙ drop-length s₀)
+      p ∙ ap₂ (λ (x : List ℕ) (y : List ℕ). bytesOf x ++ y) (ap (λ (k : ℕ). take k words) h ∙ take-length words)
+      (ap (λ (k : ℕ). drop k s₀) l ∙ drop-length s₀)
       ∙ append-nil (bytesOf words)
