@@ -1,4 +1,4 @@
--- A row that is too long in words is so in bytes; of shorter ones the product does not wrap.
+-- A row that is too long in words is so in bytes (`long-roads`, `long-order`); of shorter ones the product does not wrap.
 use Rattle.card_writer.proofs.Long.{long-order, long-roads}
 use borrow.Author.Needs.{needs}
 use Rattle.card_writer.proofs.sizes_ok.Statement.{statement}
