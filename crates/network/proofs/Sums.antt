@@ -1,5 +1,5 @@
 -- One step of a minimum of sums, by the ways through the code. Assumes nothing.
-use mathlib.Core.Path.{_∙_, _≡_, ap}
+use mathlib.Core.Path.{_∙_, _≡_}
 use Prim.Native.Nat.{_+_, _<_, _≤_, min, ℕ}
 use mathlib.Core.Option.{some}
 use native.Mathlib.Omega.{arith}

@@ -5,7 +5,7 @@ use Prim.Native.Nat.{_-_}
 use borrow.Author.Needs.{needs}
 use borrow.Author.Tests.{not-false, not-true}
 use native.Mathlib.Omega.{arith}
-use Rattle.model.specs.Card.{Rows, roadOk}
+use Rattle.model.specs.Card.{roadOk}
 use Rattle.network.specs.Bodies.{rowsIn}
 use Rattle.card_sections.proofs.Roads.{RoadsPass, arcs, body-known, junctions, roads-end, roads-fail, roads-start, roads-turn}
 use Rattle.card_sections.proofs.failing_road.Statement.{statement}

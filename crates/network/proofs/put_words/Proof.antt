@@ -1,10 +1,8 @@
 -- The loop keeps that the first i words are in place and the rest is as it was (`Put`). A turn puts one word more (`put-turn`); once all are
 -- put, nothing else is left (`put-end`).
-use Prim.Native.Nat.{_-_, _≤_}
-use mathlib.Core.Path.{_≡_}
+use Prim.Native.Nat.{_-_}
 use lib.ListN.{length}
 use borrow.Author.Needs.{needs}
-use native.Mathlib.Omega.{arith}
 use Rattle.network.proofs.Bytes.{Put, put-end, put-start, put-turn}
 use Rattle.network.proofs.put_words.Statement.{statement}
 use Rattle.network.proofs.put_words.Tie as tie
