@@ -1,8 +1,6 @@
--- `card_reader::moved_on` meets its contract: a walk of its MIR, by hand. The reader is taken apart, `card_layout::entry_after` is called on the
--- card and the place, and a reader is made anew of the card and the place that it answers.
--- What the reader owns is kept whole at the call (`Struct.antt`'s `apart`), and is had twice at the exit, for the parameter and for the
--- result.
--- Assumes nothing.
+-- `card_reader::moved_on` meets its contract: a walk of its MIR, by hand. The reader is taken apart, `card_layout::entry_after` is called
+-- on the card and the place, and a reader is made anew of the card and the place that it answers. What the reader owns is kept whole at the
+-- call (`Struct.antt`'s `apart`), and is had twice at the exit, for the parameter and for the result. Assumes nothing.
 use mathlib.Core.Path.{_≡_, refl, ap}
 use Prim.Native.Nat.{ℕ, _<_, _^_}
 use mathlib.Core.List.{[], _∷_}

@@ -1,5 +1,5 @@
--- The loop keeps that the first i words are in place and the rest is as it was (`Put`). A turn puts one word more (`put-turn`); once all are
--- put, nothing else is left (`put-end`).
+-- The loop keeps that the first i words are in place and the rest is as it was (`Put`). A
+-- turn puts one word more (`put-turn`); once all are put, nothing else is left (`put-end`).
 use Prim.Native.Nat.{_-_}
 use lib.ListN.{length}
 use borrow.Author.Needs.{needs}
