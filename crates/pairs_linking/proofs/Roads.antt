@@ -82,13 +82,13 @@ module _ (f : ℕ → ℕ) (r : ℕ) where
       go false t q (yes p) rec = eqb-false (f k) r t (ap f (sym p) ∙ e)
       go false t q (no p) rec = rec q (omega arith)
 
-module _ (N : Network) (n : ℕ) (first next : List ℕ) where
+module _ {N : Network} {n : ℕ} {first next : List ℕ} where
   pub linked-start : ((r : ℕ) → r < n → getD first r 0 ≡ 0) → Linked N n 0 first next
   linked-start z = record { firsts = z; nexts = λ i h. absurd (not-suc-le-zero h) }
 
-  pub linked-turn : (i r v : ℕ) → n ≤ length first → i < length next → r < n → r ≡ rowOf N i → v ≡ i + 1 → Linked N n i first next
+  pub linked-turn : {i r v : ℕ} → n ≤ length first → i < length next → r < n → r ≡ rowOf N i → v ≡ i + 1 → Linked N n i first next
       → Linked N n (i + 1) (set first r v) (set next i (getD first r 0))
-  linked-turn i r v lf ln hr er ev l = rw (add-one i) (record {
+  linked-turn {i} {r} {v} lf ln hr er ev l = rw (add-one i) (record {
     firsts = λ q hq. head q hq (ℕ-discrete q r);
     nexts = λ j hj. link j hj (ℕ-discrete j i);
   })
@@ -108,8 +108,8 @@ module _ (N : Network) (n : ℕ) (first next : List ℕ) where
           ∙ ap₂ (λ (x : ℕ) (y : ℕ). lastOf (rowOf N) x y) (er ∙ ap (rowOf N) (sym e)) (sym e)
       link j hj (no ne) = getD-set-other next i j (getD first r 0) 0 ne ∙ l .nexts j (omega arith)
 
-  pub linked-end : (i k : ℕ) → i ≤ k → k ≤ i → Linked N n i first next → Linked N n k first next
-  linked-end i k p q l = let e : i ≡ k = omega arith in rw e at l
+  pub linked-end : {i k : ℕ} → i ≤ k → k ≤ i → Linked N n i first next → Linked N n k first next
+  linked-end {i} {k} p q l = let e : i ≡ k = omega arith in rw e at l
 
 -- ---- one road
 
@@ -162,7 +162,7 @@ module _ {roads ranks : List ℕ} {i a b t : ℕ} (road : Road roads ranks i a b
             (λ h rh ne. ap (_⊓_ (x h)) (cost-head N i (rowOf N i) h (λ q. ne (sym q ∙ head))) ∙ ⊓-none (x h));
         downs-by = λ y w. row-same (λ h. y h ⊓ costBetween N h (rowOf N i) i) w
             (λ h rh hn. ap (_⊓_ (y h)) (cost-tail N i h (rowOf N i) (λ q. omega arith)) ∙ ⊓-none (y h));
-        marks = λ r m w. marked-set b touched′ (set ups b v) downs lb et (λ h ne. getD-set-other ups b h v 0 ne) (λ h ne. refl) w;
+        marks = λ r m w. marked-set lb et (λ h ne. getD-set-other ups b h v 0 ne) (λ h ne. refl) w;
       }
 
   pub road-down : {n v : ℕ} {ups downs touched touched′ : List ℕ} → b ≤ a → v ≡ min (getD downs a 0) t → a < block * length touched
@@ -176,7 +176,7 @@ module _ {roads ranks : List ℕ} {i a b t : ℕ} (road : Road roads ranks i a b
             (λ ra an. ev ∙ relaxed-entry (y a) (getD downs a 0) (w .at a ra an) ∙ ap (λ (c : Total). word (fit (y a ⊓ c)))
             (sym (cost-at N i a (rowOf N i) tail e)))
             (λ h rh ne. ap (_⊓_ (y h)) (cost-tail N i h (rowOf N i) (λ q. ne (sym q ∙ tail))) ∙ ⊓-none (y h));
-        marks = λ r m w. marked-set a touched′ ups (set downs a v) la et (λ h ne. refl) (λ h ne. getD-set-other downs a h v 0 ne) w;
+        marks = λ r m w. marked-set la et (λ h ne. refl) (λ h ne. getD-set-other downs a h v 0 ne) w;
       }
 
 -- ---- the walk down the roads of r

@@ -95,11 +95,11 @@ le-blocks {n} {l} {l₀} h e = omega arith
 pub before-arc : {c m : ℕ} → c ≤ m → 0 < c → c - 1 < m
 before-arc {c} {m} h k = omega arith
 
-pub back-less : {c d l : ℕ} → d ≡ l → l ≤ c - 1 → 0 < c → d < c
-back-less {c} {d} {l} e h k = omega arith
+pub back-less : {c d : ℕ} → d ≤ c - 1 → 0 < c → d < c
+back-less {c} {d} h k = omega arith
 
-pub back-most : {c d l m : ℕ} → d ≡ l → l ≤ c - 1 → c ≤ m → d ≤ m
-back-most {c} {d} {l} {m} e h k = omega arith
+pub back-most : {c d m : ℕ} → d ≤ c - 1 → c ≤ m → d ≤ m
+back-most {c} {d} {m} h k = omega arith
 
 pub one-less : {c : ℕ} → 0 < c → c ≡ suc (c - 1)
 one-less {c} h = omega arith

@@ -1,6 +1,6 @@
 -- The list of a row goes back from its last road (`Walked`): each turn relaxes the row by one road more (`walked-turn`), and the place in
 -- the list falls, since the list was linked downwards (`lastOf-le`).
-use Prim.Native.Nat.{_*_, _-_, _/_, _<_, _≤_, ℕ}
+use Prim.Native.Nat.{_*_, _-_, _<_, _≤_, ℕ}
 use mathlib.Core.Path.{_∙_, _≡_, refl}
 use mathlib.Core.List.{List}
 use mathlib.Core.Option.{none}
@@ -9,7 +9,7 @@ use lib.ListN.{getD, length}
 use borrow.Author.Needs.{needs}
 use Rattle.graph.specs.Network.{Network}
 use Rattle.model.specs.Limits.{mostRoads}
-use Rattle.pairs_rows.specs.Steps.{back-less, back-most, before-arc, by-none, le-blocks, le-kept, lt-le, one-less}
+use Rattle.pairs_rows.specs.Steps.{back-less, back-most, before-arc, by-most, by-none, le-blocks, le-kept, lt-le, one-less}
 use Rattle.pairs_rows.specs.Links.{lastOf, netIn, rowOf}
 use Rattle.pairs_rows.specs.Rows.{Row, block}
 use Rattle.pairs_linking.proofs.Roads.{Walked, lastOf-le, walked-end, walked-start, walked-turn}
@@ -56,6 +56,10 @@ link-is : (c : tie.In-loop Inv-loop μ-loop) → getD (start (c .before) .args .
     ≡ lastOf (rowOf (net (c .before))) (rowOf (net (c .before)) (c .before .loop .c - 1)) (c .before .loop .c - 1)
 link-is c = start (c .before) .pre .grouped .linked .nexts (c .before .loop .c - 1) (road-in c)
 
+link-low : (c : tie.In-loop Inv-loop μ-loop)
+    → getD (start (c .before) .args .next .now) (c .before .loop .c - 1) 0 ≤ c .before .loop .c - 1
+link-low c = by-most (link-is c) (lastOf-le (rowOf (net (c .before))) _ _)
+
 -- ---- the answers
 
 shared-slice-read-c : tie.Need-shared-slice-read-c Inv-loop μ-loop
@@ -100,7 +104,7 @@ shared-slice-read-c-2 c =
 loop-less : tie.Need-loop-less Inv-loop μ-loop
 loop-less c =
     let in-loop = c .before .before .before .before .before .before .before .before .before .before .before in
-    back-less (link-is in-loop) (lastOf-le _ _ _) (in-loop .loop-test .taken)
+    back-less (link-low in-loop) (in-loop .loop-test .taken)
 
 loop-again : tie.Need-loop-again Inv-loop μ-loop
 loop-again c =
@@ -108,7 +112,7 @@ loop-again c =
     let in-loop = after-relax-road .before .before .before .before in
     let inv = in-loop .before .loop .inv in
     let (_, (_, (_, (ups-kept, (downs-kept, (touched-kept, _)))))) = after-relax-road .relax-road .kept in record {
-      in-list = back-most (link-is in-loop) (lastOf-le _ _ _) (inv .in-list);
+      in-list = back-most (link-low in-loop) (inv .in-list);
       ups-kept = ups-kept ∙ inv .ups-kept;
       downs-kept = downs-kept ∙ inv .downs-kept;
       touched-kept = touched-kept ∙ inv .touched-kept;
