@@ -32,14 +32,14 @@ down-totals-requires c κs =
     let after-enum-told = c .before .before in
     let (pairs-are, down-is) = start (after-enum-told .before .before) .pre in
     let p = passed after-enum-told in
-    let f = p .sizes in (
-      aim-below p,
-      f .n-high,
-      order-sized f (c .before .order-of .ensures),
-      sym down-is ∙ f .lengths .down,
-      omega (arith, f .lengths .room, pairs-are),
-      pairs-few f,
-    )
+    let f = p .sizes in record {
+      target-in = aim-below p;
+      n-high = f .n-high;
+      order-is = order-sized f (c .before .order-of .ensures);
+      down-is = sym down-is ∙ f .lengths .down;
+      records-in = omega (arith, f .lengths .room, pairs-are);
+      count-high = pairs-few f;
+    }
 
 returns : tie.Need-returns
 returns c b lengths-are pairs-are aimed-is k =

@@ -32,16 +32,16 @@ estimate-requires c κs =
     let after-enum-told = c .before .before in
     let told = start (after-enum-told .before .before) .pre in
     let p = passed after-enum-told in
-    let f = p .sizes in (
-      estimate-below p .0,
-      f .n-high,
-      order-sized f (c .before .order-of .ensures),
-      sym (told .ranks-are) ∙ f .lengths .ranks,
-      sym (told .down-is) ∙ f .lengths .down,
-      sym (told .estimates-are) ∙ f .lengths .estimates,
-      omega (arith, f .lengths .room, told .pairs-are),
-      pairs-few f,
-    )
+    let f = p .sizes in record {
+      junction-in = estimate-below p .0;
+      n-high = f .n-high;
+      order-is = order-sized f (c .before .order-of .ensures);
+      ranks-are = sym (told .ranks-are) ∙ f .lengths .ranks;
+      down-is = sym (told .down-is) ∙ f .lengths .down;
+      estimates-are = sym (told .estimates-are) ∙ f .lengths .estimates;
+      records-in = omega (arith, f .lengths .room, told .pairs-are);
+      count-high = pairs-few f;
+    }
 
 returns : tie.Need-returns
 returns c b lengths-are built-is aimed-is k =

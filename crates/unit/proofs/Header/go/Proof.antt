@@ -69,13 +69,13 @@ search-requires c κs =
     let after-roads-of = after-order-of c .before in
     let after-enum-told = after-roads-of .before in
     let s = start (after-enum-told .before .before) in
-    let p = passed after-enum-told in (
-      p .facts .start,
-      omega (arith, c .aimed-at .ensures, p .target),
-      p .facts .route-room,
-      p .facts .log-room,
-      sized (areas s) (p .sizes) (after-roads-of .roads-of .ensures) (after-order-of c .order-of .ensures),
-    )
+    let p = passed after-enum-told in record {
+      start-in = p .facts .start;
+      target-in = omega (arith, c .aimed-at .ensures, p .target);
+      ways-long = p .facts .route-room;
+      log-long = p .facts .log-room;
+      sized = sized (areas s) (p .sizes) (after-roads-of .roads-of .ensures) (after-order-of c .order-of .ensures);
+    }
 
 returns-2 : tie.Need-returns-2
 returns-2 c =
