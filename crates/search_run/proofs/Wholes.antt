@@ -296,8 +296,8 @@ advances {g} {budget = budget} {most} {e} {log₀ = log₀} {l₁ = l₁} lends 
   kept = kept-trans (begun .kept) (x .kept);
   count-le = omega (arith, x .count-le);
   exact = λ r a.
-      let ch = top (orderOf l₁) (omega (arith, lends .0)) (begun .room .n-high) (begun .room .right) in
-      let none = cleared ∙ ap (λ (k : ℕ). replicate k noneWord) (lends .4 .elapsed-is) in
-      let d = x .goes e log₀ r (omega (arith, lends .3)) (going-start r (begun .exact (g .roads) (g .live) _ r a) none ch) in
+      let ch = top (orderOf l₁) (omega (arith, lends .start-in)) (begun .room .n-high) (begun .room .right) in
+      let none = cleared ∙ ap (λ (k : ℕ). replicate k noneWord) (lends .sized .elapsed-is) in
+      let d = x .goes e log₀ r (omega (arith, lends .log-long)) (going-start r (begun .exact (g .roads) (g .live) _ r a) none ch) in
       advanced r d budget (omega (arith, x .count-le)) (λ y. turn-left {most = most} left (y .0, omega (arith, y .1)));
 }

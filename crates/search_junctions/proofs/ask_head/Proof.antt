@@ -61,16 +61,16 @@ returns-3 c =
 estimate-requires : tie.Need-estimate-requires
 estimate-requires c κs =
     let after-is-unasked = c .before .before in
-    let lent = start after-is-unasked .pre .1 in (
-      omega (arith, else2 after-is-unasked .if2 .left),
-      lent .over .n-high,
-      lent .over .order-is,
-      lent .over .ranks-are,
-      lent .over .down-is,
-      lent .over .estimates-are,
-      lent .over .pairs-are,
-      lent .over .count-high,
-    )
+    let lent = start after-is-unasked .pre .1 in record {
+      junction-in = omega (arith, else2 after-is-unasked .if2 .left);
+      n-high = lent .over .n-high;
+      order-is = lent .over .order-is;
+      ranks-are = lent .over .ranks-are;
+      down-is = lent .over .down-is;
+      estimates-are = lent .over .estimates-are;
+      records-in = lent .over .pairs-are;
+      count-high = lent .over .count-high;
+    }
 
 returns-4 : tie.Need-returns-4
 returns-4 c =

@@ -287,7 +287,7 @@ returns c =
     let at-loop = c .before in
     let after-choose = at-loop .before in
     let lends = start at-loop .pre in
-    advances lends (begins-first (lends .0) (blank (lends .4) (lends .2)) (after-ask-start at-loop .ask-start .ensures)
+    advances lends (begins-first (lends .start-in) (blank (lends .sized) (lends .ways-long)) (after-ask-start at-loop .ask-start .ensures)
     (after-begin at-loop .begin .ensures))
     (after-fill at-loop .fill .ensures) (after-choose .choose .ensures) (after-smaller at-loop .smaller .ensures) (at-loop .loop .inv)
     (c .loop-test .left)
