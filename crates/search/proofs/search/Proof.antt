@@ -35,8 +35,7 @@ long c =
 abbrev after-advance : tie.After-is-none → tie.After-advance
 after-advance c = c .before .before .before .before .before .before .before .before .before .before .before
 
--- ---- after the way back
-
+-- from where a search that found a route returns
 abbrev else1 : tie.After-slice-known9 → tie.Else1
 else1 c = c .before .before .before .before .before
 

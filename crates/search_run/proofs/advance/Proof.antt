@@ -40,6 +40,7 @@ abbrev μ-loop : tie.MeasureT-loop
 abbrev start-of : tie.After-group Inv-loop μ-loop → tie.Start Inv-loop μ-loop
 start-of c = c .before .before .before .before .before .before .before .before .before .before .before .before
 
+-- from where the first candidate is chosen
 abbrev begun : tie.After-tree3 Inv-loop μ-loop → tie.After-begin Inv-loop μ-loop
 begun c = c .before .before .before .before .before .before .before .before .before .before .before
 
@@ -69,6 +70,7 @@ sizes c = start c .args .trip .sizes
 abbrev labels : tie.At-loop Inv-loop μ-loop → Labelling
 labels c = labellingOf (c .loop .times) (c .loop .keys) (c .loop .vias) (c .loop .tree)
 
+-- the local areas are as long as they were made
 locals : (c : tie.At-loop Inv-loop μ-loop) → Locals (labels c)
 locals c =
     let (_, (times-kept, (keys-kept, (_, (tree-kept, _))))) = after-begin c .begin .kept in
@@ -78,6 +80,7 @@ locals c =
       tree-are = counted (2 * mostJunctions) nobodyWord tree-kept;
     })
 
+-- the rows of the roads, once they are grouped
 abbrev rows : tie.At-loop Inv-loop μ-loop → List ℕ
 rows c = let (_, (_, (_, (rows, _)))) = after-group c .group .last in rows
 
@@ -86,6 +89,7 @@ rows-are c =
     let (_, (_, (_, (rows-kept, _)))) = after-group c .group .kept in
     counted (mostJunctions + mostRoads) 0 rows-kept
 
+-- those of the caller are as long as they came
 estimates-long : (c : tie.At-loop Inv-loop μ-loop) → length (c .loop .estimates) ≡ length (start c .args .estimates .now)
 estimates-long c =
     let (_, (_, (_, (_, (_, (estimates-kept, _)))))) = after-ask-start c .ask-start .kept in
@@ -138,6 +142,7 @@ after-put c = c .before .before .before .before .before .before .before
 abbrev after-ask : tie.After-relax Inv-loop μ-loop → tie.After-ask Inv-loop μ-loop
 after-ask c = c .before .before .before .before .before .before .before .before .before
 
+-- from where the next candidate is chosen
 abbrev after-relax : tie.After-tree8 Inv-loop μ-loop → tie.After-relax Inv-loop μ-loop
 after-relax c = c .before .before .before .before .before .before
 

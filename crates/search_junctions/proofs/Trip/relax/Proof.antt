@@ -25,6 +25,7 @@ abbrev μ-loop : tie.MeasureT-loop
 
 -- ---- at the head of the loop, and in it
 
+-- from where the loop begins
 abbrev start : tie.After-shared-slice-known5 Inv-loop μ-loop → tie.Start Inv-loop μ-loop
 start c = c .before .before .before .before .before .before .before .before .before .before .before .before
 
