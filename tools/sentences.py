@@ -1,7 +1,7 @@
 #!/usr/bin/env python3
 """Checks that the documents are true to the tree: the names and figures of docs/SENTENCES.md, docs/THEOREMS.md,
-docs/THEORY.md, docs/DECISIONS.md and README.md, and the edits that docs/MUTANTS.md names. What is wrong is told with its
-line, and the status is 1. No line of a document in docs/ has more than 160 characters.
+docs/THEORY.md, docs/DECISIONS.md and README.md, the edits that docs/MUTANTS.md names, and what docs/PROOFS.md quotes. What
+is wrong is told with its line, and the status is 1. No line of a document in docs/ has more than 160 characters.
 
 SENTENCES is a list: a sentence, an arrow, and what holds it. Each name after the arrow stands in the place named before
 it. A place is `crate/File` (crates/crate/specs/File.antt), `crate/src`, `crate/must-fail` (wrong programs of the gate),
@@ -12,6 +12,9 @@ The others: a name in backquotes is declared somewhere in the tree, `crate::name
 some crate's, `File.name` or `Record.field` in that file or one that declares the record. In a table whose last column
 is File, it is declared in one of the files that its row names. Line counts of definitions are those of the tree: LINES
 says how they are taken.
+
+PROOFS: a paragraph that ends in "From FILE:" has a quotation under it, which stands so in that file. From its part 5 on, names
+are looked for as in the others.
 """
 import functools
 import glob
@@ -214,6 +217,16 @@ def edits(text):
                 yield number, None if good else f'{crate} has no edit {edit}'
 
 
+# ---- docs/PROOFS.md
+
+def quotations(text):
+    """Of each quotation: what is wrong with it, None if the file has it."""
+    for found in re.finditer(r'From (crates/\S+):\n\n((?:    .*\n|\n(?=    ))+)', text):
+        file, quoted = found.group(1), re.sub(r'^    ', '', found.group(2), flags=re.M)
+        good = os.path.isfile(file) and quoted.strip('\n') + '\n' in read(file)
+        yield text.count('\n', 0, found.start()) + 1, None if good else f'{file} has no such lines'
+
+
 # ---- figures
 
 def lines(*files):
@@ -271,6 +284,10 @@ def main():
     found = [fault for file in files_of('docs/*.md') for fault in wide(file)]
     found += [('docs/SENTENCES.md', number, fault) for number, fault in sentences(read('docs/SENTENCES.md'))]
     found += [(document, number, fault) for document in DOCS for number, fault in names(read(document))]
+    proofs = read('docs/PROOFS.md')
+    above = proofs.index('\n## 5.') + 1
+    found += [('docs/PROOFS.md', number + proofs.count('\n', 0, above), fault) for number, fault in names(proofs[above:])]
+    found += [('docs/PROOFS.md', number, fault) for number, fault in quotations(proofs)]
     found += [('docs/MUTANTS.md', number, fault) for number, fault in edits(read('docs/MUTANTS.md'))]
     found += [('figures', 0, fault) for fault in figures(read('docs/THEOREMS.md'), read('docs/THEORY.md'), read('README.md'))]
     for document, number, fault in found:

@@ -1,4 +1,4 @@
--- The ways through reading. Assumes nothing.
+-- The ways through reading: the first of questions 1 to 6 that refuses is the answer. Assumes nothing.
 use mathlib.Core.Path.{_∙_, _≡_, ap, ap₂, sym}
 use mathlib.Core.Bool.{false, true}
 use mathlib.Core.Option.{Option, none, some}
@@ -43,36 +43,48 @@ module _ {card : List ℕ} {count : ℕ} {a b : Section} (t : Entries card count
   unfolding cardRefusal
   read-2 k = rw (le-leb tableSize (length card) (t .long), kinds-are ∙ k)
 
-  module _ (k : kindsOk count a b ≡ true) where
-    pub read-3 : startsOk a b (length card) ≡ false → Unreadable Starts ≡ readCard card
-    unfolding cardRefusal
-    read-3 s = rw (le-leb tableSize (length card) (t .long), kinds-are ∙ k, starts-are ∙ s)
+  pub read-3 : kindsOk count a b ≡ true → startsOk a b (length card) ≡ false → Unreadable Starts ≡ readCard card
+  unfolding cardRefusal
+  read-3 k s = rw (le-leb tableSize (length card) (t .long), kinds-are ∙ k, starts-are ∙ s)
 
-    module _ (s : startsOk a b (length card) ≡ true) where
-      said : cardRefusal card ≡ rowsRefusal (section card 0 .size) (section card 1 .size) (rowsOf card)
-      unfolding cardRefusal
-      said = rw (le-leb tableSize (length card) (t .long), kinds-are ∙ k, starts-are ∙ s)
+-- past questions 2 and 3: the table is right, and the bodies are the parts of the card that it names
+pub record Table (card : List ℕ) (count : ℕ) (a b : Section) : Type 0 where
+  pub entries : Entries card count a b
+  pub kinds : kindsOk count a b ≡ true
+  pub starts : startsOk a b (length card) ≡ true
 
-      facts : BodyFacts card
-      facts = body-facts card (table-facts (sections card) (section card 0) (section card 1) (length card) (kinds-are ∙ k) (starts-are ∙ s))
+module _ {card : List ℕ} {count : ℕ} {a b : Section} (t : Table card count a b) where
+  kinds-right : kindsOk (sections card) (section card 0) (section card 1) ≡ true
+  kinds-right = kinds-are (t .entries) ∙ t .kinds
 
-      module _ (x : Option Refusal) (e : x ≡ bodiesRefusal (bodyAt card 0) (bodyAt card 1)) where
-        -- the questions of the bodies at the reader's two places are those of the card
-        rest : x ≡ cardRefusal card
-        rest =
-            e ∙ ap₂ bodiesRefusal (body-is card 0 (omega (arith, t .long)) (facts .roads-within))
-            (body-is card 1 (omega (arith, t .long)) (facts .order-within))
-            ∙ bodies-refusal card facts ∙ sym said
+  starts-right : startsOk (section card 0) (section card 1) (length card) ≡ true
+  starts-right = starts-are (t .entries) ∙ t .starts
 
-        pub read-failed : (q : Refusal) → some q ≡ x → Unreadable q ≡ readCard card
-        read-failed q y = ap (reading (mapOn card .vertices) (mapOn card .base .arcs)) (y ∙ rest)
+  said : cardRefusal card ≡ rowsRefusal (section card 0 .size) (section card 1 .size) (rowsOf card)
+  unfolding cardRefusal
+  said = rw (le-leb tableSize (length card) (t .entries .long), kinds-right, starts-right)
 
-        pub read-passed : none ≡ x → Read (b .size / placeSize) (a .size / roadSize) ≡ readCard card
-        read-passed y =
-            let roads = body card (section card 0) in
-            let order = body card (section card 1) in
-            let n : b .size / placeSize ≡ mapOn card .vertices =
-            ap (_/ placeSize) (ap (λ (z : Section). z .size) (sym second-is) ∙ sym (facts .order-size)) ∙ sym (junctions roads order) in
-            let m : a .size / roadSize ≡ mapOn card .base .arcs =
-            ap (_/ roadSize) (ap (λ (z : Section). z .size) (sym first-is) ∙ sym (facts .roads-size)) ∙ sym (arcs roads order) in
-            ap₂ Read n m ∙ ap (reading (mapOn card .vertices) (mapOn card .base .arcs)) (y ∙ rest)
+  facts : BodyFacts card
+  facts = body-facts card (table-facts (sections card) (section card 0) (section card 1) (length card) kinds-right starts-right)
+
+  -- the questions of the bodies at the reader's two places are those of the card
+  rest : (x : Option Refusal) → x ≡ bodiesRefusal (bodyAt card 0) (bodyAt card 1) → x ≡ cardRefusal card
+  rest x e =
+      let roads = body-is card 0 (omega (arith, t .entries .long)) (facts .roads-within) in
+      let order = body-is card 1 (omega (arith, t .entries .long)) (facts .order-within) in
+      e ∙ ap₂ bodiesRefusal roads order ∙ bodies-refusal card facts ∙ sym said
+
+  pub read-failed : {x : Option Refusal} {q : Refusal} → x ≡ bodiesRefusal (bodyAt card 0) (bodyAt card 1) → some q ≡ x
+      → Unreadable q ≡ readCard card
+  read-failed {x} e y = ap (reading (mapOn card .vertices) (mapOn card .base .arcs)) (y ∙ rest x e)
+
+  pub read-passed : {x : Option Refusal} → x ≡ bodiesRefusal (bodyAt card 0) (bodyAt card 1) → none ≡ x
+      → Read (b .size / placeSize) (a .size / roadSize) ≡ readCard card
+  read-passed {x} e y =
+      let roads = body card (section card 0) in
+      let order = body card (section card 1) in
+      let order-size = ap (λ (z : Section). z .size) (sym (second-is (t .entries))) ∙ sym (facts .order-size) in
+      let roads-size = ap (λ (z : Section). z .size) (sym (first-is (t .entries))) ∙ sym (facts .roads-size) in
+      let n : b .size / placeSize ≡ mapOn card .vertices = ap (_/ placeSize) order-size ∙ sym (junctions roads order) in
+      let m : a .size / roadSize ≡ mapOn card .base .arcs = ap (_/ roadSize) roads-size ∙ sym (arcs roads order) in
+      ap₂ Read n m ∙ ap (reading (mapOn card .vertices) (mapOn card .base .arcs)) (y ∙ rest x e)

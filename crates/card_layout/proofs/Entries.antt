@@ -31,7 +31,8 @@ module _ (size i : ℕ) where
           let k : (size - 4) / 12 ≤ i = omega arith in
           le-ltb i ((size - 4) / 12) k ∙ sym (lt-leb (entryAt (i + 1)) size (omega arith))
 
-module _ (card : List ℕ) (i : ℕ) (b : Bool) (e : b ≡ leb (entryAt (i + 1)) (length card)) where
+-- what the answer b says of entry i
+module _ (card : List ℕ) (i : ℕ) {b : Bool} (e : b ≡ leb (entryAt (i + 1)) (length card)) where
   pub fits : b ≡ true → entryAt (i + 1) ≤ length card
   fits t = leb-true (entryAt (i + 1)) (length card) (sym e ∙ t)
 
@@ -48,10 +49,10 @@ module _ (card : List ℕ) (i : ℕ) (b : Bool) (e : b ≡ leb (entryAt (i + 1))
   no-entry f = rw (← e, f)
 
   -- the words that were read are the entry's
-  pub entry-read : (k s l : ℕ) → b ≡ true → k ≡ wordAt card (entryAt i) → s ≡ wordAt card (entryAt i + 4) → l ≡ wordAt card (entryAt i + 8)
+  pub entry-read : {k s l : ℕ} → b ≡ true → k ≡ wordAt card (entryAt i) → s ≡ wordAt card (entryAt i + 4) → l ≡ wordAt card (entryAt i + 8)
       → record { kind = k; start = s; size = l } ≡ entryOf card i
   unfolding entryOf
-  entry-read k s l t ek es el = rw (← e, t, ← ek, ← es, ← el)
+  entry-read t ek es el = rw (← e, t, ← ek, ← es, ← el)
 
 -- ---- bodies
 
@@ -81,8 +82,8 @@ pub part-from : (card : List ℕ) (s l e : ℕ) → e ≡ s + l → take (e - s)
 part-from card s l e h = rw (h, add-sub-cancel-left)
 
 -- a table put at the head of an area
-pub put-first : (p q area : List ℕ) → p ≡ q → p ++ postOf 0 tableSize area ≡ q ++ drop tableSize area
-put-first p q area e = ap (λ (x : List ℕ). x ++ drop tableSize area) e
+pub put-first : {p q : List ℕ} (area : List ℕ) → p ≡ q → p ++ postOf 0 tableSize area ≡ q ++ drop tableSize area
+put-first area e = ap (λ (x : List ℕ). x ++ drop tableSize area) e
 
 -- ---- a walk
 
@@ -91,9 +92,8 @@ pub next-body : (card : List ℕ) (i : ℕ) → bodyAt card (entryAfter card i) 
 next-body card i = go (decide (leb (entryAt (i + 1)) (length card)))
   where
     go : Tested (leb (entryAt (i + 1)) (length card)) → bodyAt card (entryAfter card i) ≡ bodyAt card (i + 1)
-    go (inl t) = ap (bodyAt card) (sym (after-some card i _ refl t))
+    go (inl t) = ap (bodyAt card) (sym (after-some card i refl t))
     go (inr f) =
         let l : length card < entryAt (i + 1 + 1) = omega (arith, leb-false (entryAt (i + 1)) (length card) f) in
-        ap (bodyAt card) (sym (after-none card i _ refl f))
-        ∙ ap (partOf card) (sym (no-entry card i _ refl f)
-        ∙ no-entry card (i + 1) false (sym (lt-leb (entryAt (i + 1 + 1)) (length card) l)) refl)
+        let none-next = no-entry card (i + 1) (sym (lt-leb (entryAt (i + 1 + 1)) (length card) l)) refl in
+        ap (bodyAt card) (sym (after-none card i refl f)) ∙ ap (partOf card) (sym (no-entry card i refl f) ∙ none-next)

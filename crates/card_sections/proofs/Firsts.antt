@@ -28,6 +28,3 @@ module _ (ok : ℕ → Bool) where
       at : (u : ℕ) → (u < n) × (not (ok u) ≡ true) → Dec (u < i) → i ≤ u
       at u q (yes h) = absurd (rw e at (firstBelow-least i (λ k. not (ok k)) .bound u (h, q .1)))
       at u q (no h) = omega arith
-
-  pub first-end : (i n : ℕ) → i ≤ n → n ≤ i → failing ok i ≡ none → failing ok n ≡ none
-  first-end i n l k e = let s : n ≡ i = omega arith in rw s e

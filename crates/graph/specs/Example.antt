@@ -1,6 +1,6 @@
--- One small map, computed through the definitions: it has parallel arcs, a dead end, keys that tie, an arc that gives a logged time but comes from a later entry,
--- up times that a path over higher ranks would undercut, and a target that is a candidate long before it is logged. Every fact here is proved by computing.
--- Assumes nothing.
+-- One small map, computed through the definitions: it has parallel arcs, a dead end, keys that tie, an arc that gives a logged time but
+-- comes from a later entry, up times that a path over higher ranks would undercut, and a target that is a candidate long before it is
+-- logged. Every fact here is proved by computing. Assumes nothing.
 use mathlib.Core.Path.{_≡_, refl}
 use mathlib.Core.Bool.{cond, false, true}
 use mathlib.Core.Option.{none, some}
@@ -17,7 +17,9 @@ use Rattle.graph.specs.Pairs.{down, up}
 use Rattle.graph.specs.Records.{Pair}
 use Rattle.graph.specs.Estimate.{downTotal, estimate}
 use Rattle.graph.specs.Reach.{reaches}
-use Rattle.graph.specs.Search.{Entry, back, backStep, before, below-or, bestBelow, better, consider, countOf, extend, firstVia, hasGoal, history, is, logOf, next, offerVia, offered, push, routeOf, run, timeIn, totalIn, totalOf, vertices, wayIn}
+use Rattle.graph.specs.Search.{Entry, back, backStep, before, below-or, bestBelow, better, consider, countOf}
+use Rattle.graph.specs.Search.{extend, firstVia, hasGoal, history, is, logOf, next, offerVia, offered}
+use Rattle.graph.specs.Search.{push, routeOf, run, timeIn, totalIn, totalOf, vertices, wayIn}
 use Rattle.graph.specs.Map.{Map, downTotalOf, estimateOf, fills, pairsOf, rank, timeOf, weights}
 use Rattle.graph.specs.Go.{goOf}
 
@@ -159,25 +161,83 @@ pub searches-are :
     ∷ shown shut 3 2
     ∷ shown costs 4 2
     ∷ []
-    -- Vertices 0, 1 and at last 2 have the key 3, and the smaller number goes first. Arc 4 makes 2 a candidate at once, with time 5. Arc 0 gives vertex 0 its
-    -- time too, and has the smallest number, but comes from 1, which is logged later. Arc 6 gives the same as 3. Vertex 4 has no estimate.
-    ≡ record { log = 3 ∷ 0 ∷ 1 ∷ 2 ∷ []; times = 0 ∷ 2 ∷ 1 ∷ 3 ∷ []; keys = 3 ∷ 3 ∷ 3 ∷ 3 ∷ []; elapsed = some 2 ∷ some 1 ∷ some 3 ∷ some 0 ∷ none ∷ []; total = some 3; route = 1 ∷ 3 ∷ []; count = 4 }
+    -- Vertices 0, 1 and at last 2 have the key 3, and the smaller number goes first. Arc 4 makes 2 a
+    -- candidate at once, with time 5. Arc 0 gives vertex 0 its time too, and has the smallest number,
+    -- but comes from 1, which is logged later. Arc 6 gives the same as 3. Vertex 4 has no estimate.
+    ≡ record {
+      log = 3 ∷ 0 ∷ 1 ∷ 2 ∷ [];
+      times = 0 ∷ 2 ∷ 1 ∷ 3 ∷ [];
+      keys = 3 ∷ 3 ∷ 3 ∷ 3 ∷ [];
+      elapsed = some 2 ∷ some 1 ∷ some 3 ∷ some 0 ∷ none ∷ [];
+      total = some 3;
+      route = 1 ∷ 3 ∷ [];
+      count = 4;
+    }
     -- arc 1 closed: 0 is logged after 1, so that arc 0 is taken
-    ∷ record { log = 3 ∷ 1 ∷ 0 ∷ 2 ∷ []; times = 0 ∷ 1 ∷ 2 ∷ 3 ∷ []; keys = 3 ∷ 3 ∷ 3 ∷ 3 ∷ []; elapsed = some 2 ∷ some 1 ∷ some 3 ∷ some 0 ∷ none ∷ []; total = some 3; route = 2 ∷ 0 ∷ 3 ∷ []; count = 4 }
+    ∷ record {
+      log = 3 ∷ 1 ∷ 0 ∷ 2 ∷ [];
+      times = 0 ∷ 1 ∷ 2 ∷ 3 ∷ [];
+      keys = 3 ∷ 3 ∷ 3 ∷ 3 ∷ [];
+      elapsed = some 2 ∷ some 1 ∷ some 3 ∷ some 0 ∷ none ∷ [];
+      total = some 3;
+      route = 2 ∷ 0 ∷ 3 ∷ [];
+      count = 4;
+    }
     -- arcs 3 and 6 delayed
-    ∷ record { log = 3 ∷ 0 ∷ 1 ∷ 2 ∷ []; times = 0 ∷ 2 ∷ 1 ∷ 4 ∷ []; keys = 3 ∷ 3 ∷ 3 ∷ 4 ∷ []; elapsed = some 2 ∷ some 1 ∷ some 4 ∷ some 0 ∷ none ∷ []; total = some 4; route = 1 ∷ 6 ∷ []; count = 4 }
+    ∷ record {
+      log = 3 ∷ 0 ∷ 1 ∷ 2 ∷ [];
+      times = 0 ∷ 2 ∷ 1 ∷ 4 ∷ [];
+      keys = 3 ∷ 3 ∷ 3 ∷ 4 ∷ [];
+      elapsed = some 2 ∷ some 1 ∷ some 4 ∷ some 0 ∷ none ∷ [];
+      total = some 4;
+      route = 1 ∷ 6 ∷ [];
+      count = 4;
+    }
     -- to 0, which ties with 1 and goes first
-    ∷ record { log = 3 ∷ 0 ∷ []; times = 0 ∷ 2 ∷ []; keys = 2 ∷ 2 ∷ []; elapsed = some 2 ∷ none ∷ none ∷ some 0 ∷ none ∷ []; total = some 2; route = 1 ∷ []; count = 2 }
+    ∷ record {
+      log = 3 ∷ 0 ∷ [];
+      times = 0 ∷ 2 ∷ [];
+      keys = 2 ∷ 2 ∷ [];
+      elapsed = some 2 ∷ none ∷ none ∷ some 0 ∷ none ∷ [];
+      total = some 2;
+      route = 1 ∷ [];
+      count = 2;
+    }
     -- over all five vertices, with an end that was first a candidate at 16
-    ∷ record { log = 0 ∷ 2 ∷ 3 ∷ 1 ∷ 4 ∷ []; times = 0 ∷ 1 ∷ 11 ∷ 12 ∷ 13 ∷ []; keys = 13 ∷ 13 ∷ 13 ∷ 13 ∷ 13 ∷ []; elapsed = some 0 ∷ some 12 ∷ some 1 ∷ some 11 ∷ some 13 ∷ []; total = some 13; route = 3 ∷ 7 ∷ 2 ∷ 10 ∷ []; count = 5 }
+    ∷ record {
+      log = 0 ∷ 2 ∷ 3 ∷ 1 ∷ 4 ∷ [];
+      times = 0 ∷ 1 ∷ 11 ∷ 12 ∷ 13 ∷ [];
+      keys = 13 ∷ 13 ∷ 13 ∷ 13 ∷ 13 ∷ [];
+      elapsed = some 0 ∷ some 12 ∷ some 1 ∷ some 11 ∷ some 13 ∷ [];
+      total = some 13;
+      route = 3 ∷ 7 ∷ 2 ∷ 10 ∷ [];
+      count = 5;
+    }
     -- from the target itself
-    ∷ record { log = 2 ∷ []; times = 0 ∷ []; keys = 0 ∷ []; elapsed = none ∷ none ∷ some 0 ∷ none ∷ none ∷ []; total = some 0; route = []; count = 1 }
+    ∷ record {
+      log = 2 ∷ [];
+      times = 0 ∷ [];
+      keys = 0 ∷ [];
+      elapsed = none ∷ none ∷ some 0 ∷ none ∷ none ∷ [];
+      total = some 0;
+      route = [];
+      count = 1;
+    }
     -- no path is open
-    ∷ record { log = 3 ∷ 0 ∷ 1 ∷ []; times = 0 ∷ 2 ∷ 1 ∷ []; keys = 3 ∷ 3 ∷ 3 ∷ []; elapsed = some 2 ∷ some 1 ∷ none ∷ some 0 ∷ none ∷ []; total = none; route = []; count = 3 }
+    ∷ record {
+      log = 3 ∷ 0 ∷ 1 ∷ [];
+      times = 0 ∷ 2 ∷ 1 ∷ [];
+      keys = 3 ∷ 3 ∷ 3 ∷ [];
+      elapsed = some 2 ∷ some 1 ∷ none ∷ some 0 ∷ none ∷ [];
+      total = none;
+      route = [];
+      count = 3;
+    }
     -- from a start without an estimate
     ∷ record { log = []; times = []; keys = []; elapsed = none ∷ none ∷ none ∷ none ∷ none ∷ []; total = none; route = []; count = 0 }
     ∷ []
-unfolding goOf estimate direct vertices logOf totalOf routeOf countOf history run extend hasGoal push next bestBelow consider better before below-or offered offerVia timeIn totalIn wayIn back backStep firstVia firstBelow is
+unfolding goOf estimate direct vertices logOf totalOf routeOf countOf history run extend hasGoal push next bestBelow consider better before
+    below-or offered offerVia timeIn totalIn wayIn back backStep firstVia firstBelow is
 searches-are = refl
 
 -- the bounds of the counts: within the total 3, or 2 of the search to 0; and what open arcs reach and an estimate has

@@ -1,6 +1,5 @@
--- Proves of a map's terms what document 01 says of them, junction by junction: the down total is the least over chains of down times, an estimate fills what up
--- times reach, and estimates obey the rule of algorithm 3.
--- Assumes nothing.
+-- Proves of a map's terms what document 01 says of them, junction by junction: the down total is the least over chains of down times, an
+-- estimate fills what up times reach, and estimates obey the rule of algorithm 3. Assumes nothing.
 use mathlib.Core.Path.{_∙_, _≡_, ap, refl, sym}
 use mathlib.Core.Bool.{true}
 use mathlib.Core.Option.{some}
@@ -39,15 +38,16 @@ module _ {M : Map} (ok : Valid M) where
     unranked : {x y t : ℕ} → Path E x y t → (a b : ℕ) → a < M .vertices → b < M .vertices → x ≡ rank M a → y ≡ rank M b → Path F a b t
     unranked empty a b ha hb ea eb = rw (ranks-rename (ok .orders) .once a b ha hb (sym ea ∙ eb)) empty
     unranked (link {v} {c = c} e p) a b ha hb ea eb =
-        let r = n .by-junction a v c ha (rw ea at e) in
-        link (r .3) (unranked p (r .0) b (r .1) hb (sym (r .2)) eb)
+        let (u, below, ranks, e′) = n .by-junction a v c ha (rw ea at e) in
+        link e′ (unranked p u b below hb (sym ranks) eb)
 
   -- ---- down totals
 
   downs : Named M (Downs (weights M)) (DownArc M)
   downs = record { by-rank = λ a b c e. e .1; by-junction = down }
     where
-      down : (a r c : ℕ) → a < M .vertices → Downs (weights M) (rank M a) r c → (b : ℕ) × (b < M .vertices) × (rank M b ≡ r) × DownArc M a b c
+      down : (a r c : ℕ) → a < M .vertices → Downs (weights M) (rank M a) r c
+          → (b : ℕ) × (b < M .vertices) × (rank M b ≡ r) × DownArc M a b c
       down a r c ha e =
           let l : r < M .vertices = omega (arith, down-lt (weights M) r (rank M a) c e, rank-below (ok .orders) a ha) in
           let q = rank-of-vertex (ok .orders) r l in
@@ -56,7 +56,8 @@ module _ {M : Map} (ok : Valid M) where
   -- "the least totals over chains of down times, descending in rank to the target"
   pub downTotalOf-chains : (z v : ℕ) → z < M .vertices → v < M .vertices → IsLeast (Path (DownArc M) v z) (downTotalOf M z v)
   downTotalOf-chains z v lz lv =
-      least-map (λ t p. unranked (Downs (weights M)) (DownArc M) downs p v z lv lz refl refl) (λ t p. ranked (Downs (weights M)) (DownArc M) downs p)
+      least-map (λ t p. unranked (Downs (weights M)) (DownArc M) downs p v z lv lz refl refl)
+      (λ t p. ranked (Downs (weights M)) (DownArc M) downs p)
       (downTotal-least (weights M) (rank M z) (rank M v))
 
   -- ---- what an estimate fills
@@ -64,7 +65,8 @@ module _ {M : Map} (ok : Valid M) where
   ups : Named M (Ups (weights M) (M .vertices)) (UpArc M)
   ups = record { by-rank = λ a b c e. (e .1, rank-below (ok .orders) b (e .0)); by-junction = climb }
     where
-      climb : (a r c : ℕ) → a < M .vertices → Ups (weights M) (M .vertices) (rank M a) r c → (b : ℕ) × (b < M .vertices) × (rank M b ≡ r) × UpArc M a b c
+      climb : (a r c : ℕ) → a < M .vertices → Ups (weights M) (M .vertices) (rank M a) r c
+          → (b : ℕ) × (b < M .vertices) × (rank M b ≡ r) × UpArc M a b c
       climb a r c ha e =
           let q = rank-of-vertex (ok .orders) r (e .1) in
           (M .order r, ok .orders .below r (e .1), q, (ok .orders .below r (e .1), rw q (e .0)))
@@ -76,7 +78,8 @@ module _ {M : Map} (ok : Valid M) where
       (r .0, unranked (Ups (weights M) (M .vertices)) (UpArc M) ups (r .1) a v la lv refl refl)
 
   pub reached-fills : (a v : ℕ) {t : ℕ} → Path (UpArc M) a v t → fills M a v ≡ true
-  reached-fills a v p = path-reaches (weights M) (M .vertices) (rank M a) (rank M v) (ranked (Ups (weights M) (M .vertices)) (UpArc M) ups p)
+  reached-fills a v p =
+      path-reaches (weights M) (M .vertices) (rank M a) (rank M v) (ranked (Ups (weights M) (M .vertices)) (UpArc M) ups p)
 
   -- ---- algorithm 3
 
@@ -95,7 +98,11 @@ module _ {M : Map} (ok : Valid M) where
       to t s = record { index = rank M (s .index); below = rank-below (ok .orders) (s .index) (s .below); at = s .at }
 
       from : (t : ℕ) → ByRank t → ByJunction t
-      from t s = record { index = M .order (s .index); below = ok .orders .below (s .index) (s .below); at = ap f (rank-of-vertex (ok .orders) (s .index) (s .below)) ∙ s .at }
+      from t s = record {
+        index = M .order (s .index);
+        below = ok .orders .below (s .index) (s .below);
+        at = ap f (rank-of-vertex (ok .orders) (s .index) (s .below)) ∙ s .at;
+      }
 
   -- "the least of its own down total and, for each higher junction with an up time, that time plus the higher one's estimate"
   pub estimateOf-law : (z v : ℕ) → estimateOf M z v ≡ downTotalOf M z v ⊓ minBelow (M .vertices) (λ h. upOf M v h ⊕ estimateOf M z h)

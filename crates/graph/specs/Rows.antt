@@ -1,10 +1,12 @@
--- The kept pairs in their order: the pairs of one lower rank stand together, and each pair with a time stands among them. Bounds of a map's times.
--- Assumes nothing.
+-- The kept pairs in their order: the pairs of one lower rank stand together, and
+-- each pair with a time stands among them. Bounds of a map's times. Assumes nothing.
 use mathlib.Core.Path.{_∙_, _≡_, ap, ap₂, refl, subst, sym}
 use mathlib.Core.Logic.{_⊎_, inl, inr}
 use mathlib.Core.Bool.{Bool, cond, false, true}
 use mathlib.Core.Option.{none, some}
-use mathlib.Core.List.{List, List·Memᴰ, List·Memᴰ·append-cases, List·Memᴰ·cases-cons, List·Memᴰ·eq-of-singleton, List·Memᴰ·head, List·Memᴰ·not-nil, List·Memᴰ·tail, Memᴰ·append-left, Memᴰ·append-right, Memᴰ·cast, [], _++_, _∷_}
+use mathlib.Core.List.{List, List·Memᴰ, List·Memᴰ·append-cases, List·Memᴰ·cases-cons, List·Memᴰ·eq-of-singleton}
+use mathlib.Core.List.{List·Memᴰ·head, List·Memᴰ·not-nil, List·Memᴰ·tail, Memᴰ·append-left, Memᴰ·append-right}
+use mathlib.Core.List.{Memᴰ·cast, [], _++_, _∷_}
 use Prim.Native.Nat.{_*_, _-_, _<_, _≤_, suc, zero, ℕ}
 use borrow.Author.Tests.{eq-eqb, ne-eqb}
 use lib.Dec.{eqb}
@@ -28,7 +30,8 @@ pub ups-rows : (w : Weights) (f : ℕ → Total) (n k a : ℕ) → a < k
     → minOver (λ p. cond (eqb (p .low) a) (p .upTime ⊕ f (p .high)) none) (rows w n k) ≡ minBelow n (λ h. up w a h ⊕ f h)
 ups-rows w f n k a ak =
     minOver-rows (λ p. cond (eqb (p .low) a) (p .upTime ⊕ f (p .high)) none) (λ l h. cond-same (eqb l a) none) w n k
-    ∙ minBelow-only k a (λ l. minBelow n (at l)) ak (λ l lk ne. minBelow-none n (at l) (λ h hn. cond-no (eqb l a) (up w l h ⊕ f h) none (ne-eqb l a ne)))
+    ∙ minBelow-only k a (λ l. minBelow n (at l)) ak
+    (λ l lk ne. minBelow-none n (at l) (λ h hn. cond-no (eqb l a) (up w l h ⊕ f h) none (ne-eqb l a ne)))
     ∙ minBelow-cong n (at a) (λ h. up w a h ⊕ f h) (λ h hn. cond-yes (eqb a a) (up w a h ⊕ f h) none (eq-eqb a a refl))
   where
     at : ℕ → ℕ → Total
@@ -36,9 +39,11 @@ ups-rows w f n k a ak =
 
 -- ---- the records ascend
 
-ordered-append : {A : Type 0} (R : A → A → Type 0) {l m : List A} → Ordered R l → Ordered R m → ((a b : A) → List·Memᴰ a l → List·Memᴰ b m → R a b) → Ordered R (l ++ m)
+ordered-append : {A : Type 0} (R : A → A → Type 0) {l m : List A} → Ordered R l → Ordered R m
+    → ((a b : A) → List·Memᴰ a l → List·Memᴰ b m → R a b) → Ordered R (l ++ m)
 ordered-append R ordered-nil k f = k
-ordered-append {A} R {m = m} (ordered-cons {a} {l} g h) k f = ordered-cons (λ b x. go b (List·Memᴰ·append-cases l x)) (ordered-append R h k (λ c b x y. f c b (List·Memᴰ·tail x) y))
+ordered-append {A} R {m = m} (ordered-cons {a} {l} g h) k f =
+    ordered-cons (λ b x. go b (List·Memᴰ·append-cases l x)) (ordered-append R h k (λ c b x y. f c b (List·Memᴰ·tail x) y))
   where
     go : (b : A) → List·Memᴰ b l ⊎ List·Memᴰ b m → R a b
     go b (inl x) = g b x
@@ -78,7 +83,8 @@ module _ (w : Weights) where
   row-ends l zero m = absurd (List·Memᴰ·not-nil m)
   row-ends {p} l (suc k) m = go (λ q. row-ends l k q) (List·Memᴰ·append-cases (row w l k) m)
     where
-      go : (List·Memᴰ p (row w l k) → (p .low ≡ l) × (p .high < k)) → List·Memᴰ p (row w l k) ⊎ List·Memᴰ p (keep (pairOf w l k)) → (p .low ≡ l) × (p .high < suc k)
+      go : (List·Memᴰ p (row w l k) → (p .low ≡ l) × (p .high < k)) → List·Memᴰ p (row w l k) ⊎ List·Memᴰ p (keep (pairOf w l k))
+          → (p .low ≡ l) × (p .high < suc k)
       go rec (inl q) = let r = rec q in (r .0, omega (arith, r .1))
       go rec (inr q) =
           let e = keep-is (pairOf w l k) q in
@@ -102,7 +108,8 @@ module _ (w : Weights) where
 
   pub rows-ordered : (n k : ℕ) → Ordered Before (rows w n k)
   rows-ordered n zero = ordered-nil
-  rows-ordered n (suc k) = ordered-append Before (rows-ordered n k) (row-ordered k n) (λ p q x y. inl (omega (arith, rows-low n k x, row-ends k n y .0)))
+  rows-ordered n (suc k) =
+      ordered-append Before (rows-ordered n k) (row-ordered k n) (λ p q x y. inl (omega (arith, rows-low n k x, row-ends k n y .0)))
 
   pub rows-ascend : (n k : ℕ) → Ordered Ascend (rows w n k)
   rows-ascend n k = before-ascend (rows-ordered n k)
@@ -117,7 +124,8 @@ module _ (w : Weights) where
   row-pair l h (suc k) hk e = go (λ lt. row-pair l h k lt e) (ℕ-discrete h k)
     where
       go : (h < k → List·Memᴰ (pairOf w l h) (row w l k)) → Dec (h ≡ k) → List·Memᴰ (pairOf w l h) (row w l k ++ keep (pairOf w l k))
-      go rec (yes q) = Memᴰ·append-right (row w l k) (subst (λ (x : ℕ). List·Memᴰ (pairOf w l h) (keep (pairOf w l x))) q (keep-has (pairOf w l h) e))
+      go rec (yes q) =
+          Memᴰ·append-right (row w l k) (subst (λ (x : ℕ). List·Memᴰ (pairOf w l h) (keep (pairOf w l x))) q (keep-has (pairOf w l h) e))
       go rec (no q) = Memᴰ·append-left (keep (pairOf w l k)) (rec (omega arith))
 
   pub rows-pair : (l h n k : ℕ) → l < k → h < n → exists (up w l h) (down w l h) ≡ true → List·Memᴰ (pairOf w l h) (rows w n k)
@@ -173,7 +181,9 @@ pairsOf-kept {M} ok = record { all = all; only = only; ascending = rows-ordered 
     all : (p : Pair) → KeptPair M p → List·Memᴰ p (pairsOf M)
     all p k =
         Memᴰ·cast (k .is)
-        (rows-pair (weights M) (rank M (k .low)) (rank M (k .high)) (M .vertices) (M .vertices) (rank-below (ok .orders) (k .low) (k .low-below)) (rank-below (ok .orders) (k .high) (k .high-below)) (timed-exists (upOf M (k .low) (k .high)) (downOf M (k .low) (k .high)) (k .timed)))
+        (rows-pair (weights M) (rank M (k .low)) (rank M (k .high)) (M .vertices) (M .vertices)
+        (rank-below (ok .orders) (k .low) (k .low-below)) (rank-below (ok .orders) (k .high) (k .high-below))
+        (timed-exists (upOf M (k .low) (k .high)) (downOf M (k .low) (k .high)) (k .timed)))
 
     only : (p : Pair) → List·Memᴰ p (pairsOf M) → KeptPair M p
     only p m =
@@ -200,7 +210,8 @@ before-asym p q (inr h) (inr k) = omega (arith, h .1, k .1)
 before-irrefl : {p q : Pair} → p ≡ q → Before p q → ⊥
 before-irrefl {p} {q} e h = before-asym q q (rw e at h) (rw e at h)
 
-ascending-same : {l m : List Pair} → Ordered Before l → Ordered Before m → ((p : Pair) → List·Memᴰ p l → List·Memᴰ p m) → ((p : Pair) → List·Memᴰ p m → List·Memᴰ p l) → l ≡ m
+ascending-same : {l m : List Pair} → Ordered Before l → Ordered Before m → ((p : Pair) → List·Memᴰ p l → List·Memᴰ p m)
+    → ((p : Pair) → List·Memᴰ p m → List·Memᴰ p l) → l ≡ m
 ascending-same ordered-nil ordered-nil f g = refl
 ascending-same ordered-nil (ordered-cons {a = b} {l = m} y k) f g = absurd (List·Memᴰ·not-nil (g b (List·Memᴰ·head refl)))
 ascending-same (ordered-cons {a} {l} x h) ordered-nil f g = absurd (List·Memᴰ·not-nil (f a (List·Memᴰ·head refl)))
@@ -240,5 +251,6 @@ module _ {M : Map} (ok : Valid M) {C : ℕ} (most : CostsAtMost (Arc (M .base)) 
   pub ranked-downTotal : (z r : ℕ) {t : ℕ} → r < M .vertices → downTotal (weights M) z r ≡ some t → t ≤ (M .vertices - 1) * C
   ranked-downTotal z r h e = downTotal-bound (direct-least (renamed (rank M) (M .base))) ranked-ends ranked-most z r h e
 
-  pub ranked-estimate : (z r : ℕ) {t : ℕ} → z < M .vertices → r < M .vertices → estimate (weights M) (M .vertices) z r ≡ some t → t ≤ (M .vertices - 1) * C
+  pub ranked-estimate : (z r : ℕ) {t : ℕ} → z < M .vertices → r < M .vertices → estimate (weights M) (M .vertices) z r ≡ some t
+      → t ≤ (M .vertices - 1) * C
   ranked-estimate z r k h e = estimate-bound (direct-least (renamed (rank M) (M .base))) ranked-ends ranked-most z r k h e

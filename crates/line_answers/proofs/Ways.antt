@@ -1,4 +1,4 @@
--- The ways through the functions that put an answer's text. Assumes nothing.
+-- What is put one after the other is the text of the answer: of an estimate, a refusal and a go. Assumes nothing.
 use mathlib.Core.Path.{_∙_, _≡_, ap, refl, sym}
 use mathlib.Core.Bool.{Bool, cond, false, true}
 use mathlib.Core.List.{List, [], _++_, _∷_}
@@ -18,32 +18,32 @@ use Rattle.line_answers.specs.Texts.{placesOf, refusalText, timeText, tr
 
 -- ---- an estimate
 
-module _ (w : ℕ) (b : Bool) (e : b ≡ eqb w noneWord) {a : List ℕ} {at : ℕ} {z : List ℕ} {r : ℕ} where
+module _ (w : ℕ) {b : Bool} (e : b ≡ eqb w noneWord) {a : List ℕ} {at : ℕ} {z : List ℕ} {r : ℕ} where
   pub time-none : b ≡ true → Puts (ascii "est none") a at z r → Puts (ascii "est" ++ timeText w) a at z r
   unfolding ofWord
   time-none h p = rw (← e, h) p
 
-  pub time-some : (u : ℕ) → u ≡ w → b ≡ false → Puts (ascii "est" ++ spaced (u ∷ [])) a at z r → Puts (ascii "est" ++ timeText w) a at z r
+  pub time-some : {u : ℕ} → u ≡ w → b ≡ false → Puts (ascii "est" ++ spaced (u ∷ [])) a at z r → Puts (ascii "est" ++ timeText w) a at z r
   unfolding ofWord
-  time-some u f h p = rw (← e, h, ← f) p
+  time-some f h p = rw (← e, h, ← f) p
 
 -- ---- a refusal
 
-pub place-five : (n : ℕ) → n ≡ 5 → true ≡ cond (eqb n 5) true (eqb n 6)
-place-five n h = rw (eq-eqb n 5 h)
+pub place-five : {n : ℕ} → n ≡ 5 → true ≡ cond (eqb n 5) true (eqb n 6)
+place-five {n} h = rw (eq-eqb n 5 h)
 
-pub place-six : (n : ℕ) → (n ≡ 5 → ⊥) → n ≡ 6 → true ≡ cond (eqb n 5) true (eqb n 6)
-place-six n f h = rw (ne-eqb n 5 f, eq-eqb n 6 h)
+pub place-six : {n : ℕ} → (n ≡ 5 → ⊥) → n ≡ 6 → true ≡ cond (eqb n 5) true (eqb n 6)
+place-six {n} f h = rw (ne-eqb n 5 f, eq-eqb n 6 h)
 
-pub place-none : (n : ℕ) → (n ≡ 5 → ⊥) → (n ≡ 6 → ⊥) → false ≡ cond (eqb n 5) true (eqb n 6)
-place-none n f g = rw (ne-eqb n 5 f, ne-eqb n 6 g)
+pub place-none : {n : ℕ} → (n ≡ 5 → ⊥) → (n ≡ 6 → ⊥) → false ≡ cond (eqb n 5) true (eqb n 6)
+place-none {n} f g = rw (ne-eqb n 5 f, ne-eqb n 6 g)
 
 -- one test for both numbers
 either : (b c : Bool) (l : List ℕ) → cond b l (cond c l []) ≡ cond (cond b true c) l []
 either true c l = refl
 either false c l = refl
 
-module _ (q : Refusal) (b : Bool) (hb : b ≡ cond (eqb (q .question) 5) true (eqb (q .question) 6)) where
+module _ (q : Refusal) {b : Bool} (hb : b ≡ cond (eqb (q .question) 5) true (eqb (q .question) 6)) where
   places : placesOf q ≡ cond b (q .place ∷ []) []
   places = either (eqb (q .question) 5) (eqb (q .question) 6) (q .place ∷ []) ∙ ap (λ (x : Bool). cond x (q .place ∷ []) []) (sym hb)
 
@@ -77,6 +77,7 @@ trip-put t c l p s u =
 
 -- ---- an answer
 
-pub answer-put : (x y : Answer) (route : List ℕ) {a : List ℕ} {at : ℕ} {z : List ℕ} {r : ℕ} → x ≡ y
+-- the code looks at an answer x that is y
+pub answer-put : {x y : Answer} (route : List ℕ) {a : List ℕ} {at : ℕ} {z : List ℕ} {r : ℕ} → x ≡ y
     → Puts (worded (answerIn y) route) a at z r → Puts (worded (answerIn x) route) a at z r
-answer-put x y route e p = puts-as (ap (λ (u : Answer). worded (answerIn u) route) (sym e)) p
+answer-put route e p = puts-as (ap (λ (u : Answer). worded (answerIn u) route) (sym e)) p

@@ -13,33 +13,47 @@ use Rattle.line_console.specs.declared.Line.the-variants.{Call, Unreadab
 use Rattle.line_console.specs.Lines.{callOf, lineOf, one, two}
 use Rattle.line_texts.specs.Ascii.{ascii}
 
-module _ (w : List ℕ) (v : ℕ) where
-  pub is-aim : true ≡ same w (ascii "aim") → Call (Aim (record { 0 = v })) ≡ callOf w v
+-- ---- the call of one number
+
+module _ (w : List ℕ) where
+  pub is-aim : {v : ℕ} → true ≡ same w (ascii "aim") → Call (Aim (record { 0 = v })) ≡ callOf w v
   unfolding callOf
   is-aim a = rw (← a)
 
-  pub is-estimate : false ≡ same w (ascii "aim") → true ≡ same w (ascii "est") → Call (Estimate (record { 0 = v })) ≡ callOf w v
+  pub is-estimate : {v : ℕ} → false ≡ same w (ascii "aim") → true ≡ same w (ascii "est") → Call (Estimate (record { 0 = v })) ≡ callOf w v
   unfolding callOf
   is-estimate a e = rw (← a, ← e)
 
-  pub is-go : false ≡ same w (ascii "aim") → false ≡ same w (ascii "est") → true ≡ same w (ascii "go")
+  pub is-go : {v : ℕ} → false ≡ same w (ascii "aim") → false ≡ same w (ascii "est") → true ≡ same w (ascii "go")
       → Call (Go (record { 0 = v })) ≡ callOf w v
   unfolding callOf
   is-go a e g = rw (← a, ← e, ← g)
 
-  pub is-none : false ≡ same w (ascii "aim") → false ≡ same w (ascii "est") → false ≡ same w (ascii "go") → Unreadable ≡ callOf w v
+  pub is-none : (v : ℕ) → false ≡ same w (ascii "aim") → false ≡ same w (ascii "est") → false ≡ same w (ascii "go")
+      → Unreadable ≡ callOf w v
   unfolding callOf
-  is-none a e g = rw (← a, ← e, ← g)
+  is-none v a e g = rw (← a, ← e, ← g)
 
-pub set-is : (m n : Number) (i t : ℕ) (x : Time) → m ≡ Value i → n ≡ Value t → x .0 ≡ t → Call (Set i x) ≡ two m n
-set-is m n i t x p q e = ap (λ (v : ℕ). Call (Set i (record { 0 = v }))) e ∙ sym (ap₂ two p q)
+-- ---- a set
 
-module _ (s w r : List ℕ) (hw : w ≡ beforeSpace s) (hr : r ≡ afterSpace s) (x : Line) where
-  pub is-set : (u v : List ℕ) (m n : Number) → true ≡ same w (ascii "set") → u ≡ beforeSpace r → m ≡ numberOf u → v ≡ afterSpace r
-      → n ≡ numberOf v → x ≡ two m n → x ≡ lineOf s
+pub set-is : {m n : Number} {i t : ℕ} {x : Time} → m ≡ Value i → n ≡ Value t → x .0 ≡ t → Call (Set i x) ≡ two m n
+set-is {i = i} p q e = ap (λ (v : ℕ). Call (Set i (record { 0 = v }))) e ∙ sym (ap₂ two p q)
+
+-- ---- a line
+
+-- s is parted at its first space
+pub record Parted (s before after : List ℕ) : Type 0 where
+  pub before-is : before ≡ beforeSpace s
+  pub after-is : after ≡ afterSpace s
+
+-- its word is w, and what follows is r
+module _ {s w r : List ℕ} (line : Parted s w r) {x : Line} where
+  pub is-set : {u v : List ℕ} {m n : Number} → true ≡ same w (ascii "set") → Parted r u v → m ≡ numberOf u → n ≡ numberOf v → x ≡ two m n
+      → x ≡ lineOf s
   unfolding lineOf
-  is-set u v m n t hu hm hv hn e = rw (e, hm, hu, hn, hv, ← hw, ← hr, ← t)
+  is-set t numbers hm hn e =
+      rw (e, hm, numbers .before-is, hn, numbers .after-is, ← line .before-is, ← line .after-is, ← t)
 
-  pub is-one : (n : Number) → false ≡ same w (ascii "set") → n ≡ numberOf r → x ≡ one (callOf w) n → x ≡ lineOf s
+  pub is-one : {n : Number} → false ≡ same w (ascii "set") → n ≡ numberOf r → x ≡ one (callOf w) n → x ≡ lineOf s
   unfolding lineOf
-  is-one n t hn e = rw (e, hn, ← hw, ← hr, ← t)
+  is-one t hn e = rw (e, hn, ← line .before-is, ← line .after-is, ← t)

@@ -12,7 +12,8 @@ use Rattle.bytes.specs.Bytes.{indexAfter, indexOf}
 use Rattle.unit_answers.specs.declared.Call as call
 use Rattle.unit_answers.specs.declared.Call.the-variants.{Aim, Estimate, Go, Set}
 use Rattle.line_fields.specs.Fields.{afterSpace, beforeSpace, numberOf, same}
-use Rattle.line_fields.specs.Parts.{Split, after-of, before-of, digits-of, no-number, no-space, nothing, number-length, same-is, spaces, split}
+use Rattle.line_fields.specs.Parts.{Split, after-of, before-of, digits-of, no-number, no-space, nothing, number-length, same-is, spaces}
+use Rattle.line_fields.specs.Parts.{split}
 use Rattle.line_fields.specs.declared.Number.{Number}
 use Rattle.line_fields.specs.declared.Number.the-variants.{NotOne, Value}
 use Rattle.line_console.specs.declared.Line.{Line}

@@ -16,7 +16,7 @@ pub and-false : (b : Bool) → b && false ≡ false
 and-false true = refl
 and-false false = refl
 
-pub value-grows : (s : List ℕ) (v : ℕ) → v ≤ valueFrom v s
+value-grows : (s : List ℕ) (v : ℕ) → v ≤ valueFrom v s
 unfolding valueFrom
 value-grows [] v = omega arith
 value-grows (b ∷ s) v = omega (arith, value-grows s (v * 10 + (b - 48)))
@@ -30,52 +30,76 @@ module _ (s : List ℕ) (i : ℕ) (h : i < length s) where
   unfolding allDigits
   digits-step = rw (add-one, drop-cons s i 0)
 
-module _ (s : List ℕ) where
-  pub short : length s < 1 → NotOne ≡ numberOf s
-  unfolding numberOf isNumber
-  short h = simp (lt-leb 1 (length s) h)
+-- ---- the ways to no number, and the way to one
 
-  pub long : 20 < length s → NotOne ≡ numberOf s
-  unfolding numberOf isNumber
-  long h = simp (lt-leb (length s) 20 h, and-false)
+pub short : (s : List ℕ) → length s < 1 → NotOne ≡ numberOf s
+unfolding numberOf isNumber
+short s h = simp (lt-leb 1 (length s) h)
 
-  not-digits : allDigits s ≡ false → NotOne ≡ numberOf s
-  unfolding numberOf isNumber
-  not-digits h = simp (h, and-false)
+pub long : (s : List ℕ) → 20 < length s → NotOne ≡ numberOf s
+unfolding numberOf isNumber
+long s h = simp (lt-leb (length s) 20 h, and-false)
 
-  too-large : noneWord < valueFrom 0 s → NotOne ≡ numberOf s
-  unfolding numberOf isNumber
-  too-large h = simp (lt-leb (valueFrom 0 s) noneWord h, and-false)
+not-digits : (s : List ℕ) → allDigits s ≡ false → NotOne ≡ numberOf s
+unfolding numberOf isNumber
+not-digits s h = simp (h, and-false)
 
-  pub number-is : 1 ≤ length s → length s ≤ 20 → allDigits s ≡ true → valueFrom 0 s ≤ noneWord → Value (valueFrom 0 s) ≡ numberOf s
-  unfolding numberOf isNumber
-  number-is a b d v = simp (le-leb 1 (length s) a, le-leb (length s) 20 b, d, le-leb (valueFrom 0 s) noneWord v)
+too-large : (s : List ℕ) → noneWord < valueFrom 0 s → NotOne ≡ numberOf s
+unfolding numberOf isNumber
+too-large s h = simp (lt-leb (valueFrom 0 s) noneWord h, and-false)
 
--- in the loop: b stands at i
-module _ (s : List ℕ) (i v b : ℕ) (h : i < length s) (e : b ≡ getD s i 0) (p : valueFrom 0 s ≡ valueFrom v (drop i s))
-    (d : allDigits s ≡ allDigits (drop i s)) where
-  pub value-next : valueFrom 0 s ≡ valueFrom (v * 10 + (b - 48)) (drop (i + 1) s)
-  value-next = rw (p, value-step s i h, e)
+number-is : (s : List ℕ) → 1 ≤ length s → length s ≤ 20 → allDigits s ≡ true → valueFrom 0 s ≤ noneWord → Value (valueFrom 0 s) ≡ numberOf s
+unfolding numberOf isNumber
+number-is s a b d v = simp (le-leb 1 (length s) a, le-leb (length s) 20 b, d, le-leb (valueFrom 0 s) noneWord v)
+
+-- ---- the loop
+
+-- the first i bytes of s are digits of value v
+pub record Passed (s : List ℕ) (i v : ℕ) : Type 0 where
+  pub inside : i ≤ length s
+  pub small : v ≤ noneWord
+  pub value-left : valueFrom 0 s ≡ valueFrom v (drop i s)
+  pub digits-left : allDigits s ≡ allDigits (drop i s)
+
+-- and b is the byte after them
+pub record Next (s : List ℕ) (i v b : ℕ) : Type 0 where
+  pub passed : Passed s i v
+  pub below : i < length s
+  pub byte-is : b ≡ getD s i 0
+
+pub passed-none : {s : List ℕ} → Passed s 0 0
+passed-none = record { inside = omega arith; small = omega arith; value-left = refl; digits-left = refl }
+
+module _ {s : List ℕ} {i v b : ℕ} (next : Next s i v b) where
+  digits-at : allDigits s ≡ isDigit b && allDigits (drop (i + 1) s)
+  digits-at = next .passed .digits-left ∙ digits-step s i (next .below) ∙ simp (← next .byte-is)
+
+  value-next : valueFrom 0 s ≡ valueFrom (v * 10 + (b - 48)) (drop (i + 1) s)
+  value-next = rw (next .passed .value-left, value-step s i (next .below), next .byte-is)
 
   pub below-digits : b < 48 → NotOne ≡ numberOf s
   unfolding isDigit
-  below-digits l = not-digits s (d ∙ digits-step s i h ∙ simp (← e, lt-leb 48 b l))
+  below-digits l = not-digits s (digits-at ∙ simp (lt-leb 48 b l))
 
   pub above-digits : 57 < b → NotOne ≡ numberOf s
   unfolding isDigit
-  above-digits l = not-digits s (d ∙ digits-step s i h ∙ simp (← e, lt-leb b 57 l, and-false))
-
-  pub digits-next : 48 ≤ b → b ≤ 57 → allDigits s ≡ allDigits (drop (i + 1) s)
-  unfolding isDigit
-  digits-next l m = d ∙ digits-step s i h ∙ simp (← e, le-leb 48 b l, le-leb b 57 m)
+  above-digits l = not-digits s (digits-at ∙ simp (lt-leb b 57 l, and-false))
 
   pub overflow : noneWord < v * 10 + (b - 48) → NotOne ≡ numberOf s
   overflow l = too-large s (omega (arith, value-next, value-grows (drop (i + 1) s) (v * 10 + (b - 48))))
 
--- after the loop: every digit is passed
-pub complete : (s : List ℕ) (i v : ℕ) → length s ≤ i → 1 ≤ length s → length s ≤ 20 → v ≤ noneWord → valueFrom 0 s ≡ valueFrom v (drop i s)
-    → allDigits s ≡ allDigits (drop i s) → Value v ≡ numberOf s
+  pub passed-more : 48 ≤ b → b ≤ 57 → v * 10 + (b - 48) ≤ noneWord → Passed s (i + 1) (v * 10 + (b - 48))
+  unfolding isDigit
+  passed-more l m small = record {
+    inside = omega (arith, next .below);
+    small = small;
+    value-left = value-next;
+    digits-left = digits-at ∙ simp (le-leb 48 b l, le-leb b 57 m);
+  }
+
+-- every digit is passed
+pub passed-all : {s : List ℕ} {i v : ℕ} → length s ≤ i → 1 ≤ length s → length s ≤ 20 → Passed s i v → Value v ≡ numberOf s
 unfolding valueFrom allDigits
-complete s i v h a b m p d =
-    let q : valueFrom 0 s ≡ v = p ∙ ap (valueFrom v) (drop-of-length-le s h) in
-    rw (← q) (number-is s a b (d ∙ ap allDigits (drop-of-length-le s h)) (omega arith))
+passed-all {s} {i} {v} h a b p =
+    let q : valueFrom 0 s ≡ v = p .value-left ∙ ap (valueFrom v) (drop-of-length-le s h) in
+    rw (← q) (number-is s a b (p .digits-left ∙ ap allDigits (drop-of-length-le s h)) (omega (arith, q, p .small)))

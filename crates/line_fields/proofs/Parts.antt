@@ -16,36 +16,49 @@ use Rattle.line_fields.proofs.Numbers.{and-false}
 
 -- ---- two rows of bytes
 
-pub same-lengths : (a b : List ℕ) → (length a ≡ length b → ⊥) → same a b ≡ false
+pub same-lengths : (a b : List ℕ) → (length a ≡ length b → ⊥) → false ≡ same a b
 unfolding same
 same-lengths [] [] f = absurd (f refl)
 same-lengths [] (y ∷ b) f = refl
 same-lengths (x ∷ a) [] f = refl
-same-lengths (x ∷ a) (y ∷ b) f = rw (same-lengths a b (λ e. f (omega arith))) (and-false (eqb x y))
+same-lengths (x ∷ a) (y ∷ b) f = rw (← same-lengths a b (λ e. f (omega arith))) (sym (and-false (eqb x y)))
 
-module _ (a b : List ℕ) (i : ℕ) (e : length a ≡ length b) (p : same a b ≡ same (drop i a) (drop i b)) where
+-- the first i bytes of a and b are the same
+pub record Agreed (a b : List ℕ) (i : ℕ) : Type 0 where
+  pub inside : i ≤ length a
+  pub lengths : length a ≡ length b
+  pub same-left : same a b ≡ same (drop i a) (drop i b)
+
+pub agreed-none : {a b : List ℕ} → length a ≡ length b → Agreed a b 0
+agreed-none e = record { inside = omega arith; lengths = e; same-left = refl }
+
+module _ {a b : List ℕ} {i : ℕ} (agreed : Agreed a b i) where
   same-at : i < length a → same a b ≡ eqb (getD a i 0) (getD b i 0) && same (drop (i + 1) a) (drop (i + 1) b)
   unfolding same
-  same-at h = p ∙ rw (add-one, drop-cons a i 0 h, drop-cons b i 0 (omega arith))
+  same-at h = agreed .same-left ∙ rw (add-one, drop-cons a i 0 h, drop-cons b i 0 (omega (arith, agreed .lengths)))
 
-  pub same-turn : i < length a → getD a i 0 ≡ getD b i 0 → same a b ≡ same (drop (i + 1) a) (drop (i + 1) b)
-  same-turn h q = same-at h ∙ rw (eq-eqb (getD a i 0) (getD b i 0) q)
+  pub agreed-more : i < length a → getD a i 0 ≡ getD b i 0 → Agreed a b (i + 1)
+  agreed-more h q = record {
+    inside = omega arith;
+    lengths = agreed .lengths;
+    same-left = same-at h ∙ rw (eq-eqb (getD a i 0) (getD b i 0) q);
+  }
 
   pub same-stop : i < length a → (getD a i 0 ≡ getD b i 0 → ⊥) → false ≡ same a b
   same-stop h f = sym (same-at h ∙ rw (ne-eqb (getD a i 0) (getD b i 0) f))
 
   pub same-end : length a ≤ i → true ≡ same a b
   unfolding same
-  same-end h = sym (p ∙ rw (drop-of-length-le a h, drop-of-length-le b {i = i} (omega arith)))
+  same-end h = sym (agreed .same-left ∙ rw (drop-of-length-le a h, drop-of-length-le b {i = i} (omega (arith, agreed .lengths))))
 
 -- ---- parts
 
 -- the whole of a list as the range that `bytes::scan::find` searches
-pub found : (s : List ℕ) (i : ℕ) → i ≡ 0 + indexOf 32 (slice 0 (length s) s) → i ≡ indexOf 32 s
+pub found : (s : List ℕ) {i : ℕ} → i ≡ 0 + indexOf 32 (slice 0 (length s) s) → i ≡ indexOf 32 s
 unfolding slice
-found s i e = e ∙ zero-add (indexOf 32 (slice 0 (length s) s)) ∙ ap (indexOf 32) (take-length s)
+found s e = e ∙ zero-add (indexOf 32 (slice 0 (length s) s)) ∙ ap (indexOf 32) (take-length s)
 
-module _ (s : List ℕ) (i : ℕ) (e : i ≡ indexOf 32 s) where
+module _ (s : List ℕ) {i : ℕ} (e : i ≡ indexOf 32 s) where
   pub before-is : take (i - 0) s ≡ beforeSpace s
   unfolding beforeSpace
   before-is = let z : i - 0 ≡ i = omega arith in rw (z, e)

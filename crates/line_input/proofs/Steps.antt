@@ -1,5 +1,5 @@
--- One step of the reader. Assumes nothing.
-use mathlib.Core.Path.{_∙_, _≡_, ap, refl, sym}
+-- One step of the reader: a byte is taken, or the next chunk is read; and whether there is one more. Assumes nothing.
+use mathlib.Core.Path.{_∙_, _≡_, ap, ap₂, refl, sym}
 use mathlib.Core.Logic.{_≢_, _⊎_, inl, inr}
 use mathlib.Core.Bool.{Bool, cond, false, false≢true, not, true}
 use mathlib.Core.List.{List, [], _++_, _∷_}
@@ -36,23 +36,38 @@ started opens = record {
 
 -- ---- a byte
 
-module _ (r : Reader) (b left : ℕ) (area : List ℕ) where
+module _ {r : Reader} {b left : ℕ} {area : List ℕ} where
   pub took-newline : b ≡ newline
       → Took b left r area (record { at = r .at + 1; end = r .end; part = r .part; ready = true; ended = r .ended; turns = left }) area
-  took-newline e = record { next = (refl, refl, refl, refl); ends = λ h. (refl, refl, refl); goes-on = λ h. absurd (h e) }
+  took-newline e = record {
+    at = refl;
+    end = refl;
+    ended = refl;
+    turns = refl;
+    ends = λ h. (refl, refl, refl);
+    goes-on = λ h. absurd (h e);
+  }
 
-  pub took-byte : (part : Part) (area′ : List ℕ) → b ≢ newline
+  pub took-byte : {part : Part} {area′ : List ℕ} → b ≢ newline
       → ((xs : List ℕ) → Holds (r .part) area xs → Holds part area′ (xs ++ (b ∷ [])))
       → Took b left r area (record { at = r .at + 1; end = r .end; part = part; ready = false; ended = r .ended; turns = left }) area′
-  took-byte part area′ n w = record { next = (refl, refl, refl, refl); ends = λ h. absurd (n h); goes-on = λ h. (refl, w) }
+  took-byte n w = record {
+    at = refl;
+    end = refl;
+    ended = refl;
+    turns = refl;
+    ends = λ h. absurd (n h);
+    goes-on = λ h. (refl, w);
+  }
 
 -- ---- a read
 
-module _ (r : Reader) (left n k : ℕ) (counted : k ≡ n) where
+module _ {r : Reader} {left n k : ℕ} (counted : k ≡ n) where
   pub read-none : k ≡ 0
       → Refilled n left r (record { at = 0; end = 0; part = r .part; ready = ltb 0 (r .part .kept); ended = true; turns = left })
   read-none e = record {
-    bytes = (refl, sym e ∙ counted);
+    at = refl;
+    end = sym e ∙ counted;
     line = refl;
     turns = refl;
     ends = λ h. (refl, refl);
@@ -61,26 +76,28 @@ module _ (r : Reader) (left n k : ℕ) (counted : k ≡ n) where
 
   pub read-some : k ≢ 0 → Refilled n left r (record { at = 0; end = k; part = r .part; ready = false; ended = false; turns = left })
   read-some e = record {
-    bytes = (refl, counted);
+    at = refl;
+    end = counted;
     line = refl;
     turns = refl;
     ends = λ h. absurd (e (counted ∙ h));
     goes-on = λ h. (refl, refl);
   }
 
-pub read-in : (n left : ℕ) (r s : Reader) → Refilled n left r s → Refilled (s .end) left r s
-read-in n left r s w =
-    let e = w .bytes .1 in
-    record {
-      bytes = (w .bytes .0, refl);
-      line = w .line;
-      turns = w .turns;
-      ends = λ z. w .ends (sym e ∙ z);
-      goes-on = λ z. w .goes-on (omega (arith, e, z));
-    }
+-- as many bytes were read as the reader has
+pub read-in : {n left : ℕ} {r s : Reader} → Refilled n left r s → Refilled (s .end) left r s
+read-in w = record {
+  at = w .at;
+  end = refl;
+  line = w .line;
+  turns = w .turns;
+  ends = λ z. w .ends (sym (w .end) ∙ z);
+  goes-on = λ z. w .goes-on (omega (arith, w .end, z));
+}
 
 -- ---- either
 
+-- the next byte of the chunk
 next-is : (at end : ℕ) (chunk : List ℕ) → at < end → at < length chunk
     → drop at (take end chunk) ≡ getD chunk at 0 ∷ drop (at + 1) (take end chunk)
 next-is at end chunk h k =
@@ -88,19 +105,18 @@ next-is at end chunk h k =
     drop-cons (take end chunk) at 0 z ∙ ap (λ (b : ℕ). b ∷ drop (suc at) (take end chunk)) (getD-take end chunk at 0 h)
     ∙ ap (λ (i : ℕ). getD chunk at 0 ∷ drop i (take end chunk)) (sym (add-one at))
 
-module _ (r : Reader) (chunk area : List ℕ) (s : Reader) where
-  pub step-takes : (area′ : List ℕ) → r .at < r .end → r .at < length chunk → Took (getD chunk (r .at) 0) (r .turns - 1) r area s area′
+module _ {r : Reader} {chunk area : List ℕ} {s : Reader} where
+  pub step-takes : {area′ : List ℕ} → r .at < r .end → r .at < length chunk → Took (getD chunk (r .at) 0) (r .turns - 1) r area s area′
       → Stepped r chunk area s chunk area′
-  step-takes area′ h k w =
-      took (getD chunk (r .at) 0)
-      (next-is (r .at) (r .end) chunk h k ∙ ap (λ (i : ℕ). getD chunk (r .at) 0 ∷ drop i (take (r .end) chunk)) (sym (w .next .0))
-      ∙ ap (λ (e : ℕ). getD chunk (r .at) 0 ∷ drop (s .at) (take e chunk)) (sym (w .next .1)))
-      refl w
+  step-takes h k w =
+      let b = getD chunk (r .at) 0 in
+      let left : drop (r .at + 1) (take (r .end) chunk) ≡ unread s chunk =
+      ap₂ (λ (i k : ℕ). drop i (take k chunk)) (sym (w .at)) (sym (w .end)) in
+      took b (next-is (r .at) (r .end) chunk h k ∙ ap (λ (x : List ℕ). b ∷ x) left) refl w
 
-  pub step-reads : (chunk′ : List ℕ) → (r .end ≤ r .at) ⊎ (length chunk ≤ r .at)
-      → (s .end ≤ length chunk′) × Refilled (s .end) (r .turns - 1) r s
-      → Stepped r chunk area s chunk′ area
-  step-reads chunk′ h w = refilled (s .end) (drop-of-length-le (take (r .end) chunk) (none-left h)) (w .0) (w .1) refl
+  pub step-reads : {chunk′ : List ℕ} → (r .end ≤ r .at) ⊎ (length chunk ≤ r .at)
+      → (s .end ≤ length chunk′) × Refilled (s .end) (r .turns - 1) r s → Stepped r chunk area s chunk′ area
+  step-reads h w = refilled (s .end) (drop-of-length-le (take (r .end) chunk) (none-left h)) (w .0) (w .1) refl
     where
       none-left : (r .end ≤ r .at) ⊎ (length chunk ≤ r .at) → length (take (r .end) chunk) ≤ r .at
       none-left (inl k) = omega (arith, k, length-take (r .end) chunk)

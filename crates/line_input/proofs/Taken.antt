@@ -1,4 +1,4 @@
--- A byte more of a line. Assumes nothing.
+-- A byte more of a line: it is kept, or dropped where the area is full. Assumes nothing.
 use mathlib.Core.Path.{_∙_, _≡_, ap, refl, sym}
 use mathlib.Core.Logic.{_⊎_, inl, inr}
 use mathlib.Core.Bool.{Bool, false, false≢true, true}
@@ -11,7 +11,7 @@ use native.Mathlib.Omega.{arith}
 use Rattle.line_input.specs.Holds.{Holds}
 use Rattle.line_input.specs.declared.Part.{Part}
 
-module _ (p : Part) (b : ℕ) (area xs : List ℕ) (holds : Holds p area xs) where
+module _ {p : Part} (b : ℕ) {area xs : List ℕ} (holds : Holds p area xs) where
   pub byte-kept : p .kept < length area → Holds (record { kept = p .kept + 1; long = p .long }) (set area (p .kept) b) (xs ++ (b ∷ []))
   byte-kept h = record {
     fits = omega (arith, h, length-set area (p .kept) b);

@@ -1,4 +1,5 @@
--- The loop around the reader's steps. Assumes nothing.
+-- The loop around the reader's steps: a step goes on with the line (`Going`) or ends it (`NextLine`), and leaves fewer steps. Assumes
+-- nothing.
 use mathlib.Core.Path.{_∙_, _≡_, ap, ap₂, refl, subst, sym}
 use mathlib.Core.Logic.{_≢_, _⊎_, inl, inr}
 use mathlib.Core.Bool.{Bool, false, false≢true, true}
@@ -27,9 +28,11 @@ pub record Going (from : Reader) (before : List ℕ) (r : Reader) (chunk area : 
   pub gave : Gave reads
   pub bytes : unread from before ++ inOrder reads ≡ line ++ unread r chunk
   pub waits : r .ready ≡ false
-  pub goes : (from .ended ≡ false) × (r .ended ≡ false)
+  pub from-open : from .ended ≡ false
+  pub still-open : r .ended ≡ false
   pub turns : r .turns + (length (unread from before ++ inOrder reads) + length reads) ≡ from .turns + length (unread r chunk)
 
+-- it goes on, or is at its end and no step more is made
 abbrev pub Turned : Reader → List ℕ → Reader → List ℕ → List ℕ → Type 0
 Turned from before r chunk area = Going from before r chunk area ⊎ ((waiting r ≡ false) × NextLine from before r chunk area)
 
@@ -39,10 +42,14 @@ plain-more : (xs : List ℕ) (b : ℕ) → Plain xs → b ≢ newline → Plain 
 plain-more [] b p n = (n, tt)
 plain-more (x ∷ xs) b p n = (p .0, plain-more xs b (p .1) n)
 
-last-stays : (reads : List (List ℕ)) (before : List ℕ) (r s : Reader) (chunk chunk′ : List ℕ) → chunk′ ≡ chunk → s .end ≡ r .end
+last-stays : (reads : List (List ℕ)) (before : List ℕ) (r s : Reader) {chunk chunk′ : List ℕ} → chunk′ ≡ chunk → s .end ≡ r .end
     → Last reads before r chunk → Last reads before s chunk′
-last-stays [] before r s chunk chunk′ e f w = e ∙ w
-last-stays (c ∷ earlier) before r s chunk chunk′ e f w = w ∙ sym (ap₂ take f e)
+last-stays [] before r s e f w = e ∙ w
+last-stays (c ∷ earlier) before r s e f w = w ∙ sym (ap₂ take f e)
+
+holds-still : {p q : Part} {area area′ line : List ℕ} → q ≡ p → area′ ≡ area → Holds p area line → Holds q area′ line
+holds-still {p} {area′ = area′} {line = line} e f h =
+    subst (λ (x : Part). Holds x area′ line) (sym e) (subst (λ (a : List ℕ). Holds p a line) (sym f) h)
 
 to-ends : {input line rest : List ℕ} {left : ℕ} {b b′ t t′ e e′ : Bool} {reads : List (List ℕ)} → b ≡ b′ → t ≡ t′ → e ≡ e′
     → Ends input line rest left b reads t e → Ends input line rest left b′ reads t′ e′
@@ -51,8 +58,8 @@ to-ends {input} {line} {rest} {left} {b} {b′} {t} {t′} {e} {e′} {reads} p 
     (subst (λ (x : Bool). Ends input line rest left b reads x e′) q (subst (λ (x : Bool). Ends input line rest left b reads t x) r w))
 
 -- a line has bytes where some are kept
-kept-some : (p : Part) (area line : List ℕ) → Holds p area line → 0 < length area → ltb 0 (p .kept) ≡ ltb 0 (length line)
-kept-some p area line h n = go (p .long) refl
+kept-some : {p : Part} {area line : List ℕ} → Holds p area line → 0 < length area → ltb 0 (p .kept) ≡ ltb 0 (length line)
+kept-some {p} {area} {line} h n = go (p .long) refl
   where
     go : (l : Bool) → p .long ≡ l → ltb 0 (p .kept) ≡ ltb 0 (length line)
     go true e = lt-ltb 0 (p .kept) (omega (arith, n, h .more e .0)) ∙ sym (lt-ltb 0 (length line) (omega (arith, n, h .more e .1)))
@@ -67,10 +74,10 @@ empty-line : (area : List ℕ) → Holds (record { kept = 0; long = false }) are
 empty-line area = record { fits = omega arith; whole = λ l. refl; more = λ l. absurd (false≢true l) }
 
 -- an input that has ended is at rest
-pub turned-start : (at end : ℕ) (ended : Bool) (turns : ℕ) (chunk area : List ℕ) → let r : Reader =
+pub turned-start : {at end : ℕ} (ended : Bool) {turns : ℕ} {chunk area : List ℕ} → let r : Reader =
     record { at = at; end = end; part = record { kept = 0; long = false }; ready = false; ended = ended; turns = turns } in
     Turned r chunk r chunk area
-turned-start at end false turns chunk area =
+turned-start {at} {end} false {chunk = chunk} {area = area} =
     let left = drop at (take end chunk) in
     inl (record {
       line = [];
@@ -81,10 +88,11 @@ turned-start at end false turns chunk area =
       gave = tt;
       bytes = append-nil left;
       waits = refl;
-      goes = (refl, refl);
+      from-open = refl;
+      still-open = refl;
       turns = omega (arith, length-append left []);
     })
-turned-start at end true turns chunk area =
+turned-start {at} {end} true {chunk = chunk} {area = area} =
     let left = drop at (take end chunk) in
     inr (
       refl,
@@ -101,74 +109,80 @@ turned-start at end true turns chunk area =
 
 -- ---- a turn
 
-module _ (from : Reader) (before : List ℕ) (r : Reader) (chunk area : List ℕ) (s : Reader) (chunk′ area′ : List ℕ)
-    (g : Going from before r chunk area) (some : 0 < r .turns) where
-  abbrev input : List ℕ
-  input = unread from before ++ inOrder (g .reads)
+-- the bytes that were left, and then those that were read
+abbrev inputOf : {from : Reader} {before : List ℕ} {r : Reader} {chunk area : List ℕ} → Going from before r chunk area → List ℕ
+inputOf {from} {before} g = unread from before ++ inOrder (g .reads)
 
+module _ {from : Reader} {before : List ℕ} {r : Reader} {chunk area : List ℕ} {s : Reader} {chunk′ area′ : List ℕ}
+    (g : Going from before r chunk area) (some : 0 < r .turns) where
+  -- the step took a byte
   turn-took : (b : ℕ) → unread r chunk ≡ b ∷ unread s chunk′ → chunk′ ≡ chunk → Took b (r .turns - 1) r area s area′ → Dec (b ≡ newline)
       → Turned from before s chunk′ area′
+  -- a newline: the line is at its end
   turn-took b e q w (yes n) =
-      let z = w .ends n in
+      let (ready, part-same, area-same) = w .ends n in
       let more = ap length e in
       inr (
-        at-ready s (z .0),
+        at-ready s ready,
         record {
           line = g .line;
           reads = g .reads;
-          last = last-stays (g .reads) before r s chunk chunk′ q (w .next .1) (g .last);
+          last = last-stays (g .reads) before r s q (w .end) (g .last);
           plain = g .plain;
-          holds = subst (λ (p : Part). Holds p area′ (g .line)) (sym (z .1))
-              (subst (λ (a : List ℕ). Holds (r .part) a (g .line)) (sym (z .2)) (g .holds));
-          ends = to-ends (sym (g .goes .0)) (sym (z .0)) (sym (w .next .2 ∙ g .goes .1))
+          holds = holds-still part-same area-same (g .holds);
+          ends = to-ends (sym (g .from-open)) (sym ready) (sym (w .ended ∙ g .still-open))
               (at-newline (g .gave) (g .bytes ∙ ap (λ (x : List ℕ). g .line ++ x) (e ∙ ap (λ (x : ℕ). x ∷ unread s chunk′) n)));
-          turns = omega (arith, some, more, w .next .3, g .turns);
+          turns = omega (arith, some, more, w .turns, g .turns);
         },
       )
+  -- any other byte: it goes on
   turn-took b e q w (no n) =
-      let z = w .goes-on n in
+      let (waits, holds) = w .goes-on n in
       let more = ap length e in
       inl (record {
         line = g .line ++ (b ∷ []);
         reads = g .reads;
-        last = last-stays (g .reads) before r s chunk chunk′ q (w .next .1) (g .last);
+        last = last-stays (g .reads) before r s q (w .end) (g .last);
         plain = plain-more (g .line) b (g .plain) n;
-        holds = z .1 (g .line) (g .holds);
+        holds = holds (g .line) (g .holds);
         gave = g .gave;
         bytes = g .bytes ∙ ap (λ (x : List ℕ). g .line ++ x) e ∙ sym (append-snoc (g .line) b (unread s chunk′));
-        waits = z .0;
-        goes = (g .goes .0, w .next .2 ∙ g .goes .1);
-        turns = omega (arith, some, more, w .next .3, g .turns);
+        waits = waits;
+        from-open = g .from-open;
+        still-open = w .ended ∙ g .still-open;
+        turns = omega (arith, some, more, w .turns, g .turns);
       })
 
+  -- the step read
   turn-read : 0 < length area → (n : ℕ) → unread r chunk ≡ [] → n ≤ length chunk′ → Refilled n (r .turns - 1) r s → area′ ≡ area
       → Turned from before s chunk′ area′
+  -- the input has ended, and with it the line
   turn-read room zero e h w q =
-      let z = w .ends refl in
-      let none : unread s chunk′ ≡ [] = ap₂ (λ (i k : ℕ). drop i (take k chunk′)) (w .bytes .0) (w .bytes .1) in
-      let bytes : unread from before ++ (inOrder (g .reads) ++ []) ≡ input =
+      let (ready, ended) = w .ends refl in
+      let none : unread s chunk′ ≡ [] = ap₂ (λ (i k : ℕ). drop i (take k chunk′)) (w .at) (w .end) in
+      let bytes : unread from before ++ (inOrder (g .reads) ++ []) ≡ inputOf g =
       ap (λ (x : List ℕ). unread from before ++ x) (append-nil (inOrder (g .reads))) in
       let same = ap length bytes in
       let left = ap length e in
       let after = ap length none in
       inr (
-        at-ended s (z .1),
+        at-ended s ended,
         record {
           line = g .line;
           reads = [] ∷ g .reads;
-          last = sym (ap (λ (k : ℕ). take k chunk′) (w .bytes .1));
+          last = sym (ap (λ (k : ℕ). take k chunk′) (w .end));
           plain = g .plain;
-          holds = subst (λ (p : Part). Holds p area′ (g .line)) (sym (w .line))
-              (subst (λ (a : List ℕ). Holds (r .part) a (g .line)) (sym q) (g .holds));
-          ends = to-ends (sym (g .goes .0)) (sym (z .0 ∙ kept-some (r .part) area (g .line) (g .holds) room)) (sym (z .1))
+          holds = holds-still (w .line) q (g .holds);
+          ends = to-ends (sym (g .from-open)) (sym (ready ∙ kept-some (g .holds) room)) (sym ended)
               (at-end (g .gave) (bytes ∙ g .bytes ∙ ap (λ (x : List ℕ). g .line ++ x) e ∙ append-nil (g .line)) none);
           turns = omega (arith, some, same, left, after, w .turns, g .turns);
         },
       )
+  -- bytes were read, of which none is taken yet
   turn-read room (suc k) e h w q =
-      let z = w .goes-on (omega arith) in
-      let here : unread s chunk′ ≡ take (suc k) chunk′ = ap₂ (λ (i m : ℕ). drop i (take m chunk′)) (w .bytes .0) (w .bytes .1) in
-      let bytes : unread from before ++ (inOrder (g .reads) ++ take (suc k) chunk′) ≡ input ++ take (suc k) chunk′ =
+      let (waits, not-ended) = w .goes-on (omega arith) in
+      let here : unread s chunk′ ≡ take (suc k) chunk′ = ap₂ (λ (i m : ℕ). drop i (take m chunk′)) (w .at) (w .end) in
+      let bytes : unread from before ++ (inOrder (g .reads) ++ take (suc k) chunk′) ≡ inputOf g ++ take (suc k) chunk′ =
       sym (append-assoc (unread from before) (inOrder (g .reads)) (take (suc k) chunk′)) in
       let same = ap length bytes in
       let left = ap length e in
@@ -176,49 +190,47 @@ module _ (from : Reader) (before : List ℕ) (r : Reader) (chunk area : List ℕ
       inl (record {
         line = g .line;
         reads = take (suc k) chunk′ ∷ g .reads;
-        last = sym (ap (λ (m : ℕ). take m chunk′) (w .bytes .1));
+        last = sym (ap (λ (m : ℕ). take m chunk′) (w .end));
         plain = g .plain;
-        holds = subst (λ (p : Part). Holds p area′ (g .line)) (sym (w .line))
-            (subst (λ (a : List ℕ). Holds (r .part) a (g .line)) (sym q) (g .holds));
+        holds = holds-still (w .line) q (g .holds);
         gave = (omega (arith, h, length-take (suc k) chunk′), g .gave);
         bytes = bytes
             ∙ ap (λ (x : List ℕ). x ++ take (suc k) chunk′) (g .bytes ∙ ap (λ (x : List ℕ). g .line ++ x) e ∙ append-nil (g .line))
             ∙ ap (λ (x : List ℕ). g .line ++ x) (sym here);
-        waits = z .0;
-        goes = (g .goes .0, z .1);
-        turns = omega (arith, some, same, left, after, length-append input (take (suc k) chunk′), w .turns, g .turns);
+        waits = waits;
+        from-open = g .from-open;
+        still-open = not-ended;
+        turns = omega (arith, some, same, left, after, length-append (inputOf g) (take (suc k) chunk′), w .turns, g .turns);
       })
 
-  pub turn-going : 0 < length area → Stepped r chunk area s chunk′ area′ → Turned from before s chunk′ area′
+  turn-going : 0 < length area → Stepped r chunk area s chunk′ area′ → Turned from before s chunk′ area′
   turn-going room (took b e q w) = turn-took b e q w (ℕ-discrete b newline)
   turn-going room (refilled n e h w q) = turn-read room n e h w q
 
-pub turned : (from : Reader) (before : List ℕ) (r : Reader) (chunk area : List ℕ) (s : Reader) (chunk′ area′ : List ℕ) → waiting r ≡ true
-    → 0 < length area → Turned from before r chunk area
-    → Stepped r chunk area s chunk′ area′ → Turned from before s chunk′ area′
-turned from before r chunk area s chunk′ area′ some room (inl g) w =
-    turn-going from before r chunk area s chunk′ area′ g (some-turns r some) room w
-turned from before r chunk area s chunk′ area′ some room (inr g) w = absurd (false≢true (sym (g .0) ∙ some))
+pub turned : {from : Reader} {before : List ℕ} {r : Reader} {chunk area : List ℕ} {s : Reader} {chunk′ area′ : List ℕ} → waiting r ≡ true
+    → 0 < length area → Turned from before r chunk area → Stepped r chunk area s chunk′ area′ → Turned from before s chunk′ area′
+turned {r = r} some room (inl g) w = turn-going g (some-turns r some) room w
+turned some room (inr g) w = absurd (false≢true (sym (g .0) ∙ some))
 
 -- each step leaves fewer
-pub fewer : (r : Reader) (chunk area : List ℕ) (s : Reader) (chunk′ area′ : List ℕ) → 0 < r .turns → Stepped r chunk area s chunk′ area′
+pub fewer : {r : Reader} {chunk area : List ℕ} {s : Reader} {chunk′ area′ : List ℕ} → 0 < r .turns → Stepped r chunk area s chunk′ area′
     → s .turns < r .turns
-fewer r chunk area s chunk′ area′ some (took b e q w) = omega (arith, some, w .next .3)
-fewer r chunk area s chunk′ area′ some (refilled n e h w q) = omega (arith, some, w .turns)
+fewer some (took b e q w) = omega (arith, some, w .turns)
+fewer some (refilled n e h w q) = omega (arith, some, w .turns)
 
 -- ---- the end
 
-pub turned-end : (from : Reader) (before : List ℕ) (r : Reader) (chunk area : List ℕ) → waiting r ≡ false → Turned from before r chunk area
+pub turned-end : {from : Reader} {before : List ℕ} {r : Reader} {chunk area : List ℕ} → waiting r ≡ false → Turned from before r chunk area
     → NextLine from before r chunk area
-turned-end from before r chunk area done (inr g) = g .1
-turned-end from before r chunk area done (inl g) = record {
+turned-end done (inr g) = g .1
+turned-end {r = r} done (inl g) = record {
   line = g .line;
   reads = g .reads;
   last = g .last;
   plain = g .plain;
   holds = g .holds;
-  ends = to-ends (sym (g .goes .0)) (sym (g .waits)) (sym (g .goes .1))
-      (out-of-turns (g .gave) (g .bytes) (none (ltb-false 0 (r .turns) (sym (by-turns r (g .waits) (g .goes .1)) ∙ done))));
+  ends = to-ends (sym (g .from-open)) (sym (g .waits)) (sym (g .still-open))
+      (out-of-turns (g .gave) (g .bytes) (none (ltb-false 0 (r .turns) (sym (by-turns r (g .waits) (g .still-open)) ∙ done))));
   turns = g .turns;
 }
   where
@@ -226,9 +238,8 @@ turned-end from before r chunk area done (inl g) = record {
     none h = omega arith
 
 -- the loop begins a line anew
-pub anew : (from : Reader) (part : Part) (ready : Bool) (before : List ℕ) (r : Reader) (chunk area : List ℕ)
+pub anew : {from : Reader} {part : Part} {ready : Bool} {before : List ℕ} {r : Reader} {chunk area : List ℕ}
     → NextLine (record { at = from .at; end = from .end; part = part; ready = ready; ended = from .ended; turns = from .turns })
-    before r chunk area
-    → NextLine from before r chunk area
-anew from part ready before r chunk area n =
+    before r chunk area → NextLine from before r chunk area
+anew n =
     record { line = n .line; reads = n .reads; last = n .last; plain = n .plain; holds = n .holds; ends = n .ends; turns = n .turns }

@@ -8,7 +8,8 @@ use lib.Dec.{eqb, ltb}
 use lib.ListN.{length}
 use borrow.Author.Tests.{lt-ltb, ne-eqb}
 use native.Mathlib.Omega.{arith}
-use Rattle.line_input.specs.Input.{AtStart, Ends, NextLine, Plain, after-end, at-end, at-newline, inOrder, newline, out-of-turns, unread}
+use Rattle.line_input.specs.Input.{AtStart, Ends, NextLine, Plain, inOrder, newline, unread}
+use Rattle.line_input.specs.Input.{after-end, at-end, at-newline, out-of-turns}
 use Rattle.line_input.specs.declared.Reader.{Reader}
 
 -- ---- definitions
@@ -70,8 +71,7 @@ data Taken (input line rest : List ℕ) (ended : Bool) : Type 0 where
   is-last : linesOf input ≡ line ∷ [] → ended ≡ true → Taken input line rest ended
 
 taken : {input line rest : List ℕ} {left : ℕ} {reads : List (List ℕ)} {b t e : Bool} → Plain line → Ends input line rest left b reads t e
-    → t ≡ true
-    → Taken input line rest e
+    → t ≡ true → Taken input line rest e
 taken {line = line} {rest = rest} p (at-newline g e) q =
     goes-on (λ more. ap (λ (x : List ℕ). linesOf (x ++ more)) e ∙ ap linesOf (append-assoc line (newline ∷ rest) more)
     ∙ at-a-newline line (rest ++ more) p) refl
@@ -81,8 +81,7 @@ taken p (out-of-turns g e f) q = absurd (false≢true q)
 
 -- no line is ready, and the input has ended
 none-left : {input line rest : List ℕ} {left : ℕ} {reads : List (List ℕ)} {b t e : Bool} → Plain line
-    → Ends input line rest left b reads t e
-    → b ≡ false → t ≡ false → e ≡ true → linesOf input ≡ []
+    → Ends input line rest left b reads t e → b ≡ false → t ≡ false → e ≡ true → linesOf input ≡ []
 none-left p (at-newline g e) o q r = absurd (false≢true r)
 none-left {line = line} p (at-end g e f) o q r = ap linesOf e ∙ at-the-end line p ∙ ap (λ (t : Bool). ifReady t line) q
 none-left p (after-end f g) o q r = absurd (false≢true (sym o))
@@ -90,8 +89,7 @@ none-left p (out-of-turns g e f) o q r = absurd (false≢true r)
 
 -- a reader after the input's end reads nothing
 after-reads : {input line rest : List ℕ} {left : ℕ} {reads : List (List ℕ)} {b t e : Bool} → Ends input line rest left b reads t e
-    → b ≡ true
-    → (reads ≡ []) × (t ≡ false)
+    → b ≡ true → (reads ≡ []) × (t ≡ false)
 after-reads (at-newline g e) q = absurd (false≢true q)
 after-reads (at-end g e f) q = absurd (false≢true q)
 after-reads (after-end f g) q = (refl, refl)

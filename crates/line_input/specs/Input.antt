@@ -28,13 +28,17 @@ pub record AtStart (opens : Bool) (r : Reader) : Type 0 where
 
 -- the byte b is taken: a newline ends the line, any other byte is its next one
 pub record Took (b left : ℕ) (r : Reader) (area : List ℕ) (s : Reader) (area′ : List ℕ) : Type 0 where
-  pub next : (s .at ≡ r .at + 1) × (s .end ≡ r .end) × (s .ended ≡ r .ended) × (s .turns ≡ left)
+  pub at : s .at ≡ r .at + 1
+  pub end : s .end ≡ r .end
+  pub ended : s .ended ≡ r .ended
+  pub turns : s .turns ≡ left
   pub ends : b ≡ newline → (s .ready ≡ true) × (s .part ≡ r .part) × (area′ ≡ area)
   pub goes-on : b ≢ newline → (s .ready ≡ false) × ((xs : List ℕ) → Holds (r .part) area xs → Holds (s .part) area′ (xs ++ (b ∷ [])))
 
 -- n bytes were read, and stand first in the chunk. Where there are none the input has ended, and so has a line that has bytes
 pub record Refilled (n left : ℕ) (r s : Reader) : Type 0 where
-  pub bytes : (s .at ≡ 0) × (s .end ≡ n)
+  pub at : s .at ≡ 0
+  pub end : s .end ≡ n
   pub line : s .part ≡ r .part
   pub turns : s .turns ≡ left
   pub ends : n ≡ 0 → (s .ready ≡ ltb 0 (r .part .kept)) × (s .ended ≡ true)

@@ -1,4 +1,5 @@
--- The ways through the functions that put bytes and numbers. Assumes nothing.
+-- The ways through the functions that put bytes and numbers: a byte that fits or is lost, the loops, and the digits of a number. Assumes
+-- nothing.
 use mathlib.Core.Path.{_∙_, _≡_, ap, refl, sym}
 use mathlib.Core.List.{List, [], _++_, _∷_, append-nil}
 use Prim.Native.Nat.{_%_, _+_, _/_, _<_, _^_, _≤_, suc, ℕ}
@@ -9,7 +10,7 @@ use native.Mathlib.Numerals.{add-one}
 use native.Mathlib.Omega.{arith}
 use Rattle.line_texts.specs.Areas.{Puts, Written, decimal, shown, spaced}
 use Rattle.line_texts.specs.Decimals.{decimal-large, decimal-small}
-use Rattle.line_texts.specs.Puts.{puts-as, puts-then, shown-none, spaced-append}
+use Rattle.line_texts.specs.Puts.{puts-as, puts-none, puts-then, shown-none}
 
 -- ---- one byte
 
@@ -22,7 +23,7 @@ unfolding shown
 shown-full [] = refl
 shown-full (b ∷ t) = refl
 
-pub shown-length : (t o : List ℕ) → length (shown t o) ≡ length o
+shown-length : (t o : List ℕ) → length (shown t o) ≡ length o
 shown-length [] o = ap length (shown-none o)
 shown-length (b ∷ t) [] = ap length (shown-full (b ∷ t))
 shown-length (b ∷ t) (x ∷ o) = ap length (shown-step b t x o) ∙ ap suc (shown-length t o)
@@ -40,7 +41,7 @@ shown-same t [] b h = shown-full t ∙ sym (shown-full (t ++ (b ∷ [])))
 shown-same [] (x ∷ o) b h = absurd (omega arith)
 shown-same (c ∷ t) (x ∷ o) b h = rw (shown-step c t x o, shown-step c (t ++ (b ∷ [])) x o, ← shown-same t o b (le-of-suc-le-suc h))
 
-module _ (b : ℕ) (a : List ℕ) (at : ℕ) where
+module _ {b : ℕ} {a : List ℕ} {at : ℕ} where
   pub byte-fits : at < length a → Puts (b ∷ []) a at (set a at b) (at + 1)
   byte-fits h = record { then = go }
     where
@@ -59,24 +60,27 @@ module _ (b : ℕ) (a : List ℕ) (at : ℕ) where
           let k : length a ≡ length o = ap length (w .area) ∙ shown-length t o in
           record { area = w .area ∙ shown-same t o b (omega (arith, w .count)); count = omega (arith, w .count, length-append t (b ∷ [])) }
 
--- ---- the loops
+-- ---- the loops: the text of a list is put element by element
 
-pub put-turn : (s : List ℕ) (i : ℕ) {a : List ℕ} {at : ℕ} {m : List ℕ} {k : ℕ} {z : List ℕ} {r : ℕ} → i < length s
-    → Puts (take i s) a at m k → Puts (getD s i 0 ∷ []) m k z r → Puts (take (i + 1) s) a at z r
-put-turn s i h p q = puts-as (sym (ap (λ (j : ℕ). take j s) (add-one i) ∙ take-suc s i 0 h)) (puts-then p q)
+-- the text of the first i elements of s is put
+pub record PutFirst (text : List ℕ → List ℕ) (s : List ℕ) (i : ℕ) (a : List ℕ) (at : ℕ) (z : List ℕ) (end : ℕ) : Type 0 where
+  pub inside : i ≤ length s
+  pub kept : length z ≡ length a
+  pub puts : Puts (text (take i s)) a at z end
 
-pub put-end : (s : List ℕ) (i : ℕ) {a : List ℕ} {at : ℕ} {z : List ℕ} {r : ℕ} → length s ≤ i → Puts (take i s) a at z r → Puts s a at z r
-put-end s i h p = puts-as (take-all i s h) p
+module _ {text : List ℕ → List ℕ} {s a : List ℕ} {at : ℕ} where
+  pub put-none : text [] ≡ [] → PutFirst text s 0 a at a at
+  put-none e = record { inside = omega arith; kept = refl; puts = puts-as (sym e) (puts-none a at) }
 
-pub words-turn : (s : List ℕ) (i : ℕ) {a : List ℕ} {at : ℕ} {m : List ℕ} {k : ℕ} {z : List ℕ} {r : ℕ} → i < length s
-    → Puts (spaced (take i s)) a at m k → Puts (spaced (getD s i 0 ∷ [])) m k z r → Puts (spaced (take (i + 1) s)) a at z r
-words-turn s i h p q =
-    let more = ap (λ (j : ℕ). spaced (take j s)) (add-one i) ∙ ap spaced (take-suc s i 0 h) in
-    puts-as (sym (more ∙ spaced-append (take i s) (getD s i 0 ∷ []))) (puts-then p q)
+  -- the text of a list is the texts of its elements, one after the other
+  pub put-more : {i : ℕ} {m : List ℕ} {k : ℕ} {z : List ℕ} {r : ℕ} → ((l r : List ℕ) → text (l ++ r) ≡ text l ++ text r) → i < length s
+      → PutFirst text s i a at m k → length z ≡ length m → Puts (text (getD s i 0 ∷ [])) m k z r → PutFirst text s (i + 1) a at z r
+  put-more {i} joins h p kept q =
+      let more = ap (λ (j : ℕ). text (take j s)) (add-one i) ∙ ap text (take-suc s i 0 h) ∙ joins (take i s) (getD s i 0 ∷ []) in
+      record { inside = omega arith; kept = kept ∙ p .kept; puts = puts-as (sym more) (puts-then (p .puts) q) }
 
-pub words-end : (s : List ℕ) (i : ℕ) {a : List ℕ} {at : ℕ} {z : List ℕ} {r : ℕ} → length s ≤ i → Puts (spaced (take i s)) a at z r
-    → Puts (spaced s) a at z r
-words-end s i h p = puts-as (ap spaced (take-all i s h)) p
+  pub put-all : {i : ℕ} {z : List ℕ} {r : ℕ} → length s ≤ i → PutFirst text s i a at z r → Puts (text s) a at z r
+  put-all {i} h p = puts-as (ap text (take-all i s h)) (p .puts)
 
 -- ---- digits
 

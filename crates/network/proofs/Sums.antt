@@ -1,5 +1,5 @@
 -- One step of a minimum of sums, by the ways through the code. Assumes nothing.
-use mathlib.Core.Path.{_∙_, _≡_, ap}
+use mathlib.Core.Path.{_∙_, _≡_}
 use Prim.Native.Nat.{_+_, _<_, _≤_, min, ℕ}
 use mathlib.Core.Option.{some}
 use native.Mathlib.Omega.{arith}
@@ -16,12 +16,13 @@ sum-word x y hx hy = go (reads x hx) (reads y hy)
     go (number k) (nothing e) = rw (fit-out (x + y) (omega arith), e, ofWord-none, ⊕-none)
     go (number k) (number l) = rw (ofWord-some x k, ofWord-some y l)
 
-module _ (best x y t : ℕ) (hx : x ≤ noneWord) (hy : y ≤ noneWord) (e : t ≡ word (fit (some (x + y)))) where
-  step : t ≡ word (fit (ofWord x ⊕ ofWord y))
-  step = e ∙ sum-word x y hx hy
+-- the sum t is the less, or the best until then is
+module _ (x y : ℕ) {t : ℕ} (hx : x ≤ noneWord) (hy : y ≤ noneWord) (e : t ≡ word (fit (some (x + y)))) where
+  sum-is : t ≡ word (fit (ofWord x ⊕ ofWord y))
+  sum-is = e ∙ sum-word x y hx hy
 
-  pub or-less : t < best → t ≡ min best (word (fit (ofWord x ⊕ ofWord y)))
-  or-less l = rw (← step) (omega arith)
+  pub or-less : {best : ℕ} → t < best → t ≡ min best (word (fit (ofWord x ⊕ ofWord y)))
+  or-less l = rw (← sum-is) (omega arith)
 
-  pub or-more : best ≤ t → best ≡ min best (word (fit (ofWord x ⊕ ofWord y)))
-  or-more l = rw (← step) (omega arith)
+  pub or-more : {best : ℕ} → best ≤ t → best ≡ min best (word (fit (ofWord x ⊕ ofWord y)))
+  or-more l = rw (← sum-is) (omega arith)

@@ -11,7 +11,7 @@ use Rattle.graph.specs.Map.{Map, Valid, pairsOf, rank}
 use Rattle.model.specs.Bytes.{listed, wordAt}
 use Rattle.model.specs.Limits.{mostJunctions, mostRoads, mostTime}
 use Rattle.model.specs.Layout.{placeSize, roadSize, wordsIn}
-use Rattle.model.specs.Card.{Rows, bodiesRefusal, mapOf}
+use Rattle.model.specs.Card.{bodiesRefusal, mapOf}
 pub use Rattle.model.specs.Card.{rowsIn}
 use Rattle.model.specs.Areas.{recordsIn}
 use Rattle.model.specs.Laws.{listed-at, listed-length}

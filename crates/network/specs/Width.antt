@@ -1,5 +1,5 @@
 -- The width of a time: totals below the marks fit, others count as none. With the laws that loops over minima use. Assumes nothing.
-use mathlib.Core.Path.{_≡_, ap, refl}
+use mathlib.Core.Path.{_≡_, refl}
 use mathlib.Core.Bool.{cond}
 use mathlib.Core.Option.{none, some}
 use Prim.Native.Nat.{_<_, _≤_, min, ℕ}

@@ -3,6 +3,7 @@ use mathlib.Core.List.{List}
 use Prim.Native.Nat.{_<_, _≤_, ℕ}
 use denote.Triple.Both.{Both}
 use lib.ListN.{length}
+use Rattle.graph.specs.Path.{Weights}
 use Rattle.graph.specs.Network.{direct}
 use Rattle.model.specs.Limits.{mostJunctions}
 use Rattle.network.specs.Lending.{Held, Slice}
@@ -32,12 +33,15 @@ lent p c a e s u d = record {
   exit = lentOf (p .exit) (c .exit) (a .exit) (e .exit) (s .exit) (u .exit) (d .exit);
 }
 
+abbrev pub ReadyIn : Weights → (n r count : ℕ) → Lent → Type 0
+ReadyIn w n r count a = Ready w n r count (a .pairs) (a .cursor) (a .ahead) (a .ends) (a .soon) (a .ups) (a .downs)
+
 -- the row of a rank may be made, and is (`at` has the rank, and the number of records before its own)
-abbrev pub RowAsked : Links → RowStart → Lent → Type 0
-RowAsked l at a = Grouped (l .roads) (l .ranks) (l .first) (l .next)
-    × Ready (direct (netIn (l .roads) (l .ranks))) (length (l .ranks)) (at .0 .0) (at .1) (a .pairs) (a .cursor) (a .ahead) (a .ends)
-    (a .soon) (a .ups) (a .downs)
-    × (at .0 .0 < length (l .ranks)) × (length (l .ranks) ≤ mostJunctions)
+pub record RowAsked (l : Links) (at : RowStart) (a : Lent) : Type 0 where
+  pub grouped : Grouped (l .roads) (l .ranks) (l .first) (l .next)
+  pub ready : ReadyIn (direct (netIn (l .roads) (l .ranks))) (length (l .ranks)) (at .0 .0) (at .1) a
+  pub rank-in : at .0 .0 < length (l .ranks)
+  pub ranks-high : length (l .ranks) ≤ mostJunctions
 
 abbrev pub RowMade : Links → RowStart → Lent → Contracted → Type 0
 RowMade l at a answer = RowDone (direct (netIn (l .roads) (l .ranks))) (length (l .ranks)) (at .0 .0) (a .pairs) (a .cursor) (a .ahead)

@@ -1,4 +1,5 @@
--- The ways in which the pass over the records meets its contract.
+-- The ways in which the pass over the records meets its contract. On a map that the areas hold, the records below k have made the totals
+-- that the pass of the model makes of its first k pairs (`made`), and those of all records are the down totals (`end-at`).
 use mathlib.Core.Path.{_∙_, _≡_, ap, ap₂, refl, subst, sym}
 use mathlib.Core.Option.{none, some}
 use mathlib.Core.List.{List, [], _++_, _∷_}
@@ -41,9 +42,9 @@ fit-sum (some a) (some b) = go (fits b)
     go (fits-out h e) = ap (λ (y : Total). fit (some a ⊕ y)) e ∙ sym (fit-out (a + b) (omega arith))
 
 -- a minimum's next step, on words of what fits
-relaxed : (x y z : Total) (u v w : ℕ) → u ≡ word (fit x) → ofWord v ≡ y → w ≡ word (fit z)
+relaxed : {u w : ℕ} (v : ℕ) (x y z : Total) → u ≡ word (fit x) → ofWord v ≡ y → w ≡ word (fit z)
     → min u (word (fit (ofWord v ⊕ ofWord w))) ≡ word (fit (x ⊓ (y ⊕ z)))
-relaxed x y z u v w p q r =
+relaxed v x y z p q r =
     ap₂ min p (ap (λ (a : Total). word (fit a)) (ap₂ _⊕_ q (ap ofWord r ∙ fit-ofWord z)) ∙ ap word (fit-sum y z)) ∙ fit-min x (y ⊕ z)
 
 -- ---- one record more
@@ -55,12 +56,12 @@ take-next (p ∷ l) (suc k) h = ap (λ (x : List Pair). p ∷ x) (take-next l k 
 
 module _ {M : Map} {n : ℕ} {order pairs : List ℕ} {count : ℕ} (o : Holds M n order pairs count) where
   -- ranks tell junctions apart
-  same-rank : (v u : ℕ) → v < M .vertices → u < M .vertices → rank M v ≡ rank M u → v ≡ u
-  same-rank v u lv lu e = sym (vertex-of-rank (o .valid .orders) v lv) ∙ ap (M .order) e ∙ vertex-of-rank (o .valid .orders) u lu
+  same-rank : {v u : ℕ} → v < M .vertices → u < M .vertices → rank M v ≡ rank M u → v ≡ u
+  same-rank {v} {u} lv lu e = sym (vertex-of-rank (o .valid .orders) v lv) ∙ ap (M .order) e ∙ vertex-of-rank (o .valid .orders) u lu
 
   -- a down time is below the marks
-  down-time-small : (i u : ℕ) → i < count → pairIn (pairsOf M) i .downTime ≡ some u → u < unasked
-  down-time-small i u l e =
+  down-time-small : {i u : ℕ} → i < count → pairIn (pairsOf M) i .downTime ≡ some u → u < unasked
+  down-time-small {i} {u} l e =
       let k = ranked o i l in
       let b = totals-fit (o .vertices-high) (ranked-down (o .valid) (o .most) (pairIn (pairsOf M) i .low) (pairIn (pairsOf M) i .high)
       (k .below) (sym (k .down-is) ∙ e)) in
@@ -76,36 +77,42 @@ module _ {M : Map} {n : ℕ} {order pairs : List ℕ} {count : ℕ} (o : Holds M
       ap (λ (x : List Pair). pass hand x (seed (rank M t)) h) (take-next (pairsOf M) k (omega (arith, l, o .count-is)))
       ∙ ap (λ (g : ℕ → Total). g h) (pass-append hand (take k (pairsOf M)) (pairIn (pairsOf M) k ∷ []) (seed (rank M t)))
 
-  start-at : (t : ℕ) → t < M .vertices → (d : List ℕ) → d ≡ replicate n noneWord → (v : ℕ) → v < M .vertices
+  start-at : {t v : ℕ} {d : List ℕ} → t < M .vertices → d ≡ replicate n noneWord → v < M .vertices
       → getD (set d t 0) v 0 ≡ word (fit (seed (rank M t) (rank M v)))
-  start-at t lt d e v lv = go (ℕ-discrete v t)
+  start-at {t} {v} {d} lt e lv = go (ℕ-discrete v t)
     where
+      long : t < length d
+      long = omega (arith, lt, o .vertices-are, ap length e, length-replicate n noneWord)
+
       go : Dec (v ≡ t) → getD (set d t 0) v 0 ≡ word (fit (seed (rank M t) (rank M v)))
       go (yes q) =
-          ap (λ (x : ℕ). getD (set d t 0) x 0) q ∙ getD-set-same d t 0 0 (omega (
-            arith,
-            lt,
-            o .vertices-are,
-            ap (λ (x : List ℕ). length x) e,
-            length-replicate n noneWord,
-          ))
+          ap (λ (x : ℕ). getD (set d t 0) x 0) q ∙ getD-set-same d t 0 0 long
           ∙ sym (ap (λ (x : Total). word (fit x)) (cond-yes (eqb (rank M v) (rank M t)) (some 0) none
           (eq-eqb (rank M v) (rank M t) (ap (rank M) q))))
       go (no q) =
           getD-set-other d t v 0 0 q ∙ ap (λ (x : List ℕ). getD x v 0) e
           ∙ getD-replicate n v noneWord 0 (omega (arith, lv, o .vertices-are))
           ∙ sym (ap (λ (x : Total). word (fit x)) (cond-no (eqb (rank M v) (rank M t)) (some 0) none
-          (ne-eqb (rank M v) (rank M t) (λ z. q (same-rank v t lv lt z)))))
+          (ne-eqb (rank M v) (rank M t) (λ z. q (same-rank lv lt z)))))
 
-  module _ (t k : ℕ) (d z : List ℕ) (l : k < count) (len : length d ≡ n)
-      (old : (v : ℕ) → v < M .vertices → getD d v 0 ≡ word (fit (made t k (rank M v)))) (s : Handed n order pairs k d z) where
-    rk : Ranked M k (pairIn (pairsOf M) k .low) (pairIn (pairsOf M) k .high)
+  -- record k: its pair p, its lower junction a and its higher one b
+  module _ {k : ℕ} (l : k < count) where
+    abbrev p : Pair
+    p = pairIn (pairsOf M) k
+
+    abbrev a : ℕ
+    a = lowerIn order pairs k
+
+    abbrev b : ℕ
+    b = higherIn order pairs k
+
+    rk : Ranked M k (p .low) (p .high)
     rk = ranked o k l
 
-    low-is : lowIn pairs k ≡ pairIn (pairsOf M) k .low
+    low-is : lowIn pairs k ≡ p .low
     low-is = o .records k l .low
 
-    high-is : highIn pairs k ≡ pairIn (pairsOf M) k .high
+    high-is : highIn pairs k ≡ p .high
     high-is = o .records k l .high
 
     low-below : lowIn pairs k < M .vertices
@@ -114,152 +121,146 @@ module _ {M : Map} {n : ℕ} {order pairs : List ℕ} {count : ℕ} (o : Holds M
     high-below : highIn pairs k < M .vertices
     high-below = omega (arith, high-is, rk .below)
 
-    lower : lowerIn order pairs k ≡ M .order (lowIn pairs k)
-    lower = o .junction (lowIn pairs k) low-below
+    a-is : a ≡ M .order (lowIn pairs k)
+    a-is = o .junction (lowIn pairs k) low-below
 
-    higher : higherIn order pairs k ≡ M .order (highIn pairs k)
-    higher = o .junction (highIn pairs k) high-below
+    b-is : b ≡ M .order (highIn pairs k)
+    b-is = o .junction (highIn pairs k) high-below
 
-    lower-below : lowerIn order pairs k < M .vertices
-    lower-below = omega (arith, lower, o .valid .orders .below (lowIn pairs k) low-below)
+    a-below : a < M .vertices
+    a-below = omega (arith, a-is, o .valid .orders .below (lowIn pairs k) low-below)
 
-    higher-below : higherIn order pairs k < M .vertices
-    higher-below = omega (arith, higher, o .valid .orders .below (highIn pairs k) high-below)
+    b-below : b < M .vertices
+    b-below = omega (arith, b-is, o .valid .orders .below (highIn pairs k) high-below)
 
-    lower-rank : rank M (lowerIn order pairs k) ≡ pairIn (pairsOf M) k .low
-    lower-rank = ap (rank M) lower ∙ order-rank o (lowIn pairs k) low-below ∙ low-is
+    a-rank : rank M a ≡ p .low
+    a-rank = ap (rank M) a-is ∙ order-rank o (lowIn pairs k) low-below ∙ low-is
 
-    higher-rank : rank M (higherIn order pairs k) ≡ pairIn (pairsOf M) k .high
-    higher-rank = ap (rank M) higher ∙ order-rank o (highIn pairs k) high-below ∙ high-is
+    b-rank : rank M b ≡ p .high
+    b-rank = ap (rank M) b-is ∙ order-rank o (highIn pairs k) high-below ∙ high-is
 
-    z-is : z ≡ set d (higherIn order pairs k) (min (getD d (higherIn order pairs k) 0)
-        (word (fit (ofWord (downIn pairs k) ⊕ ofWord (getD d (lowerIn order pairs k) 0)))))
-    z-is = s .exact (omega (arith, low-below, o .vertices-are)) (omega (arith, high-below, o .vertices-are)) (omega (
-      arith,
-      lower-below,
-      o .vertices-are,
-    )) (omega (arith, higher-below, o .vertices-are))
-        (rw (old (higherIn order pairs k) higher-below) (fit-word (made t k (rank M (higherIn order pairs k)))))
+    time-is : ofWord (downIn pairs k) ≡ p .downTime
+    time-is = ap ofWord (o .records k l .downs)
+        ∙ ofWord-word (p .downTime) (λ u q. let small = down-time-small l q in omega (arith, small))
 
-    time-is : ofWord (downIn pairs k) ≡ pairIn (pairsOf M) k .downTime
-    time-is = ap ofWord (o .records k l .downs) ∙ ofWord-word (pairIn (pairsOf M) k .downTime) (λ u q. let b = down-time-small k u l q in
-        omega arith)
+    -- it hands down
+    module _ (t : ℕ) {d z : List ℕ} (len : length d ≡ n)
+        (old : (v : ℕ) → v < M .vertices → getD d v 0 ≡ word (fit (made t k (rank M v)))) (s : Handed n order pairs k d z) where
+      abbrev x : ℕ
+      x = min (getD d b 0) (word (fit (ofWord (downIn pairs k) ⊕ ofWord (getD d a 0))))
 
-    turn-at : (v : ℕ) → v < M .vertices → getD z v 0 ≡ word (fit (made t (suc k) (rank M v)))
-    turn-at v lv = ap (λ (x : List ℕ). getD x v 0) z-is ∙ go (ℕ-discrete v (higherIn order pairs k))
-        ∙ sym (ap (λ (x : Total). word (fit x)) (made-next t k (rank M v) l))
-      where
-        p : Pair
-        p = pairIn (pairsOf M) k
+      z-is : z ≡ set d b x
+      z-is = s .exact (omega (arith, low-below, o .vertices-are)) (omega (arith, high-below, o .vertices-are)) (omega (
+        arith,
+        a-below,
+        o .vertices-are,
+      )) (omega (arith, b-below, o .vertices-are)) (rw (old b b-below) (fit-word (made t k (rank M b))))
 
-        x : ℕ
-        x = min (getD d (higherIn order pairs k) 0) (word (fit (ofWord (downIn pairs k) ⊕ ofWord (getD d (lowerIn order pairs k) 0))))
+      turn-at : (v : ℕ) → v < M .vertices → getD z v 0 ≡ word (fit (made t (suc k) (rank M v)))
+      turn-at v lv = ap (λ (y : List ℕ). getD y v 0) z-is ∙ go (ℕ-discrete v b)
+          ∙ sym (ap (λ (y : Total). word (fit y)) (made-next t k (rank M v) l))
+        where
+          -- at the higher junction: the total that is handed down
+          handed-on : getD (set d b x) b 0 ≡ word (fit (made t k (rank M b) ⊓ (p .downTime ⊕ made t k (p .low))))
+          handed-on =
+              getD-set-same d b x 0 (omega (arith, b-below, o .vertices-are, len))
+              ∙ relaxed (downIn pairs k) (made t k (rank M b)) (p .downTime) (made t k (rank M a)) (old b b-below) time-is (old a a-below)
+              ∙ ap (λ (y : ℕ). word (fit (made t k (rank M b) ⊓ (p .downTime ⊕ made t k y)))) a-rank
 
-        go : Dec (v ≡ higherIn order pairs k) → getD (set d (higherIn order pairs k) x) v 0 ≡ word (fit (hand p (made t k) (rank M v)))
-        go (yes q) =
-            ap (λ (y : ℕ). getD (set d (higherIn order pairs k) x) y 0) q ∙ getD-set-same d (higherIn order pairs k) x 0 (omega (
-              arith,
-              higher-below,
-              o .vertices-are,
-              len,
-            ))
-            ∙ relaxed (made t k (rank M (higherIn order pairs k))) (p .downTime) (made t k (rank M (lowerIn order pairs k)))
-            (getD d (higherIn order pairs k) 0) (downIn pairs k) (getD d (lowerIn order pairs k) 0)
-            (old (higherIn order pairs k) higher-below) time-is (old (lowerIn order pairs k) lower-below)
-            ∙ ap (λ (y : ℕ). word (fit (made t k (rank M (higherIn order pairs k)) ⊓ (p .downTime ⊕ made t k y)))) lower-rank
-            ∙ ap (λ (y : ℕ). word (fit (made t k (rank M y) ⊓ (p .downTime ⊕ made t k (p .low))))) (sym q)
-            ∙ sym (ap (λ (y : Total). word (fit y)) (cond-yes (eqb (rank M v) (p .high))
-            (made t k (rank M v) ⊓ (p .downTime ⊕ made t k (p .low))) (made t k (rank M v))
-            (eq-eqb (rank M v) (p .high) (ap (rank M) q ∙ higher-rank))))
-        go (no q) =
-            getD-set-other d (higherIn order pairs k) v x 0 q ∙ old v lv
-            ∙ sym (ap (λ (y : Total). word (fit y)) (cond-no (eqb (rank M v) (p .high))
-            (made t k (rank M v) ⊓ (p .downTime ⊕ made t k (p .low))) (made t k (rank M v))
-            (ne-eqb (rank M v) (p .high) (λ e. q (same-rank v (higherIn order pairs k) lv higher-below (e ∙ sym higher-rank))))))
+          go : Dec (v ≡ b) → getD (set d b x) v 0 ≡ word (fit (hand p (made t k) (rank M v)))
+          go (yes q) =
+              ap (λ (y : ℕ). getD (set d b x) y 0) q ∙ handed-on
+              ∙ ap (λ (y : ℕ). word (fit (made t k (rank M y) ⊓ (p .downTime ⊕ made t k (p .low))))) (sym q)
+              ∙ sym (ap (λ (y : Total). word (fit y)) (cond-yes (eqb (rank M v) (p .high))
+              (made t k (rank M v) ⊓ (p .downTime ⊕ made t k (p .low))) (made t k (rank M v))
+              (eq-eqb (rank M v) (p .high) (ap (rank M) q ∙ b-rank))))
+          go (no q) =
+              getD-set-other d b v x 0 q ∙ old v lv
+              ∙ sym (ap (λ (y : Total). word (fit y)) (cond-no (eqb (rank M v) (p .high))
+              (made t k (rank M v) ⊓ (p .downTime ⊕ made t k (p .low))) (made t k (rank M v))
+              (ne-eqb (rank M v) (p .high) (λ e. q (same-rank lv b-below (e ∙ sym b-rank))))))
 
   -- all records have handed theirs down
-  end-at : (t : ℕ) (d : List ℕ) (k v : ℕ) → count ≤ k → v < M .vertices → getD d v 0 ≡ word (fit (made t k (rank M v)))
-      → getD d v 0 ≡ word (downTotalOf M t v)
+  end-at : {k v x : ℕ} (t : ℕ) → count ≤ k → v < M .vertices → x ≡ word (fit (made t k (rank M v))) → x ≡ word (downTotalOf M t v)
   unfolding made
-  end-at t d k v ck lv e =
+  end-at {k} {v} t ck lv e =
+      let r = rank-below (o .valid .orders) v lv in
       e ∙ ap (λ (x : List Pair). word (fit (pass hand x (seed (rank M t)) (rank M v)))) (take-all k (pairsOf M) (omega (
         arith,
         ck,
         o .count-is,
       )))
-      ∙ ap (λ (x : Total). word (fit x)) (hand-all (weights M) (M .vertices) (rank M t) (rank M v) (rank-below (o .valid .orders) v lv))
-      ∙ ap word (fit-is (downTotalOf M t v) (λ u q. down-small o t (rank M v) u (rank-below (o .valid .orders) v lv) q))
+      ∙ ap (λ (x : Total). word (fit x)) (hand-all (weights M) (M .vertices) (rank M t) (rank M v) r)
+      ∙ ap word (fit-is (downTotalOf M t v) (λ u q. down-small o t (rank M v) u r q))
 
 -- ---- the pass
 
-module _ (n : ℕ) (order pairs : List ℕ) (count t : ℕ) where
-  pub descend-start : t < n → (d : List ℕ) (m x : ℕ) → m ≡ n → d ≡ replicate m noneWord → x ≡ 0
+module _ {n count t : ℕ} {order pairs : List ℕ} where
+  pub descend-start : {m x : ℕ} {d : List ℕ} → t < n → m ≡ n → d ≡ replicate m noneWord → x ≡ 0
       → Descending n order pairs count t 0 (set d t x)
   unfolding made
-  descend-start l d m x k e q = record {
+  descend-start {d = d} l k e q = record {
     exact = λ M o v lv. ap (λ (y : ℕ). getD (set d t y) v 0) q
-        ∙ start-at o t (omega (arith, l, o .vertices-are)) d (e ∙ ap (λ (y : ℕ). replicate y noneWord) k) v lv;
+        ∙ start-at o (omega (arith, l, o .vertices-are)) (e ∙ ap (λ (y : ℕ). replicate y noneWord) k) lv;
   }
 
-  pub descend-turn : (k : ℕ) (d z : List ℕ) → k < count → length d ≡ n → Descending n order pairs count t k d → Handed n order pairs k d z
+  pub descend-turn : {k : ℕ} {d z : List ℕ} → k < count → length d ≡ n → Descending n order pairs count t k d → Handed n order pairs k d z
       → Descending n order pairs count t (k + 1) z
   unfolding made
-  descend-turn k d z l len w s = record {
+  descend-turn {k} {d} {z} l len w s = record {
     exact = λ M o v lv.
         subst (λ (y : ℕ). getD z v 0 ≡ word (fit (pass hand (take y (pairsOf M)) (seed (rank M t)) (rank M v)))) (sym (add-one k))
-        (turn-at o t k d z l len (w .exact M o) s v lv);
+        (turn-at o l t len (w .exact M o) s v lv);
   }
 
-  pub descend-end : (k : ℕ) (d : List ℕ) → count ≤ k → length d ≡ n → length order ≡ 4 * n → Descending n order pairs count t k d
+  pub descend-end : {k : ℕ} {d : List ℕ} → count ≤ k → length d ≡ n → length order ≡ 4 * n → Descending n order pairs count t k d
       → Descended order pairs count d t
   unfolding made
-  descend-end k d ck len lo w = record {
+  descend-end {d = d} ck len lo w = record {
     exact = λ roads ranks p.
         let o = prepared-holds p n lo in
         listed-is (mapIn roads order .vertices) (λ v. word (downTotalOf (mapIn roads order) t v)) d (len ∙ sym (o .vertices-are))
-        (λ v lv. end-at o t d k v ck lv (w .exact (mapIn roads order) o v lv));
+        (λ v lv. end-at o t ck lv (w .exact (mapIn roads order) o v lv));
   }
 
--- a rank or a junction that is none: nothing is handed
-module _ (n : ℕ) (order pairs : List ℕ) (i : ℕ) (d : List ℕ) where
-  pub no-low : (low : ℕ) → low ≡ lowIn pairs i → n ≤ low → Handed n order pairs i d d
-  no-low low e h = record { exact = λ a b c f w. absurd (omega arith) }
+-- ---- one record on any contents; a is its lower junction, b the higher one
 
-  pub no-high : (high : ℕ) → high ≡ highIn pairs i → n ≤ high → Handed n order pairs i d d
-  no-high high e h = record { exact = λ a b c f w. absurd (omega arith) }
+-- the junction at a rank that was read
+pub junction-at : {r s j : ℕ} (order : List ℕ) → r ≡ s → j ≡ wordAt order (4 * r) → j ≡ wordAt order (4 * s)
+junction-at order e g = rw e at g
 
-  pub no-lower : (low a : ℕ) → low ≡ lowIn pairs i → a ≡ wordAt order (4 * low) → n ≤ a → Handed n order pairs i d d
-  no-lower low x e g h = let k : x ≡ lowerIn order pairs i = g ∙ ap (λ (y : ℕ). wordAt order (4 * y)) e in
-      record { exact = λ a b c f w. absurd (omega (arith, k, h, c)) }
+module _ {n i : ℕ} {order pairs d : List ℕ} where
+  -- a rank or a junction that is none: nothing is handed
+  pub no-low : {low : ℕ} → low ≡ lowIn pairs i → n ≤ low → Handed n order pairs i d d
+  no-low {low} e h = record { exact = λ low-in high-in lower-in higher-in w. absurd (omega (arith, e, h, low-in)) }
 
-  pub no-higher : (high a : ℕ) → high ≡ highIn pairs i → a ≡ wordAt order (4 * high) → n ≤ a → Handed n order pairs i d d
-  no-higher high x e g h = let k : x ≡ higherIn order pairs i = g ∙ ap (λ (y : ℕ). wordAt order (4 * y)) e in
-      record { exact = λ a b c f w. absurd (omega (arith, k, h, f)) }
+  pub no-high : {high : ℕ} → high ≡ highIn pairs i → n ≤ high → Handed n order pairs i d d
+  no-high {high} e h = record { exact = λ low-in high-in lower-in higher-in w. absurd (omega (arith, e, h, high-in)) }
+
+  pub no-lower : {a : ℕ} → a ≡ lowerIn order pairs i → n ≤ a → Handed n order pairs i d d
+  no-lower {a} e h = record { exact = λ low-in high-in lower-in higher-in w. absurd (omega (arith, e, h, lower-in)) }
+
+  pub no-higher : {b : ℕ} → b ≡ higherIn order pairs i → n ≤ b → Handed n order pairs i d d
+  no-higher {b} e h = record { exact = λ low-in high-in lower-in higher-in w. absurd (omega (arith, e, h, higher-in)) }
 
   -- a lower junction without a total has nothing to hand down
-  pub no-rest : (low a rest : ℕ) → low ≡ lowIn pairs i → a ≡ wordAt order (4 * low) → rest ≡ getD d a 0 → rest ≡ noneWord
-      → Handed n order pairs i d d
-  no-rest low a rest el ea er en =
-      let x : a ≡ lowerIn order pairs i = ea ∙ ap (λ (y : ℕ). wordAt order (4 * y)) el in
-      let q : getD d (lowerIn order pairs i) 0 ≡ noneWord = sym (er ∙ ap (λ (j : ℕ). getD d j 0) x) ∙ en in
-      record { exact = λ _ _ _ _ w. sym (ap (set d (higherIn order pairs i)) (kept q w) ∙ set-getD d (higherIn order pairs i) 0) }
+  pub no-rest : {a rest : ℕ} → a ≡ lowerIn order pairs i → rest ≡ getD d a 0 → rest ≡ noneWord → Handed n order pairs i d d
+  no-rest {a} {rest} ea er en =
+      let q : getD d (lowerIn order pairs i) 0 ≡ noneWord = sym (er ∙ ap (λ (j : ℕ). getD d j 0) ea) ∙ en in
+      record { exact = λ l h lr hr w. sym (ap (set d (higherIn order pairs i)) (kept q w) ∙ set-getD d (higherIn order pairs i) 0) }
     where
       kept : getD d (lowerIn order pairs i) 0 ≡ noneWord → getD d (higherIn order pairs i) 0 ≤ noneWord
           → min (getD d (higherIn order pairs i) 0) (word (fit (ofWord (downIn pairs i) ⊕ ofWord (getD d (lowerIn order pairs i) 0)))) ≡
           getD d (higherIn order pairs i) 0
       kept q w = rw (q, ofWord-none, ⊕-none) (omega arith)
 
-  -- a is the lower junction, b the higher one; best, time and rest are read as times, v is stored
-  pub handed : (low high a b best time rest least v : ℕ) → low ≡ lowIn pairs i → high ≡ highIn pairs i → a ≡ wordAt order (4 * low)
-      → b ≡ wordAt order (4 * high)
-      → best ≡ getD d b 0 → time ≡ downIn pairs i → rest ≡ getD d a 0 → least ≡ min best (word (fit (ofWord time ⊕ ofWord rest)))
+  -- best, time and rest are read as times, v is stored
+  pub handed : {a b best time rest least v : ℕ} → a ≡ lowerIn order pairs i → b ≡ higherIn order pairs i → best ≡ getD d b 0
+      → time ≡ downIn pairs i → rest ≡ getD d a 0 → least ≡ min best (word (fit (ofWord time ⊕ ofWord rest)))
       → v ≡ least → Handed n order pairs i d (set d b v)
-  handed low high a b best time rest least v el eh ea eb p q r s f =
-      let x : a ≡ lowerIn order pairs i = ea ∙ ap (λ (y : ℕ). wordAt order (4 * y)) el in
-      let y : b ≡ higherIn order pairs i = eb ∙ ap (λ (y : ℕ). wordAt order (4 * y)) eh in
-      record {
-        exact = λ _ _ _ _ _.
-            ap₂ (set d) y
-            (f ∙ s ∙ ap₂ min (p ∙ ap (λ (j : ℕ). getD d j 0) y)
-            (ap₂ (λ (j k : ℕ). word (fit (ofWord j ⊕ ofWord k))) q (r ∙ ap (λ (j : ℕ). getD d j 0) x)));
-      }
+  handed ea eb p q r s f = record {
+    exact = λ l h lr hr w.
+        ap₂ (set d) eb
+        (f ∙ s ∙ ap₂ min (p ∙ ap (λ (j : ℕ). getD d j 0) eb)
+        (ap₂ (λ (j k : ℕ). word (fit (ofWord j ⊕ ofWord k))) q (r ∙ ap (λ (j : ℕ). getD d j 0) ea)));
+  }

@@ -21,16 +21,23 @@ abbrev pub lent : (order pairs down : Slice) → Both Lent Lent
 lent o p d = record { entry = lentOf (o .entry) (p .entry) (d .entry); exit = lentOf (o .exit) (p .exit) (d .exit) }
 
 -- record i may hand a total down, and does
-abbrev pub HandAsked : (n i : ℕ) → Lent → Type 0
-HandAsked n i a = (n ≤ mostJunctions) × (length (a .order) ≡ 4 * n) × (length (a .down) ≡ n) × (4 * i + 4 ≤ length (a .pairs))
+pub record HandAsked (n i : ℕ) (a : Lent) : Type 0 where
+  pub n-high : n ≤ mostJunctions
+  pub order-is : length (a .order) ≡ 4 * n
+  pub down-is : length (a .down) ≡ n
+  pub record-in : 4 * i + 4 ≤ length (a .pairs)
 
 abbrev pub HandDone : (n i : ℕ) → Both Lent Lent → Type 0
 HandDone n i a = Handed n (a .entry .order) (a .entry .pairs) i (a .entry .down) (a .exit .down)
 
 -- the totals of a target may be asked, and are made
-abbrev pub DownsAsked : (n count target : ℕ) → Lent → Type 0
-DownsAsked n count target a = (target < n) × (n ≤ mostJunctions) × (length (a .order) ≡ 4 * n) × (length (a .down) ≡ n)
-    × (4 * count ≤ length (a .pairs)) × (count ≤ mostPairs)
+pub record DownsAsked (n count target : ℕ) (a : Lent) : Type 0 where
+  pub target-in : target < n
+  pub n-high : n ≤ mostJunctions
+  pub order-is : length (a .order) ≡ 4 * n
+  pub down-is : length (a .down) ≡ n
+  pub records-in : 4 * count ≤ length (a .pairs)
+  pub count-high : count ≤ mostPairs
 
 abbrev pub DownsMade : (count target : ℕ) → Lent → Type 0
 DownsMade count target a = Descended (a .order) (a .pairs) count (a .down) target

@@ -1,5 +1,6 @@
--- The pairs of the lower ranks pass over the row of r. Assumes nothing.
-use mathlib.Core.Path.{_∙_, _≡_, ap, ap₂, subst, sym}
+-- A lower rank v relaxes the row of r: record by record (`Relaxing`, `Going`), from v's pair with r on (`Meeting`), and so the row passes
+-- from stage to stage (`stage-skip`, `stage-pass`). Assumes nothing.
+use mathlib.Core.Path.{_∙_, _≡_, ap, ap₂, sym}
 use mathlib.Core.Logic.{inl, inr}
 use mathlib.Core.Bool.{cond, false, true}
 use mathlib.Core.Option.{none}
@@ -36,7 +37,7 @@ pub record Relaxing (pairs : List ℕ) (from to : ℕ) (timeIn : List ℕ → �
       → Row r n row x
       → Row r n row′ (λ h. x h ⊓ minOver (through (ofWord first) time h) (take (i - from) l))
 
-module _ (pairs : List ℕ) (from to : ℕ) (timeIn : List ℕ → ℕ → ℕ) (first : ℕ) (row₀ : List ℕ) where
+module _ {pairs : List ℕ} {from to : ℕ} {timeIn : List ℕ → ℕ → ℕ} {first : ℕ} {row₀ : List ℕ} where
   pub relaxing-start : Relaxing pairs from to timeIn first from row₀ row₀
   relaxing-start = record {
     by = λ r n l time x t e w.
@@ -44,59 +45,69 @@ module _ (pairs : List ℕ) (from to : ℕ) (timeIn : List ℕ → ℕ → ℕ) 
         row-same (λ h. x h ⊓ minOver (through (ofWord first) time h) (take (from - from) l)) w (λ h rh hn. rw z (⊓-none (x h)));
   }
 
-  pub relaxing-turn : (i b v : ℕ) (row : List ℕ) → from ≤ i → i < to → b ≡ highIn pairs i
-      → v ≡ min (getD row b 0) (word (fit (ofWord first ⊕ ofWord (timeIn pairs i)))) → Relaxing pairs from to timeIn first i row₀ row
-      → Relaxing pairs from to timeIn first (i + 1) row₀ (set row b v)
-  relaxing-turn i b v row fi it eb ev g = record { by = one }
+  pub relaxing-turn : {i b a : ℕ} {row row′ : List ℕ} → from ≤ i → i < to → b ≡ highIn pairs i → a ≡ timeIn pairs i
+      → row′ ≡ set row b (min (getD row b 0) (word (fit (ofWord first ⊕ ofWord a)))) → Relaxing pairs from to timeIn first i row₀ row
+      → Relaxing pairs from to timeIn first (i + 1) row₀ row′
+  relaxing-turn {i} {b} {a} {row} fi it eb ea er g = rw er (record { by = one })
     where
+      v : ℕ
+      v = min (getD row b 0) (word (fit (ofWord first ⊕ ofWord a)))
+
       one : (r n : ℕ) (l : List Pair) (time : Pair → Total) (x : ℕ → Total) → Times pairs from timeIn time l → from + length l ≡ to
           → Row r n row₀ x
           → Row r n (set row b v) (λ h. x h ⊓ minOver (through (ofWord first) time h) (take (i + 1 - from) l))
-      one r n l time x t e w = row-set (λ h. x h ⊓ minOver (f h) (take (i + 1 - from) l)) b v old here there
+      one r n l time x t e w = row-set becomes b v row-was here there
         where
-          j : ℕ
-          j = i - from
-
+          -- record i, as a pair, and what it gives for h
           p : Pair
           p = getD l (i - from) (edge 0)
 
           f : ℕ → Pair → Total
           f h = through (ofWord first) time h
 
-          old : Row r n row (λ h. x h ⊓ minOver (f h) (take (i - from) l))
-          old = g .by r n l time x t e w
+          -- the times before the turn, and after it
+          was : ℕ → Total
+          was h = x h ⊓ minOver (f h) (take (i - from) l)
+
+          becomes : ℕ → Total
+          becomes h = x h ⊓ minOver (f h) (take (i + 1 - from) l)
+
+          row-was : Row r n row was
+          row-was = g .by r n l time x t e w
+
+          place : from + (i - from) ≡ i
+          place = omega arith
 
           high : b ≡ p .high
-          high = let q : from + (i - from) ≡ i = omega arith in
-              eb ∙ ap (λ (y : ℕ). highIn pairs y) (sym q) ∙ t .high (i - from) (edge 0) (omega arith)
+          high = eb ∙ ap (λ (y : ℕ). highIn pairs y) (sym place) ∙ t .high (i - from) (edge 0) (omega arith)
 
-          own : ofWord (timeIn pairs i) ≡ time p
-          own = let q : from + (i - from) ≡ i = omega arith in
-              ap (λ (y : ℕ). ofWord (timeIn pairs y)) (sym q) ∙ t .time-is (i - from) (edge 0) (omega arith)
+          own : ofWord a ≡ time p
+          own = ap ofWord ea ∙ ap (λ (y : ℕ). ofWord (timeIn pairs y)) (sym place) ∙ t .time-is (i - from) (edge 0) (omega arith)
 
-          more : (h : ℕ) → x h ⊓ minOver (f h) (take (i + 1 - from) l) ≡ (x h ⊓ minOver (f h) (take (i - from) l)) ⊓ f h p
+          more : (h : ℕ) → becomes h ≡ was h ⊓ f h p
           more h =
               let s : i + 1 - from ≡ suc (i - from) = omega arith in
               ap (λ (y : ℕ). x h ⊓ minOver (f h) (take y l)) s ∙ ap (_⊓_ (x h)) (minOver-take (f h) l (i - from) (edge 0) (omega arith))
               ∙ sym (⊓-assoc (x h) (minOver (f h) (take (i - from) l)) (f h p))
 
-          here : r < b → b < n → v ≡ word (fit (x b ⊓ minOver (f b) (take (i + 1 - from) l)))
+          hit : f b p ≡ ofWord first ⊕ time p
+          hit = cond-yes (eqb (p .high) b) (ofWord first ⊕ time p) none (eq-eqb (p .high) b (sym high))
+
+          miss : (h : ℕ) → (h ≡ b → ⊥) → f h p ≡ none
+          miss h ne = cond-no (eqb (p .high) h) (ofWord first ⊕ time p) none (ne-eqb (p .high) h (λ q. ne (sym q ∙ sym high)))
+
+          here : r < b → b < n → v ≡ word (fit (becomes b))
           here rb bn =
-              ev ∙ ap₂ min (old .at b rb bn) (ap (λ (y : Total). word (fit (ofWord first ⊕ y))) own)
-              ∙ fit-min (x b ⊓ minOver (f b) (take (i - from) l)) (ofWord first ⊕ time p)
-              ∙ ap (λ (y : Total). word (fit ((x b ⊓ minOver (f b) (take (i - from) l)) ⊓ y)))
-              (sym (cond-yes (eqb (p .high) b) (ofWord first ⊕ time p) none (eq-eqb (p .high) b (sym high))))
-              ∙ ap (λ (y : Total). word (fit y)) (sym (more b))
+              ap₂ min (row-was .at b rb bn) (ap (λ (y : Total). word (fit (ofWord first ⊕ y))) own)
+              ∙ fit-min (was b) (ofWord first ⊕ time p)
+              ∙ ap (λ (y : Total). word (fit (was b ⊓ y))) (sym hit) ∙ ap (λ (y : Total). word (fit y)) (sym (more b))
 
-          there : (h : ℕ) → r < h → (h ≡ b → ⊥) → x h ⊓ minOver (f h) (take (i + 1 - from) l) ≡ x h ⊓ minOver (f h) (take (i - from) l)
-          there h rh ne =
-              more h ∙ ap (_⊓_ (x h ⊓ minOver (f h) (take (i - from) l)))
-              (cond-no (eqb (p .high) h) (ofWord first ⊕ time p) none (ne-eqb (p .high) h (λ q. ne (sym q ∙ sym high))))
-              ∙ ⊓-none (x h ⊓ minOver (f h) (take (i - from) l))
+          there : (h : ℕ) → r < h → (h ≡ b → ⊥) → becomes h ≡ was h
+          there h rh ne = more h ∙ ap (_⊓_ (was h)) (miss h ne) ∙ ⊓-none (was h)
 
-  pub relaxing-end : (i : ℕ) (row : List ℕ) → i ≤ to → to ≤ i → Relaxing pairs from to timeIn first i row₀ row
+  pub relaxing-end : {i : ℕ} {row : List ℕ} → i ≤ to → to ≤ i → Relaxing pairs from to timeIn first i row₀ row
       → Relaxed pairs from to timeIn first row₀ row
-  relaxing-end i row h k g = record {
+  relaxing-end {i} h k g = record {
     by = λ r n l time x t e w.
         row-same (λ h. x h ⊓ minOver (through (ofWord first) time h) l) (g .by r n l time x t e w)
         (λ h rh hn. ap (λ (y : List Pair). x h ⊓ minOver (through (ofWord first) time h) y) (sym (take-all (i - from) l (omega arith))));
@@ -110,42 +121,37 @@ pub record Going (pairs : List ℕ) (from to down up j : ℕ) (ups₀ downs₀ t
   pub downs-by : Relaxing pairs from to downIn up j downs₀ downs
   pub marks : (r n : ℕ) → Marked r n touched₀ ups₀ downs₀ → Marked r n touched ups downs
 
-module _ (pairs : List ℕ) (from to down up : ℕ) (ups₀ downs₀ touched₀ : List ℕ) where
+module _ {pairs : List ℕ} {from to down up : ℕ} {ups₀ downs₀ touched₀ : List ℕ} where
   pub going-start : Going pairs from to down up from ups₀ downs₀ touched₀ ups₀ downs₀ touched₀
-  going-start = record {
-    ups-by = relaxing-start pairs from to upIn down ups₀;
-    downs-by = relaxing-start pairs from to downIn up downs₀;
-    marks = λ r n m. m;
-  }
+  going-start = record { ups-by = relaxing-start; downs-by = relaxing-start; marks = λ r n m. m }
 
-  pub going-turn : (j h a b : ℕ) (ups downs touched ups′ downs′ touched′ : List ℕ) → from ≤ j → j < to → h ≡ highIn pairs j
+  pub going-turn : {j h a b : ℕ} {ups downs touched ups′ downs′ touched′ : List ℕ} → from ≤ j → j < to → h ≡ highIn pairs j
       → a ≡ upIn pairs j → ups′ ≡ set ups h (min (getD ups h 0) (word (fit (ofWord down ⊕ ofWord a))))
       → b ≡ downIn pairs j → downs′ ≡ set downs h (min (getD downs h 0) (word (fit (ofWord up ⊕ ofWord b))))
       → h < block * length touched → touched′ ≡ set touched (h / block) 1
       → Going pairs from to down up j ups₀ downs₀ touched₀ ups downs touched
       → Going pairs from to down up (j + 1) ups₀ downs₀ touched₀ ups′ downs′ touched′
-  going-turn j h a b ups downs touched ups′ downs′ touched′ fj jt eh ea eu eb ed lh et g =
-      let u : ℕ = min (getD ups h 0) (word (fit (ofWord down ⊕ ofWord a))) in
-      let d : ℕ = min (getD downs h 0) (word (fit (ofWord up ⊕ ofWord b))) in
-      record {
-        ups-by = subst (λ (x : List ℕ). Relaxing pairs from to upIn down (j + 1) ups₀ x) (sym eu)
-            (relaxing-turn pairs from to upIn down ups₀ j h u ups fj jt eh
-            (ap (λ (y : ℕ). min (getD ups h 0) (word (fit (ofWord down ⊕ ofWord y)))) ea) (g .ups-by));
-        downs-by = subst (λ (x : List ℕ). Relaxing pairs from to downIn up (j + 1) downs₀ x) (sym ed)
-            (relaxing-turn pairs from to downIn up downs₀ j h d downs fj jt eh
-            (ap (λ (y : ℕ). min (getD downs h 0) (word (fit (ofWord up ⊕ ofWord y)))) eb) (g .downs-by));
-        marks = λ r n m. marked-set h touched′ ups′ downs′ lh et
-            (λ k ne. ap (λ (x : List ℕ). getD x k 0) eu ∙ getD-set-other ups h k u 0 ne)
-            (λ k ne. ap (λ (x : List ℕ). getD x k 0) ed ∙ getD-set-other downs h k d 0 ne) (g .marks r n m);
-      }
+  going-turn {j} {h} {a} {b} {ups} {downs} fj jt eh ea eu eb ed lh et g = record {
+    ups-by = relaxing-turn fj jt eh ea eu (g .ups-by);
+    downs-by = relaxing-turn fj jt eh eb ed (g .downs-by);
+    marks = λ r n m. marked-set lh et (λ k ne. ap (λ (x : List ℕ). getD x k 0) eu ∙ getD-set-other ups h k u 0 ne)
+        (λ k ne. ap (λ (x : List ℕ). getD x k 0) ed ∙ getD-set-other downs h k d 0 ne) (g .marks r n m);
+  }
+    where
+      u : ℕ
+      u = min (getD ups h 0) (word (fit (ofWord down ⊕ ofWord a)))
+
+      d : ℕ
+      d = min (getD downs h 0) (word (fit (ofWord up ⊕ ofWord b)))
 
 pub going-end : {pairs : List ℕ} {i end down up j : ℕ} {ups₀ downs₀ touched₀ ups downs touched : List ℕ} → j ≤ end → end ≤ j
     → down ≡ downIn pairs i → up ≡ upIn pairs i → Going pairs (i + 1) end down up j ups₀ downs₀ touched₀ ups downs touched
     → Over pairs i end ups₀ downs₀ touched₀ ups downs touched
-going-end {pairs} {i} {end} {down} {up} {j} {ups₀} {downs₀} {touched₀} {ups} {downs} {touched} h k ed eu g =
-    let a : Relaxed pairs (i + 1) end upIn down ups₀ ups = relaxing-end pairs (i + 1) end upIn down ups₀ j ups h k (g .ups-by) in
-    let b : Relaxed pairs (i + 1) end downIn up downs₀ downs = relaxing-end pairs (i + 1) end downIn up downs₀ j downs h k (g .downs-by) in
-    record { ups-by = rw ed at a; downs-by = rw eu at b; marks = g .marks }
+going-end h k ed eu g = record {
+  ups-by = rw ed at (relaxing-end h k (g .ups-by));
+  downs-by = rw eu at (relaxing-end h k (g .downs-by));
+  marks = g .marks;
+}
 
 -- ---- the row of a lower rank v, where its pair with r is kept
 
@@ -162,10 +168,17 @@ pub record Meeting (w : Weights) (n r v i end : ℕ) (pairs : List ℕ) : Type 0
   pub place-is : i + 1 ≡ length (rows w n v) + length (row w v (suc r))
   pub ahead-is : cond (ltb (i + 1) end) (highIn pairs (i + 1)) n ≡ getD (row w v n) (length (row w v (suc r))) (edge n) .high
 
-module _ {w : Weights} {n r k : ℕ} {pairs cursor ahead ends ups downs touched : List ℕ}
-    (s : Stage w n r k pairs cursor ahead ends ups downs touched) (v : ℕ) (kv : k ≤ v) (vr : v < r) where
+-- the word of a pair's time u, which is t, gives it back
+same-time : {x : ℕ} {t u : Total} → x ≡ word u → u ≡ t → ofWord (word t) ≡ t → ofWord x ≡ u
+same-time q e f = ap ofWord (q ∙ ap word e) ∙ f ∙ sym e
+
+module _ {w : Weights} {n r v : ℕ} {pairs cursor ahead ends ups downs touched : List ℕ}
+    (s : Stage w n r v pairs cursor ahead ends ups downs touched) (vr : v < r) where
   rn : r < n
   rn = s .inside
+
+  front : Front w n v r cursor ahead ends
+  front = s .waiting v (omega arith) vr
 
   -- v's pair with r is kept, exactly if r is ahead
   kept : getD ahead v 0 ≡ r → exists (up w v r) (down w v r) ≡ true
@@ -176,14 +189,14 @@ module _ {w : Weights} {n r k : ℕ} {pairs cursor ahead ends ups downs touched 
       go (inr t) =
           let a = row-ahead w v (suc r) n rn in
           let q : getD (row w v n) (length (row w v (suc r))) (edge n) .high ≡ r =
-          ap (λ (y : List Pair). getD (row w v n) (length y) (edge n) .high) (row-blank w v r t) ∙ sym (s .waiting v kv vr .ahead-is) ∙ e in
+          ap (λ (y : List Pair). getD (row w v n) (length y) (edge n) .high) (row-blank w v r t) ∙ sym (front .ahead-is) ∙ e in
           absurd (omega (arith, a, q))
 
   blank : (getD ahead v 0 ≡ r → ⊥) → exists (up w v r) (down w v r) ≡ false
   blank ne = go (decide (exists (up w v r) (down w v r)))
     where
       go : Tested (exists (up w v r) (down w v r)) → exists (up w v r) (down w v r) ≡ false
-      go (inl t) = absurd (ne (s .waiting v kv vr .ahead-is ∙ ap (λ (p : Pair). p .high) (row-place w v r n (edge n) rn t)))
+      go (inl t) = absurd (ne (front .ahead-is ∙ ap (λ (p : Pair). p .high) (row-place w v r n (edge n) rn t)))
       go (inr t) = t
 
   -- record j of v
@@ -200,39 +213,21 @@ module _ {w : Weights} {n r k : ℕ} {pairs cursor ahead ends ups downs touched 
   down-of : (h : ℕ) → h < n → ofWord (word (down w v h)) ≡ down w v h
   down-of h hn = ofWord-word (down w v h) (λ t e. let q = s .narrow .downs v h t (omega arith) hn e in omega (arith, q))
 
-  up-word : (p : Pair) (h x : ℕ) → p ≡ pairOf w v h → h < n → x ≡ word (p .upTime) → ofWord x ≡ p .upTime
-  up-word p h x e hn q = q′ ∙ up-of h hn ∙ sym u
-    where
-      u : p .upTime ≡ up w v h
-      u = ap (λ (p : Pair). p .upTime) e
+  module _ (e : getD ahead v 0 ≡ r) where
+    abbrev i : ℕ
+    i = getD cursor v 0
 
-      q′ : ofWord x ≡ ofWord (word (up w v h))
-      q′ = ap ofWord (q ∙ ap word u)
+    abbrev end : ℕ
+    end = getD ends v 0
 
-  down-word : (p : Pair) (h x : ℕ) → p ≡ pairOf w v h → h < n → x ≡ word (p .downTime) → ofWord x ≡ p .downTime
-  down-word p h x e hn q = q′ ∙ down-of h hn ∙ sym u
-    where
-      u : p .downTime ≡ down w v h
-      u = ap (λ (p : Pair). p .downTime) e
-
-      q′ : ofWord x ≡ ofWord (word (down w v h))
-      q′ = ap ofWord (q ∙ ap word u)
-
-  module _ (e : getD ahead v 0 ≡ r) (i end : ℕ) (ei : i ≡ getD cursor v 0) (ee : end ≡ getD ends v 0) where
     size : length (row w v (suc r)) ≡ length (row w v r) + 1
     size = ap length (row-kept w v r (kept e)) ∙ length-append (row w v r) (pairOf w v r ∷ [])
 
     within : length (row w v (suc r)) ≤ length (row w v n)
     within = begins-length (row-begins w v (suc r) n rn)
 
-    i-is : i ≡ length (rows w n v) + length (row w v r)
-    i-is = ei ∙ s .waiting v kv vr .cursor-is
-
-    end-is′ : end ≡ length (rows w n v) + length (row w v n)
-    end-is′ = ee ∙ s .waiting v kv vr .end-is
-
     next-is : i + 1 ≡ length (rows w n v) + length (row w v (suc r))
-    next-is = omega (arith, i-is, size)
+    next-is = omega (arith, front .cursor-is, size)
 
     later-length : length (later w n v r) ≡ length (row w v n) - length (row w v (suc r))
     later-length = length-drop (length (row w v (suc r))) (row w v n)
@@ -252,7 +247,7 @@ module _ {w : Weights} {n r k : ℕ} {pairs cursor ahead ends ups downs touched 
     first-record : RecordAt pairs i (pairOf w v r)
     first-record =
         let a = record-of (length (row w v r)) (edge n) (omega (arith, size, within)) in
-        rw (← i-is, row-place w v r n (edge n) rn (kept e)) at a
+        rw (← (front .cursor-is), row-place w v r n (edge n) rn (kept e)) at a
 
     front-ahead : cond (ltb (i + 1) end) (highIn pairs (i + 1)) n ≡ getD (row w v n) (length (row w v (suc r))) (edge n) .high
     front-ahead = go (decLt (i + 1) end)
@@ -260,11 +255,11 @@ module _ {w : Weights} {n r k : ℕ} {pairs cursor ahead ends ups downs touched 
         go : Dec (i + 1 < end) → cond (ltb (i + 1) end) (highIn pairs (i + 1)) n ≡ getD (row w v n) (length (row w v (suc r)))
             (edge n) .high
         go (yes h) =
-            let a = record-of (length (row w v (suc r))) (edge n) (omega (arith, next-is, end-is′)) in
+            let a = record-of (length (row w v (suc r))) (edge n) (omega (arith, next-is, front .end-is)) in
             rw (lt-ltb (i + 1) end h, next-is) (a .high)
         go (no h) =
             let q : getD (row w v n) (length (row w v (suc r))) (edge n) ≡ edge n = List·getD-eq-default (row w v n) (edge n)
-            {n = length (row w v (suc r))} (omega (arith, next-is, end-is′)) in
+            {n = length (row w v (suc r))} (omega (arith, next-is, front .end-is)) in
             rw (le-ltb (i + 1) end (omega arith)) (sym (ap (λ (p : Pair). p .high) q))
 
     later-below : (j : ℕ) → j < length (later w n v r) → highIn pairs (i + 1 + j) < n
@@ -276,31 +271,31 @@ module _ {w : Weights} {n r k : ℕ} {pairs cursor ahead ends ups downs touched 
     high-below : (j : ℕ) → i + 1 ≤ j → j < end → highIn pairs j < n
     high-below j ij je =
         let q : i + 1 + (j - (i + 1)) ≡ j = omega arith in
-        rw q at (later-below (j - (i + 1)) (omega (arith, next-is, end-is′, later-length)))
+        rw q at (later-below (j - (i + 1)) (omega (arith, next-is, front .end-is, later-length)))
 
-    pub meeting : Meeting w n r v i end pairs
+    pub meeting : Meeting w n r v (getD cursor v 0) (getD ends v 0) pairs
     meeting = record {
-      next-in = omega (arith, next-is, end-is′, within);
-      end-in = omega (arith, end-is′, rows-length w n v r vr, s .holds .count-is, s .holds .room);
+      next-in = omega (arith, next-is, front .end-is, within);
+      end-in = omega (arith, front .end-is, rows-length w n v r vr, s .holds .count-is, s .holds .room);
       first-up = ap ofWord (first-record .ups) ∙ up-of r rn;
       first-down = ap ofWord (first-record .downs) ∙ down-of r rn;
-      end-is = omega (arith, next-is, end-is′, later-length, within);
+      end-is = omega (arith, next-is, front .end-is, later-length, within);
       ups = record {
         high = λ j d l. later-at j d l .high;
         time-is = λ j d l. let a = later-pair j d l in
-            up-word (getD (later w n v r) j d) (a .0) (upIn pairs (i + 1 + j)) (a .1) (a .2) (later-at j d l .ups);
+            same-time (later-at j d l .ups) (ap (λ (p : Pair). p .upTime) (a .1)) (up-of (a .0) (a .2));
       };
       downs = record {
         high = λ j d l. later-at j d l .high;
         time-is = λ j d l. let a = later-pair j d l in
-            down-word (getD (later w n v r) j d) (a .0) (downIn pairs (i + 1 + j)) (a .1) (a .2) (later-at j d l .downs);
+            same-time (later-at j d l .downs) (ap (λ (p : Pair). p .downTime) (a .1)) (down-of (a .0) (a .2));
       };
       highs = high-below;
       place-is = next-is;
       ahead-is = front-ahead;
     }
 
-    pub reached : Reached pairs (i + 1) end ups downs touched
+    pub reached : Reached pairs (getD cursor v 0 + 1) (getD ends v 0) ups downs touched
     reached = record {
       ups-in = λ j ij je. omega (arith, high-below j ij je, s .ups-are .wide);
       downs-in = λ j ij je. omega (arith, high-below j ij je, s .downs-are .wide);
@@ -314,7 +309,7 @@ module _ {w : Weights} {n r v : ℕ} {pairs cursor ahead ends ups downs touched 
   -- the pair of v with r is not kept
   pub stage-skip : (getD ahead v 0 ≡ r → ⊥) → Stage w n r (v + 1) pairs cursor ahead ends ups downs touched
   stage-skip ne =
-      let b = blank s v (omega arith) vr ne in
+      let b = blank s vr ne in
       rw (add-one v) (record {
         inside = s .inside;
         wide = s .wide;
@@ -331,7 +326,7 @@ module _ {w : Weights} {n r v : ℕ} {pairs cursor ahead ends ups downs touched 
     where
       front : (u : ℕ) → u < suc v → Dec (u ≡ v) → Front w n u (suc r) cursor ahead ends
       front u h (yes e) =
-          let b = row-blank w v r (blank s v (omega arith) vr ne) in
+          let b = row-blank w v r (blank s vr ne) in
           let f = s .waiting v (omega arith) vr in
           rw e (record {
             cursor-is = f .cursor-is ∙ ap (λ (y : List Pair). length (rows w n v) + length y) (sym b);
@@ -341,11 +336,11 @@ module _ {w : Weights} {n r v : ℕ} {pairs cursor ahead ends ups downs touched 
       front u h (no e) = s .passed u (omega arith)
 
   -- it is kept, and v's row is passed
-  pub stage-pass : (i end x : ℕ) (ups′ downs′ touched′ : List ℕ) → Meeting w n r v i end pairs
+  pub stage-pass : {i end x : ℕ} {ups′ downs′ touched′ : List ℕ} → Meeting w n r v i end pairs
       → Over pairs i end ups downs touched ups′ downs′ touched′
       → x ≡ cond (ltb (i + 1) end) (highIn pairs (i + 1)) n
       → Stage w n r (v + 1) pairs (set cursor v (i + 1)) (set ahead v x) ends ups′ downs′ touched′
-  stage-pass i end x ups′ downs′ touched′ m o ex =
+  stage-pass {i} {x} m o ex =
       rw (add-one v) (record {
         inside = s .inside;
         wide = record {
@@ -390,8 +385,8 @@ module _ {w : Weights} {n r v : ℕ} {pairs cursor ahead ends ups downs touched 
 
 -- ---- the high ahead
 
-pub ahead-in : (i end x n : ℕ) → i < end → x ≡ cond (ltb i end) x n
-ahead-in i end x n h = rw (lt-ltb i end h)
+pub ahead-in : {i end x y : ℕ} (n : ℕ) → i < end → x ≡ y → x ≡ cond (ltb i end) y n
+ahead-in {i} {end} n h e = rw (lt-ltb i end h) e
 
-pub ahead-out : (i end x n : ℕ) → end ≤ i → n ≡ cond (ltb i end) x n
-ahead-out i end x n h = rw (le-ltb i end h)
+pub ahead-out : {i end : ℕ} (x n : ℕ) → end ≤ i → n ≡ cond (ltb i end) x n
+ahead-out {i} {end} x n h = rw (le-ltb i end h)

@@ -62,8 +62,11 @@ OverDone pairs i end t =
     Over pairs i end (t .entry .ups) (t .entry .downs) (t .entry .touched) (t .exit .ups) (t .exit .downs) (t .exit .touched)
 
 -- rank r may have a front, and has one
-abbrev pub FrontAsked : (r : ℕ) → Fronts → Type 0
-FrontAsked r f = (r < length (f .cursor)) × (r < length (f .ahead)) × (r < length (f .ends)) × (r < block * length (f .soon))
+pub record FrontAsked (r : ℕ) (f : Fronts) : Type 0 where
+  pub cursor-in : r < length (f .cursor)
+  pub ahead-in : r < length (f .ahead)
+  pub ends-in : r < length (f .ends)
+  pub soon-in : r < block * length (f .soon)
 
 abbrev pub FrontDone : (r place high end : ℕ) → Both Fronts Fronts → Type 0
 FrontDone r place high end f = Begun r place high end (f .entry .cursor) (f .entry .ahead) (f .entry .ends) (f .entry .soon)

@@ -1,28 +1,28 @@
--- What the records give of the estimates of the map that they hold.
+-- What the records give of the estimates of the map that they hold: the least over the records of a rank is its estimate (`over-all`).
 use mathlib.Core.Path.{_∙_, _≡_, ap, refl, sym}
 use mathlib.Core.Logic.{_⊎_, inl, inr}
 use mathlib.Core.Bool.{cond, false, true}
 use mathlib.Core.Option.{none, some}
 use mathlib.Core.List.{List}
 use Prim.Native.Nat.{_<_, ℕ}
-use borrow.Author.Tests.{eq-eqb, eqb-true, ne-eqb}
+use borrow.Author.Tests.{eq-eqb, ne-eqb}
 use lib.Dec.{eqb}
+use native.Mathlib.Decide.{ℕ-discrete}
 use native.Mathlib.Omega.{arith}
-use Rattle.graph.specs.Total.{Tested, Total, _⊓_, _⊕_, cond-no, cond-yes, decide, decideOption, true-false}
+use Rattle.graph.specs.Total.{Total, _⊓_, _⊕_, cond-no, cond-yes, decideOption, true-false}
 use Rattle.graph.specs.Least.{minBelow}
 use Rattle.graph.specs.Path.{Path, Weights, empty, link, path-join}
 use Rattle.graph.specs.Pairs.{up}
 use Rattle.graph.specs.Records.{pairOf}
-use Rattle.graph.specs.Estimate.{downTotal, estimate-law}
+use Rattle.graph.specs.Estimate.{estimate-law}
 use Rattle.graph.specs.Reach.{Ups, path-reaches, reaches, reaches-path}
 use Rattle.graph.specs.Map.{Map, pairsOf, rank, weights}
 use Rattle.graph.specs.Rows.{ranked-estimate, ranked-up, rows-ascend, rows-has, ups-rows}
 use Rattle.model.specs.LimitLaws.{totals-fit}
 use Rattle.model.specs.Word.{noneWord, unasked, word}
 use Rattle.model.specs.Good.{UpClosed}
-use Rattle.model.specs.Use.{pairIn}
 use Rattle.network.specs.Width.{fit, fit-is}
-use Rattle.pairs_hierarchy.specs.Walks.{above, estimateAt, over}
+use Rattle.pairs_hierarchy.specs.Walks.{above, downAt, estimateAt, leastBelow, over, pairAt}
 use Rattle.pairs_records.specs.Holds.{Holds, Ranked, ranked}
 use Rattle.pairs_records.specs.Words.{Ascending, highIn, leads, lowIn, upIn}
 use Rattle.pairs_records.specs.Tests.{leads-by}
@@ -64,72 +64,65 @@ module _ {M : Map} {n : ℕ} {order pairs : List ℕ} {count : ℕ} (o : Holds M
 
   -- the record of a pair with an up time
   pub placed : (r g c : ℕ) → r < M .vertices → g < M .vertices → up (weights M) r g ≡ some c
-      → (i : ℕ) × (i < count) × (pairIn (pairsOf M) i ≡ pairOf (weights M) r g)
+      → (i : ℕ) × (i < count) × (pairAt M i ≡ pairOf (weights M) r g)
   placed r g c rn gn e =
       let p = place-of (rows-has (weights M) r g c (M .vertices) (M .vertices) rn gn e) in
       (p .0, omega (arith, p .1, o .count-is), p .2)
 
   -- ---- every number is below the marks
 
-  pub up-small : (i u : ℕ) → i < count → pairIn (pairsOf M) i .upTime ≡ some u → u < unasked
-  up-small i u l e =
+  pub up-small : {i u : ℕ} → i < count → pairAt M i .upTime ≡ some u → u < unasked
+  up-small {i} {u} l e =
       let k = ranked o i l in
-      let b = totals-fit (o .vertices-high) (ranked-up (o .valid) (o .most) (pairIn (pairsOf M) i .low) (pairIn (pairsOf M) i .high)
+      let b = totals-fit (o .vertices-high) (ranked-up (o .valid) (o .most) (pairAt M i .low) (pairAt M i .high)
       (omega (arith, k .rises, k .below)) (sym (k .up-is) ∙ e)) in
       omega (arith, b)
 
-  pub estimate-small : (t r u : ℕ) → rank M t < M .vertices → r < M .vertices → estimateAt M t r ≡ some u → u < unasked
-  estimate-small t r u lt lr e = let b = totals-fit (o .vertices-high) (ranked-estimate (o .valid) (o .most) (rank M t) r lt lr e) in
+  pub estimate-small : {r u : ℕ} (t : ℕ) → rank M t < M .vertices → r < M .vertices → estimateAt M t r ≡ some u → u < unasked
+  estimate-small {r} {u} t lt lr e = let b = totals-fit (o .vertices-high) (ranked-estimate (o .valid) (o .most) (rank M t) r lt lr e) in
       omega (arith, b)
 
   -- ---- a record of rank r that does not lead up has no up time
 
-  pub idle : (r i : ℕ) → i < count → leads n r (lowIn pairs i) (highIn pairs i) (upIn pairs i) ≡ false → pairIn (pairsOf M) i .low ≡ r
-      → pairIn (pairsOf M) i .upTime ≡ none
-  idle r i l f e = go (decideOption (pairIn (pairsOf M) i .upTime))
+  pub idle : {r i : ℕ} → i < count → leads n r (lowIn pairs i) (highIn pairs i) (upIn pairs i) ≡ false → pairAt M i .low ≡ r
+      → pairAt M i .upTime ≡ none
+  idle {r} {i} l f e = go (decideOption (pairAt M i .upTime))
     where
-      k : Ranked M i (pairIn (pairsOf M) i .low) (pairIn (pairsOf M) i .high)
+      k : Ranked M i (pairAt M i .low) (pairAt M i .high)
       k = ranked o i l
 
-      go : (pairIn (pairsOf M) i .upTime ≡ none) ⊎ ((c : ℕ) × (pairIn (pairsOf M) i .upTime ≡ some c)) → pairIn (pairsOf M) i .upTime ≡ none
+      go : (pairAt M i .upTime ≡ none) ⊎ ((c : ℕ) × (pairAt M i .upTime ≡ some c)) → pairAt M i .upTime ≡ none
       go (inl q) = q
       go (inr (c, q)) =
           let w = o .records i l in
-          let u : upIn pairs i ≡ c = w .ups ∙ ap word q in
-          let s = up-small i c l q in
-          let ne : eqb (upIn pairs i) noneWord ≡ false = ne-eqb (upIn pairs i) noneWord (λ z. omega (arith, u, s, z)) in
-          let x = w .low in
-          let y = w .high in
-          let z = leads-by n r (lowIn pairs i) (highIn pairs i) (upIn pairs i) (x ∙ e) (omega (arith, y, e, k .rises)) (omega (
-            arith,
-            y,
-            k .below,
-            o .vertices-are,
-          )) false (sym ne) in
-          absurd (true-false (sym z) f)
+          let up-is : upIn pairs i ≡ c = w .ups ∙ ap word q in
+          let small = up-small l q in
+          let there : eqb (upIn pairs i) noneWord ≡ false = ne-eqb (upIn pairs i) noneWord (λ z. omega (arith, up-is, small, z)) in
+          let rises : r < highIn pairs i = omega (arith, w .high, e, k .rises) in
+          let below : highIn pairs i < n = omega (arith, w .high, k .below, o .vertices-are) in
+          let leads-up = leads-by n r (lowIn pairs i) (highIn pairs i) (upIn pairs i) (w .low ∙ e) rises below false (sym there) in
+          absurd (true-false (sym leads-up) f)
+
+  -- ---- what record i gives to the estimate of rank r
+
+  pub over-here : (t r i : ℕ) → pairAt M i .low ≡ r → over M t r i ≡ pairAt M i .upTime ⊕ estimateAt M t (pairAt M i .high)
+  over-here t r i e = cond-yes (eqb (pairAt M i .low) r) (pairAt M i .upTime ⊕ estimateAt M t (pairAt M i .high)) none
+      (eq-eqb (pairAt M i .low) r e)
+
+  pub over-other : (t r i : ℕ) → (pairAt M i .low ≡ r → ⊥) → over M t r i ≡ none
+  over-other t r i ne = cond-no (eqb (pairAt M i .low) r) (pairAt M i .upTime ⊕ estimateAt M t (pairAt M i .high)) none
+      (ne-eqb (pairAt M i .low) r ne)
 
   pub over-idle : (t r i : ℕ) → i < count → leads n r (lowIn pairs i) (highIn pairs i) (upIn pairs i) ≡ false → over M t r i ≡ none
-  over-idle t r i l f = go (decide (eqb (pairIn (pairsOf M) i .low) r))
+  over-idle t r i l f = go (ℕ-discrete (pairAt M i .low) r)
     where
-      go : Tested (eqb (pairIn (pairsOf M) i .low) r) → over M t r i ≡ none
-      go (inl q) =
-          cond-yes (eqb (pairIn (pairsOf M) i .low) r) (pairIn (pairsOf M) i .upTime ⊕ estimateAt M t (pairIn (pairsOf M) i .high)) none q
-          ∙ ap (λ (x : Total). x ⊕ estimateAt M t (pairIn (pairsOf M) i .high)) (idle r i l f (eqb-true (pairIn (pairsOf M) i .low) r q))
-      go (inr q) = cond-no (eqb (pairIn (pairsOf M) i .low) r) (pairIn (pairsOf M) i .upTime ⊕ estimateAt M t (pairIn (pairsOf M) i .high))
-          none q
-
-  pub over-other : (t r i : ℕ) → (pairIn (pairsOf M) i .low ≡ r → ⊥) → over M t r i ≡ none
-  over-other t r i ne = cond-no (eqb (pairIn (pairsOf M) i .low) r)
-      (pairIn (pairsOf M) i .upTime ⊕ estimateAt M t (pairIn (pairsOf M) i .high)) none (ne-eqb (pairIn (pairsOf M) i .low) r ne)
-
-  pub over-here : (t r i : ℕ) → pairIn (pairsOf M) i .low ≡ r
-      → over M t r i ≡ pairIn (pairsOf M) i .upTime ⊕ estimateAt M t (pairIn (pairsOf M) i .high)
-  over-here t r i e = cond-yes (eqb (pairIn (pairsOf M) i .low) r)
-      (pairIn (pairsOf M) i .upTime ⊕ estimateAt M t (pairIn (pairsOf M) i .high)) none (eq-eqb (pairIn (pairsOf M) i .low) r e)
+      go : Dec (pairAt M i .low ≡ r) → over M t r i ≡ none
+      go (yes e) = over-here t r i e ∙ ap (λ (x : Total). x ⊕ estimateAt M t (pairAt M i .high)) (idle l f e)
+      go (no ne) = over-other t r i ne
 
   -- document 01: the estimate is the least of the own down total and, for each higher junction with an up time, that time plus its estimate
   pub over-all : (t r : ℕ) → rank M t < M .vertices → r < M .vertices
-      → word (fit (downTotal (weights M) (rank M t) r ⊓ minBelow count (over M t r))) ≡ word (estimateAt M t r)
+      → word (fit (leastBelow M t r count)) ≡ word (estimateAt M t r)
   over-all t r lt lr =
       let w = weights M in
       let v = M .vertices in
@@ -137,6 +130,6 @@ module _ {M : Map} {n : ℕ} {order pairs : List ℕ} {count : ℕ} (o : Holds M
       ap (λ (k : ℕ). minBelow k (over M t r)) (o .count-is)
       ∙ sym (minOver-places (λ p. cond (eqb (p .low) r) (p .upTime ⊕ estimateAt M t (p .high)) none) (pairsOf M))
       ∙ ups-rows w (estimateAt M t) v v r lr in
-      ap (λ (x : Total). word (fit (downTotal w (rank M t) r ⊓ x))) a
+      ap (λ (x : Total). word (fit (downAt M t r ⊓ x))) a
       ∙ ap (λ (x : Total). word (fit x)) (sym (estimate-law w v (rank M t) r))
-      ∙ ap word (fit-is (estimateAt M t r) (λ u e. estimate-small t r u lt lr e))
+      ∙ ap word (fit-is (estimateAt M t r) (λ u e. estimate-small t lt lr e))

@@ -17,8 +17,7 @@ module _ {roads order ranks pairs : List ℕ} {count : ℕ} (p : Prepared roads 
   pub rank-in : (j : ℕ) → j < mapIn roads order .vertices → getD ranks j 0 ≡ rank (mapIn roads order) j
   rank-in j l = ap (λ (x : List ℕ). getD x j 0) (p .ranks-are) ∙ listed-at (mapIn roads order .vertices) (rank (mapIn roads order)) j l
 
-module _ (n : ℕ) (order ranks pairs : List ℕ) (count : ℕ) (down e : List ℕ) (j r : ℕ) (lj : j < n) (lo : length order ≡ 4 * n)
-    (r-is : r ≡ getD ranks j 0) where
+module _ {n count j r : ℕ} {order ranks pairs down e : List ℕ} (lj : j < n) (lo : length order ≡ 4 * n) (r-is : r ≡ getD ranks j 0) where
   -- a junction without a rank: this is no area of ranks
   pub unranked : n ≤ r → Estimated order ranks pairs count down e e j noneWord
   unranked h = record {
@@ -31,8 +30,8 @@ module _ (n : ℕ) (order ranks pairs : List ℕ) (count : ℕ) (down e : List �
         absurd (omega (arith, r-is, k, b, h, o .vertices-are));
   }
 
-  pub estimated : (z : List ℕ) (v : ℕ) → Climbed n order pairs count down e z r v → Estimated order ranks pairs count down e z j v
-  estimated z v c = record {
+  pub estimated : {v : ℕ} {z : List ℕ} → Climbed n order pairs count down e z r v → Estimated order ranks pairs count down e z j v
+  estimated {v} {z} c = record {
     kept = c .kept;
     answered = c .answered;
     exact = λ roads p t a.

@@ -27,10 +27,22 @@ lent o p d e = record {
 
 -- ---- by rank
 
+-- what stands for rank r may be asked
+pub record KnownAsked (n r : ℕ) (order estimates : List ℕ) : Type 0 where
+  pub rank-in : r < n
+  pub n-high : n ≤ mostJunctions
+  pub order-is : length order ≡ 4 * n
+  pub estimates-are : length estimates ≡ n
+
 -- the estimate of rank r may be asked; it is answered; the walk over the records of r has answered
-abbrev pub RankAsked : (n count r : ℕ) → Lent → Type 0
-RankAsked n count r a = (r < n) × (n ≤ mostJunctions) × (length (a .order) ≡ 4 * n) × (length (a .down) ≡ n)
-    × (length (a .estimates) ≡ n) × (4 * count ≤ length (a .pairs)) × (count ≤ mostPairs)
+pub record RankAsked (n count r : ℕ) (a : Lent) : Type 0 where
+  pub rank-in : r < n
+  pub n-high : n ≤ mostJunctions
+  pub order-is : length (a .order) ≡ 4 * n
+  pub down-is : length (a .down) ≡ n
+  pub estimates-are : length (a .estimates) ≡ n
+  pub records-in : 4 * count ≤ length (a .pairs)
+  pub count-high : count ≤ mostPairs
 
 abbrev pub RankTold : (n count r v : ℕ) → Both Lent Lent → Type 0
 RankTold n count r v a =
@@ -43,9 +55,15 @@ WalkTold n count r own v a =
 -- ---- by junction
 
 -- the estimate of junction j may be asked, and is answered
-abbrev pub EstimateAsked : (n count j : ℕ) (ranks : List ℕ) → Lent → Type 0
-EstimateAsked n count j ranks a = (j < n) × (n ≤ mostJunctions) × (length (a .order) ≡ 4 * n) × (length ranks ≡ n)
-    × (length (a .down) ≡ n) × (length (a .estimates) ≡ n) × (4 * count ≤ length (a .pairs)) × (count ≤ mostPairs)
+pub record EstimateAsked (n count j : ℕ) (ranks : List ℕ) (a : Lent) : Type 0 where
+  pub junction-in : j < n
+  pub n-high : n ≤ mostJunctions
+  pub order-is : length (a .order) ≡ 4 * n
+  pub ranks-are : length ranks ≡ n
+  pub down-is : length (a .down) ≡ n
+  pub estimates-are : length (a .estimates) ≡ n
+  pub records-in : 4 * count ≤ length (a .pairs)
+  pub count-high : count ≤ mostPairs
 
 abbrev pub EstimateTold : (count j v : ℕ) (ranks : List ℕ) → Both Lent Lent → Type 0
 EstimateTold count j v ranks a =

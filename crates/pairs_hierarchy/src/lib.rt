@@ -1,9 +1,6 @@
 // Estimates over the prepared pairs (document 01: estimate): functions on slices.
 ghost use mathlib.Core.Path.{_≡_};
-ghost use Prim.Native.Nat.{_*_, _<_, _≤_};
-ghost use lib.ListN.{length};
-ghost use Rattle.model.specs.Limits.{mostJunctions};
-ghost use Rattle.pairs_hierarchy.specs.Lending.{EstimateAsked, EstimateTold, RankAsked, RankTold, WalkTold, lent, lentOf};
+ghost use Rattle.pairs_hierarchy.specs.Lending.{EstimateAsked, EstimateTold, KnownAsked, RankAsked, RankTold, WalkTold, lent, lentOf};
 ghost use Rattle.pairs_hierarchy.specs.Walks.{standing};
 use network::Junction;
 use network::Rank;
@@ -19,7 +16,7 @@ use pairs_records::up_of;
 
 // What stands in the estimates for rank r: none where the order has no junction of the n there.
 fn known_of(n: u32, order: &[u8], estimates: &[TimeWord], r: Rank) -> Time
-    requires { ⌜ (r .0 < n) × (n ≤ mostJunctions) × (length (now order) ≡ 4 * n) × (length (now estimates) ≡ n) ⌝ }
+    requires { ⌜ KnownAsked n (r .0) (now order) (now estimates) ⌝ }
     ensures { λ v. ⌜ v .0 ≡ standing n (now (order .entry)) (now (estimates .entry)) (r .0) ⌝ }
 {
     let j = network::junction_of(order, r);

@@ -1,5 +1,5 @@
 -- The ranks of a block, passed over the row of r, and the bound of the block. Assumes nothing.
-use mathlib.Core.Path.{_∙_, _≡_, ap, sym}
+use mathlib.Core.Path.{_∙_, _≡_, ap, refl, sym}
 use mathlib.Core.List.{List}
 use Prim.Native.Nat.{_*_, _+_, _-_, _/_, _<_, _≤_, min, suc, zero, ℕ}
 use lib.ListN.{getD, length, length-set, set}
@@ -8,11 +8,40 @@ use native.Mathlib.Decide.{decLt, ℕ-discrete}
 use native.Mathlib.Omega.{arith}
 use Rattle.graph.specs.Path.{Weights}
 use Rattle.pairs_rows.specs.Rows.{block}
-use Rattle.pairs_fronts.specs.Fronts.{Lower, Scanned, Sooner, Stage}
+use Rattle.pairs_fronts.specs.Fronts.{Lower, Scanned, Stage}
+use Rattle.pairs_fronts.specs.Lending.{Lent}
 use Rattle.pairs_fronts.proofs.Passes.{stage-skip}
 
+-- ---- the areas
+
+abbrev pub areas : (pairs cursor ahead ends ups downs touched : List ℕ) → Lent
+areas p c a e u d t = record { pairs = p; cursor = c; ahead = a; ends = e; ups = u; downs = d; touched = t }
+
+-- those that are written keep their lengths
+pub record Kept (a₀ a : Lent) : Type 0 where
+  pub cursor-kept : length (a .cursor) ≡ length (a₀ .cursor)
+  pub ahead-kept : length (a .ahead) ≡ length (a₀ .ahead)
+  pub ups-kept : length (a .ups) ≡ length (a₀ .ups)
+  pub downs-kept : length (a .downs) ≡ length (a₀ .downs)
+  pub touched-kept : length (a .touched) ≡ length (a₀ .touched)
+
+pub kept-all : {a : Lent} → Kept a a
+kept-all = record { cursor-kept = refl; ahead-kept = refl; ups-kept = refl; downs-kept = refl; touched-kept = refl }
+
+pub kept-again : {a₀ a a′ : Lent} → Kept a₀ a → length (a′ .cursor) ≡ length (a .cursor) → length (a′ .ahead) ≡ length (a .ahead)
+    → length (a′ .ups) ≡ length (a .ups) → length (a′ .downs) ≡ length (a .downs) → length (a′ .touched) ≡ length (a .touched) → Kept a₀ a′
+kept-again k c a u d t = record {
+  cursor-kept = c ∙ k .cursor-kept;
+  ahead-kept = a ∙ k .ahead-kept;
+  ups-kept = u ∙ k .ups-kept;
+  downs-kept = d ∙ k .downs-kept;
+  touched-kept = t ∙ k .touched-kept;
+}
+
+-- ---- ranks that have no pair with r
+
 -- no rank from v to before v + d has r ahead
-pub stage-over : {w : Weights} {n r : ℕ} {pairs cursor ahead ends ups downs touched : List ℕ} (d v : ℕ) → v + d ≤ r
+stage-over : {w : Weights} {n r : ℕ} {pairs cursor ahead ends ups downs touched : List ℕ} (d v : ℕ) → v + d ≤ r
     → ((u : ℕ) → v ≤ u → u < v + d → getD ahead u 0 ≡ r → ⊥) → Stage w n r v pairs cursor ahead ends ups downs touched
     → Stage w n r (v + d) pairs cursor ahead ends ups downs touched
 stage-over zero v l ne s = let e : v ≡ v + 0 = omega arith in rw e at s
@@ -23,25 +52,28 @@ stage-over (suc d) v l ne s =
 
 -- ---- the bound of a block
 
-pub scanned-start : {w : Weights} {n r v : ℕ} {pairs cursor ahead ends ups downs touched : List ℕ} (x : ℕ)
+pub scanned-start : {w : Weights} {n r v x : ℕ} {pairs cursor ahead ends ups downs touched : List ℕ}
     → Stage w n r v pairs cursor ahead ends ups downs touched
     → Scanned w n r v v x pairs cursor ahead ends ups downs touched
-scanned-start x s = record { stage = s; bound = λ u a b. absurd (omega arith) }
+scanned-start s = record { stage = s; bound = λ u a b. absurd (omega arith) }
 
 module _ {w : Weights} {n r from v x : ℕ} {pairs cursor ahead ends ups downs touched : List ℕ}
     (s : Scanned w n r from v x pairs cursor ahead ends ups downs touched) (vr : v < r) where
-  pub scanned-skip : (y high : ℕ) → high ≡ getD ahead v 0 → (high ≡ r → ⊥) → y ≡ min x high
+  pub scanned-skip : {y high : ℕ} → high ≡ getD ahead v 0 → (high ≡ r → ⊥) → y ≡ min x high
       → Scanned w n r from (v + 1) y pairs cursor ahead ends ups downs touched
-  scanned-skip y high eh ne ey = record { stage = stage-skip (s .stage) vr (λ q. ne (eh ∙ q)); bound = λ u a b. at u a b (ℕ-discrete u v) }
+  scanned-skip {y} {high} eh ne ey = record {
+    stage = stage-skip (s .stage) vr (λ q. ne (eh ∙ q));
+    bound = λ u a b. at u a b (ℕ-discrete u v);
+  }
     where
       at : (u : ℕ) → from ≤ u → u < v + 1 → Dec (u ≡ v) → y ≤ getD ahead u 0
       at u a b (yes e) = let q : getD ahead u 0 ≡ high = ap (λ (j : ℕ). getD ahead j 0) e ∙ sym eh in omega (arith, q, ey)
       at u a b (no q) = omega (arith, s .bound u a (omega arith), ey)
 
-  pub scanned-pass : {cursor′ ahead′ ups′ downs′ touched′ : List ℕ} (y high : ℕ) → high ≡ getD ahead′ v 0 → y ≡ min x high
+  pub scanned-pass : {y high : ℕ} {cursor′ ahead′ ups′ downs′ touched′ : List ℕ} → high ≡ getD ahead′ v 0 → y ≡ min x high
       → Stage w n r (v + 1) pairs cursor′ ahead′ ends ups′ downs′ touched′
       → Scanned w n r from (v + 1) y pairs cursor′ ahead′ ends ups′ downs′ touched′
-  scanned-pass {cursor′} {ahead′} y high eh ey z = record { stage = z; bound = λ u a b. at u a b (ℕ-discrete u v) }
+  scanned-pass {y} {high} {ahead′} eh ey z = record { stage = z; bound = λ u a b. at u a b (ℕ-discrete u v) }
     where
       at : (u : ℕ) → from ≤ u → u < v + 1 → Dec (u ≡ v) → y ≤ getD ahead′ u 0
       at u a b (yes e) = let q : getD ahead′ u 0 ≡ high = ap (λ (j : ℕ). getD ahead′ j 0) e ∙ sym eh in omega (arith, q, ey)
@@ -55,14 +87,9 @@ scanned-end {v} {to} h k s = let e : v ≡ to = omega arith in rw e at s
 
 -- ---- block by block
 
-pub lower-start : {w : Weights} {n r : ℕ} {pairs cursor ahead ends soon ups downs touched : List ℕ}
-    → Stage w n r 0 pairs cursor ahead ends ups downs touched → Sooner n r ahead soon
-    → Lower w n r 0 pairs cursor ahead ends soon ups downs touched
-lower-start s b = record { stage = s; sooner = b }
-
-module _ {w : Weights} {n r v : ℕ} {pairs cursor ahead ends soon ups downs touched : List ℕ}
+module _ {w : Weights} {n r v to : ℕ} {pairs cursor ahead ends soon ups downs touched : List ℕ}
     (s : Lower w n r v pairs cursor ahead ends soon ups downs touched) (vr : v < r)
-    (even : block * (v / block) ≡ v) (to : ℕ) (et : to ≡ min (v + block) r) where
+    (even : block * (v / block) ≡ v) (et : to ≡ min (v + block) r) where
   -- the block's bound is above r
   pub lower-skip : r < getD soon (v / block) 0 → Lower w n r to pairs cursor ahead ends soon ups downs touched
   lower-skip far =
@@ -76,10 +103,10 @@ module _ {w : Weights} {n r v : ℕ} {pairs cursor ahead ends soon ups downs tou
           omega (arith, far, l, q)
 
   -- its ranks are passed, and its bound is made anew
-  pub lower-pass : {cursor′ ahead′ ups′ downs′ touched′ : List ℕ} (x : ℕ)
+  pub lower-pass : {x : ℕ} {cursor′ ahead′ ups′ downs′ touched′ : List ℕ}
       → Scanned w n r v to x pairs cursor′ ahead′ ends ups′ downs′ touched′
       → Lower w n r to pairs cursor′ ahead′ ends (set soon (v / block) x) ups′ downs′ touched′
-  lower-pass {cursor′} {ahead′} x z = record {
+  lower-pass {x} {ahead′} z = record {
     stage = z .stage;
     sooner = record {
       wide = omega (arith, length-set soon (v / block) x, s .sooner .wide);
@@ -105,5 +132,5 @@ pub lower-end : {w : Weights} {n r v : ℕ} {pairs cursor ahead ends soon ups do
 lower-end {r} {v} h k s = let e : v ≡ r = omega arith in rw e at s
 
 -- the next block begins at a multiple of 32, or there is none
-pub next-even : (v to r : ℕ) → block * (v / block) ≡ v → to ≡ min (v + block) r → to < r → block * (to / block) ≡ to
-next-even v to r e t l = omega arith
+pub next-even : {v to r : ℕ} → block * (v / block) ≡ v → to ≡ min (v + block) r → to < r → block * (to / block) ≡ to
+next-even {v} {to} {r} e t l = omega arith

@@ -34,22 +34,23 @@ module _ (n r low high up : ℕ) where
         there = eqb-false up noneWord (not-true (eqb up noneWord) (c .1));
       }
 
-  -- the ways through the test
-  pub leads-other : (low ≡ r → ⊥) → false ≡ leads n r low high up
-  unfolding leads
-  leads-other h = rw (ne-eqb low r h)
-
-  pub leads-down : low ≡ r → high ≤ r → false ≡ leads n r low high up
-  unfolding leads
-  leads-down e h = rw (eq-eqb low r e, le-ltb r high h)
-
-  pub leads-out : low ≡ r → r < high → n ≤ high → false ≡ leads n r low high up
-  unfolding leads
-  leads-out e h k = rw (eq-eqb low r e, lt-ltb r high h, le-ltb high n k)
-
+  -- the last way through the test: the up time decides
   pub leads-by : low ≡ r → r < high → high < n → (b : Bool) → b ≡ eqb up noneWord → not b ≡ leads n r low high up
   unfolding leads
   leads-by e h k b q = rw (eq-eqb low r e, lt-ltb r high h, lt-ltb high n k, q)
+
+-- the ways where a test fails
+pub leads-other : {r low : ℕ} (n high up : ℕ) → (low ≡ r → ⊥) → false ≡ leads n r low high up
+unfolding leads
+leads-other {r} {low} n high up h = rw (ne-eqb low r h)
+
+pub leads-down : {r low high : ℕ} (n up : ℕ) → low ≡ r → high ≤ r → false ≡ leads n r low high up
+unfolding leads
+leads-down {r} {low} {high} n up e h = rw (eq-eqb low r e, le-ltb r high h)
+
+pub leads-out : {n r low high : ℕ} (up : ℕ) → low ≡ r → r < high → n ≤ high → false ≡ leads n r low high up
+unfolding leads
+leads-out {n} {r} {low} {high} up e h k = rw (eq-eqb low r e, lt-ltb r high h, le-ltb high n k)
 
 -- ---- answers
 
@@ -70,27 +71,27 @@ answer-asked x = go (ℕ-discrete x unasked)
 
 -- ---- the search for the start of a rank
 
-pub below-one : (pairs : List ℕ) (r i : ℕ) → lowIn pairs i < r → 1 ≡ belowIn pairs r i
+pub below-one : {r : ℕ} (pairs : List ℕ) (i : ℕ) → lowIn pairs i < r → 1 ≡ belowIn pairs r i
 unfolding belowIn
-below-one pairs r i h = rw (lt-ltb (lowIn pairs i) r h)
+below-one {r} pairs i h = rw (lt-ltb (lowIn pairs i) r h)
 
-pub below-zero : (pairs : List ℕ) (r i : ℕ) → r ≤ lowIn pairs i → 0 ≡ belowIn pairs r i
+pub below-zero : {r : ℕ} (pairs : List ℕ) (i : ℕ) → r ≤ lowIn pairs i → 0 ≡ belowIn pairs r i
 unfolding belowIn
-below-zero pairs r i h = rw (le-ltb (lowIn pairs i) r h)
+below-zero {r} pairs i h = rw (le-ltb (lowIn pairs i) r h)
 
 -- the answer b of the test on record i
 abbrev Test : List ℕ → ℕ → ℕ → ℕ → Type 0
 Test pairs r i b = ((b ≡ 1) × (lowIn pairs i < r)) ⊎ ((b ≡ 0) × (r ≤ lowIn pairs i))
 
-test : (pairs : List ℕ) (r i b : ℕ) → b ≡ belowIn pairs r i → Test pairs r i b
-test pairs r i b e = go (decLt (lowIn pairs i) r)
+test : {b : ℕ} (pairs : List ℕ) (r i : ℕ) → b ≡ belowIn pairs r i → Test pairs r i b
+test {b} pairs r i e = go (decLt (lowIn pairs i) r)
   where
     go : Dec (lowIn pairs i < r) → Test pairs r i b
-    go (yes h) = inl (e ∙ sym (below-one pairs r i h), h)
-    go (no h) = let k : r ≤ lowIn pairs i = omega (arith, h) in inr (e ∙ sym (below-zero pairs r i k), k)
+    go (yes h) = inl (e ∙ sym (below-one pairs i h), h)
+    go (no h) = let k : r ≤ lowIn pairs i = omega (arith, h) in inr (e ∙ sym (below-zero pairs i k), k)
 
-pub below-most : (pairs : List ℕ) (r i b : ℕ) → b ≡ belowIn pairs r i → b ≤ 1
-below-most pairs r i b e = go (test pairs r i b e)
+pub below-most : {b : ℕ} (pairs : List ℕ) (r i : ℕ) → b ≡ belowIn pairs r i → b ≤ 1
+below-most {b} pairs r i e = go (test pairs r i e)
   where
     go : Test pairs r i b → b ≤ 1
     go (inl h) = omega (arith, h .0)
@@ -102,11 +103,11 @@ pub record Left (pairs : List ℕ) (count r base size : ℕ) : Type 0 where
   pub before : Ascending pairs count → (i : ℕ) → i < base → lowIn pairs i < r
   pub onward : Ascending pairs count → (i : ℕ) → base + size ≤ i → i < count → r ≤ lowIn pairs i
 
-pub left-all : (pairs : List ℕ) (count r : ℕ) → Left pairs count r 0 count
-left-all pairs count r =
+pub left-all : {pairs : List ℕ} {count r : ℕ} → Left pairs count r 0 count
+left-all {pairs} {count} {r} =
     record { fits = omega arith; before = λ s i q. absurd (omega (arith, q)); onward = λ s i q k. absurd (omega (arith, q, k)) }
 
-module _ (pairs : List ℕ) (count r base size : ℕ) (left : Left pairs count r base size) where
+module _ {pairs : List ℕ} {count r base size : ℕ} (left : Left pairs count r base size) where
   -- at most three are left
   pub left-few : size ≤ 3 → Starts pairs count r base
   left-few h = record {
@@ -116,7 +117,7 @@ module _ (pairs : List ℕ) (count r base size : ℕ) (left : Left pairs count r
   }
 
   -- a turn: of four quarters of q records one is left, with what remains of the division
-  module _ (more : 3 < size) (q : ℕ) (q-is : q ≡ size / 4) (one two three : ℕ) (e₁ : one ≡ belowIn pairs r (base + q))
+  module _ {q one two three : ℕ} (more : 3 < size) (q-is : q ≡ size / 4) (e₁ : one ≡ belowIn pairs r (base + q))
       (e₂ : two ≡ belowIn pairs r (base + 2 * q)) (e₃ : three ≡ belowIn pairs r (base + 3 * q)) where
     abbrev Next : ℕ → Type 0
     Next p = Left pairs count r (base + p) (size - 3 * q)
@@ -134,7 +135,7 @@ module _ (pairs : List ℕ) (count r base size : ℕ) (left : Left pairs count r
     down p v l b s i k c = omega (arith, b, s v i (omega (arith, k, l)) c)
 
     pub left-turn : Next (q * (one + two + three))
-    left-turn = go (test pairs r (base + q) one e₁) (test pairs r (base + 2 * q) two e₂) (test pairs r (base + 3 * q) three e₃)
+    left-turn = go (test pairs r (base + q) e₁) (test pairs r (base + 2 * q) e₂) (test pairs r (base + 3 * q) e₃)
       where
         to : (m : ℕ) → one + two + three ≡ m → Next (q * m) → Next (q * (one + two + three))
         to m e = subst (λ (x : ℕ). Next (q * x)) (sym e)

@@ -37,12 +37,12 @@ pub marked-none : {r n : ℕ} {touched ups downs : List ℕ} → n ≤ block * l
 marked-none l u d = record { wide = l; ups-none = λ h rh hn z. u .at h rh hn; downs-none = λ h rh hn z. d .at h rh hn }
 
 -- the entries of b written, and its block marked
-pub marked-set : {r n : ℕ} {touched ups downs : List ℕ} (b : ℕ) (touched′ ups′ downs′ : List ℕ) → b < block * length touched
+pub marked-set : {r n b : ℕ} {touched ups downs touched′ ups′ downs′ : List ℕ} → b < block * length touched
     → touched′ ≡ set touched (b / block) 1
     → ((h : ℕ) → (h ≡ b → ⊥) → getD ups′ h 0 ≡ getD ups h 0) → ((h : ℕ) → (h ≡ b → ⊥) → getD downs′ h 0 ≡ getD downs h 0)
     → Marked r n touched ups downs
     → Marked r n touched′ ups′ downs′
-marked-set {r} {n} {touched} {ups} {downs} b touched′ ups′ downs′ lb et eu ed m = record {
+marked-set {b} {touched} {touched′} lb et eu ed m = record {
   wide = omega (arith, ap length et, length-set touched (b / block) 1, m .wide);
   ups-none = λ h rh hn z. let q = apart h z in eu h (q .0) ∙ m .ups-none h rh hn (q .1);
   downs-none = λ h rh hn z. let q = apart h z in ed h (q .0) ∙ m .downs-none h rh hn (q .1);

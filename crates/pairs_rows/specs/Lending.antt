@@ -40,28 +40,35 @@ times u d t = record { entry = timesOf (u .entry) (d .entry) (t .entry); exit = 
 -- ---- the roads of the rows
 
 -- room for the lists of roads, of which none has begun
-abbrev pub Unlinked : Links → Type 0
-Unlinked l = Ranked (l .roads) (l .ranks) × (length (l .ranks) ≤ length (l .first)) × (length (l .roads) / 12 ≤ length (l .next))
-    × ((r : ℕ) → r < length (l .ranks) → getD (l .first) r 0 ≡ 0)
+pub record Unlinked (l : Links) : Type 0 where
+  pub ranked : Ranked (l .roads) (l .ranks)
+  pub firsts-in : length (l .ranks) ≤ length (l .first)
+  pub nexts-in : length (l .roads) / 12 ≤ length (l .next)
+  pub firsts-none : (r : ℕ) → r < length (l .ranks) → getD (l .first) r 0 ≡ 0
 
 -- every road is linked
 abbrev pub AllLinked : Links → Type 0
 AllLinked l = Linked (netIn (l .roads) (l .ranks)) (length (l .ranks)) (length (l .roads) / 12) (l .first) (l .next)
 
 -- road i may relax a row, and does
-abbrev pub RoadAsked : (roads ranks : List ℕ) (i : ℕ) → Times → Type 0
-RoadAsked roads ranks i t = Ranked roads ranks × (i < length roads / 12) × (length ranks ≤ length (t .ups))
-    × (length ranks ≤ length (t .downs)) × (length ranks ≤ block * length (t .touched))
+pub record RoadAsked (roads ranks : List ℕ) (i : ℕ) (t : Times) : Type 0 where
+  pub ranked : Ranked roads ranks
+  pub road-in : i < length roads / 12
+  pub ups-long : length ranks ≤ length (t .ups)
+  pub downs-long : length ranks ≤ length (t .downs)
+  pub touched-long : length ranks ≤ block * length (t .touched)
 
 abbrev pub RoadDone : (roads ranks : List ℕ) (i : ℕ) → Both Times Times → Type 0
 RoadDone roads ranks i t = RoadRelaxed (netIn roads ranks) (length ranks) i (t .entry .ups) (t .entry .downs) (t .entry .touched)
     (t .exit .ups) (t .exit .downs) (t .exit .touched)
 
 -- the row of r is none, and then has the times of single roads
-abbrev pub RowAsked : Links → (r : ℕ) → Times → Type 0
-RowAsked l r t = Grouped (l .roads) (l .ranks) (l .first) (l .next) × (r < length (l .ranks))
-    × Row r (length (l .ranks)) (t .ups) (λ h. none) × Row r (length (l .ranks)) (t .downs) (λ h. none)
-    × (length (l .ranks) ≤ block * length (t .touched))
+pub record RowAsked (l : Links) (r : ℕ) (t : Times) : Type 0 where
+  pub grouped : Grouped (l .roads) (l .ranks) (l .first) (l .next)
+  pub rank-in : r < length (l .ranks)
+  pub ups-none : Row r (length (l .ranks)) (t .ups) (λ h. none)
+  pub downs-none : Row r (length (l .ranks)) (t .downs) (λ h. none)
+  pub touched-long : length (l .ranks) ≤ block * length (t .touched)
 
 abbrev pub RowBegun : Links → (r : ℕ) → Times → Type 0
 RowBegun l r t = RoadTimes (netIn (l .roads) (l .ranks)) r (length (l .ranks)) (t .ups) (t .downs) (t .touched)

@@ -15,6 +15,7 @@ use Rattle.model.specs.Word.{noneWord, ofWord, ofWord-none, word}
 use Rattle.model.specs.Areas.{words}
 use Rattle.pairs_rows.specs.Rows.{block}
 use Rattle.network.specs.Width.{fit, fit-is, fit-ofWord}
+use Rattle.pairs_records.specs.Words.{withRecord}
 use Rattle.pairs_fronts.specs.Fronts.{Holds}
 use Rattle.pairs_storing.specs.Storing.{RowAppended, RowTimes}
 use Rattle.pairs_storing.specs.declared.Stored.the-variants.{All, Full}
@@ -25,10 +26,10 @@ words-append : (l m : List Pair) → words (l ++ m) ≡ words l ++ words m
 words-append [] m = refl
 words-append (p ∷ l) m = ap (λ (x : List ℕ). p .low ∷ p .high ∷ word (p .upTime) ∷ word (p .downTime) ∷ x) (words-append l m)
 
-holds-more : {l : List Pair} {k : ℕ} {s : List ℕ} (p : Pair) (z rest : List ℕ) → Holds l k s → z ≡ take (4 * k) s ++ words (p ∷ []) ++ rest
+holds-more : {l : List Pair} {k : ℕ} {s z : List ℕ} (p : Pair) (rest : List ℕ) → Holds l k s → z ≡ take (4 * k) s ++ words (p ∷ []) ++ rest
     → length z ≡ length s → 4 * k + 4 ≤ length s
     → Holds (l ++ (p ∷ [])) (k + 1) z
-holds-more {l} {k} {s} p z rest h e n room =
+holds-more {l} {k} {s} {z} p rest h e n room =
     let f : length (take (4 * k) s ++ words (p ∷ [])) ≡ 4 * (k + 1) = length-append (take (4 * k) s) (words (p ∷ []))
     ∙ ap (λ (j : ℕ). j + 4) (length-take-le (4 * k) s (h .room)) ∙ four k in
     record {
@@ -57,12 +58,12 @@ pub record Emptied (r h : ℕ) (row₀ row : List ℕ) : Type 0 where
   pub done : (j : ℕ) → r < j → j < h → getD row j 0 ≡ noneWord
   pub rest : (j : ℕ) → h ≤ j → getD row j 0 ≡ getD row₀ j 0
 
-emptied-start : (r : ℕ) (row₀ : List ℕ) → Emptied r (r + 1) row₀ row₀
-emptied-start r row₀ = record { done = λ j a b. absurd (omega arith); rest = λ j a. refl }
+emptied-start : {r : ℕ} {row₀ : List ℕ} → Emptied r (r + 1) row₀ row₀
+emptied-start {r} {row₀} = record { done = λ j a b. absurd (omega arith); rest = λ j a. refl }
 
-emptied-turn : {r h : ℕ} {row₀ row : List ℕ} (row′ : List ℕ) → h < length row → row′ ≡ set row h noneWord → Emptied r h row₀ row
+emptied-turn : {r h : ℕ} {row₀ row row′ : List ℕ} → h < length row → row′ ≡ set row h noneWord → Emptied r h row₀ row
     → Emptied r (h + 1) row₀ row′
-emptied-turn {r} {h} {row₀} {row} row′ l e m =
+emptied-turn {r} {h} {row₀} {row} l e m =
     rw e (record {
       done = λ j a b. at j a b (ℕ-discrete j h);
       rest = λ j a. getD-set-other row h j noneWord 0 (λ q. omega arith) ∙ m .rest j (omega arith);
@@ -72,9 +73,9 @@ emptied-turn {r} {h} {row₀} {row} row′ l e m =
     at j a b (yes q) = ap (λ (x : ℕ). getD (set row h noneWord) x 0) q ∙ getD-set-same row h noneWord 0 l
     at j a b (no q) = getD-set-other row h j noneWord 0 q ∙ m .done j a (omega arith)
 
-emptied-over : {r h : ℕ} {row₀ row : List ℕ} (g : ℕ) → h ≤ g → ((j : ℕ) → r < j → h ≤ j → j < g → getD row₀ j 0 ≡ noneWord)
+emptied-over : {r h g : ℕ} {row₀ row : List ℕ} → h ≤ g → ((j : ℕ) → r < j → h ≤ j → j < g → getD row₀ j 0 ≡ noneWord)
     → Emptied r h row₀ row → Emptied r g row₀ row
-emptied-over {r} {h} {row₀} {row} g l z m = record { done = λ j a b. at j a b (decLt j h); rest = λ j a. m .rest j (omega arith) }
+emptied-over {r} {h} {g} {row₀} {row} l z m = record { done = λ j a b. at j a b (decLt j h); rest = λ j a. m .rest j (omega arith) }
   where
     at : (j : ℕ) → r < j → j < g → Dec (j < h) → getD row j 0 ≡ noneWord
     at j a b (yes q) = m .done j a q
@@ -85,6 +86,18 @@ pub record Appending (w : Weights) (n r h k : ℕ) (ups₀ downs₀ ups downs pa
   pub holds : Holds (rows w n r ++ row w r h) k pairs
   pub ups-left : Emptied r h ups₀ ups
   pub downs-left : Emptied r h downs₀ downs
+
+-- the two times of h are handed out, and b is the test whether its pair is kept
+pub record Taken (n r h u d : ℕ) (ups downs ups′ downs′ : List ℕ) (b : Bool) : Type 0 where
+  pub above : r < h
+  pub below : h < n
+  pub up-in : h < length ups
+  pub down-in : h < length downs
+  pub up-is : u ≡ getD ups h 0
+  pub down-is : d ≡ getD downs h 0
+  pub ups-are : ups′ ≡ set ups h noneWord
+  pub downs-are : downs′ ≡ set downs h noneWord
+  pub test-is : b ≡ exists (ofWord u) (ofWord d)
 
 module _ {w : Weights} {n r count : ℕ} {touched ups₀ downs₀ pairs₀ : List ℕ} (g : RowTimes w n r count touched ups₀ downs₀ pairs₀) where
   up-entry : (h : ℕ) → r < h → h < n → fit (up w r h) ≡ up w r h
@@ -111,7 +124,7 @@ module _ {w : Weights} {n r count : ℕ} {touched ups₀ downs₀ pairs₀ : Lis
   pub append-start : Appending w n r (r + 1) count ups₀ downs₀ ups₀ downs₀ pairs₀
   append-start =
       let e : row w r (r + 1) ≡ [] = row-low w r (r + 1) (omega arith) in
-      record { holds = rw (e, append-nil (rows w n r)) (g .holds); ups-left = emptied-start r ups₀; downs-left = emptied-start r downs₀ }
+      record { holds = rw (e, append-nil (rows w n r)) (g .holds); ups-left = emptied-start; downs-left = emptied-start }
 
   -- ---- a block that is not touched
 
@@ -128,13 +141,13 @@ module _ {w : Weights} {n r count : ℕ} {touched ups₀ downs₀ pairs₀ : Lis
       let q : exists (up w r (h + d)) (down w r (h + d)) ≡ false = sym (tested (h + d) noneWord noneWord (omega arith) k u v) ∙ x in
       ap (row w r) e ∙ row-blank w r (h + d) q ∙ blank d h rh (omega arith) (λ j a b. z j a (omega arith))
 
-  pub append-over : {k : ℕ} {ups downs pairs : List ℕ} (h to : ℕ) → r < h → h < n → to ≡ min (block * (h / block) + block) n
+  pub append-over : {h to k : ℕ} {ups downs pairs : List ℕ} → r < h → h < n → to ≡ min (block * (h / block) + block) n
       → getD touched (h / block) 0 ≡ 0
       → Appending w n r h k ups₀ downs₀ ups downs pairs → Appending w n r to k ups₀ downs₀ ups downs pairs
-  append-over {k} {ups} {downs} {pairs} h to rh hn et t inv = record {
+  append-over {h} {to} rh hn et t inv = record {
     holds = rw same (inv .holds);
-    ups-left = emptied-over to (omega arith) (λ j a b c. g .marked .ups-none j a (omega arith) (all j b c)) (inv .ups-left);
-    downs-left = emptied-over to (omega arith) (λ j a b c. g .marked .downs-none j a (omega arith) (all j b c)) (inv .downs-left);
+    ups-left = emptied-over (omega arith) (λ j a b c. g .marked .ups-none j a (omega arith) (all j b c)) (inv .ups-left);
+    downs-left = emptied-over (omega arith) (λ j a b c. g .marked .downs-none j a (omega arith) (all j b c)) (inv .downs-left);
   }
     where
       all : (j : ℕ) → h ≤ j → j < to → getD touched (j / block) 0 ≡ 0
@@ -147,58 +160,65 @@ module _ {w : Weights} {n r count : ℕ} {touched ups₀ downs₀ pairs₀ : Lis
 
   -- ---- the entry of h is handed out
 
-  module _ (h u d k : ℕ) (ups downs ups′ downs′ pairs : List ℕ) (b : Bool) (rh : r < h) (hn : h < n) (lu : h < length ups)
-      (ld : h < length downs) (eu : u ≡ getD ups h 0) (zu : ups′ ≡ set ups h noneWord)
-      (ed : d ≡ getD downs h 0) (zd : downs′ ≡ set downs h noneWord) (eb : b ≡ exists (ofWord u) (ofWord d))
+  module _ {h u d k : ℕ} {ups downs ups′ downs′ pairs : List ℕ} {b : Bool} (t : Taken n r h u d ups downs ups′ downs′ b)
       (inv : Appending w n r h k ups₀ downs₀ ups downs pairs) where
     up-first : u ≡ getD ups₀ h 0
-    up-first = eu ∙ inv .ups-left .rest h (omega arith)
+    up-first = t .up-is ∙ inv .ups-left .rest h (omega arith)
 
     down-first : d ≡ getD downs₀ h 0
-    down-first = ed ∙ inv .downs-left .rest h (omega arith)
+    down-first = t .down-is ∙ inv .downs-left .rest h (omega arith)
+
+    -- b says whether the pair exists
+    test-is : exists (up w r h) (down w r h) ≡ b
+    test-is = sym (tested h u d (t .above) (t .below) up-first down-first) ∙ sym (t .test-is)
+
+    ups-emptied : Emptied r (h + 1) ups₀ ups′
+    ups-emptied = emptied-turn (t .up-in) (t .ups-are) (inv .ups-left)
+
+    downs-emptied : Emptied r (h + 1) downs₀ downs′
+    downs-emptied = emptied-turn (t .down-in) (t .downs-are) (inv .downs-left)
 
     pub append-skip : b ≡ false → Appending w n r (h + 1) k ups₀ downs₀ ups′ downs′ pairs
-    append-skip t = record {
-      holds = rw (add-one h, row-blank w r h (sym (tested h u d rh hn up-first down-first) ∙ sym eb ∙ t)) (inv .holds);
-      ups-left = emptied-turn ups′ lu zu (inv .ups-left);
-      downs-left = emptied-turn downs′ ld zd (inv .downs-left);
+    append-skip e = record {
+      holds = rw (add-one h, row-blank w r h (test-is ∙ e)) (inv .holds);
+      ups-left = ups-emptied;
+      downs-left = downs-emptied;
     }
 
     more : b ≡ true → row w r (suc h) ≡ row w r h ++ (pairOf w r h ∷ [])
-    more t = row-kept w r h (sym (tested h u d rh hn up-first down-first) ∙ sym eb ∙ t)
+    more e = row-kept w r h (test-is ∙ e)
 
-    pub append-put : b ≡ true → (z rest : List ℕ) → z ≡ take (4 * k) pairs ++ (r ∷ h ∷ u ∷ d ∷ []) ++ rest → length z ≡ length pairs
-        → 4 * k + 4 ≤ length pairs
+    pub append-put : {z : List ℕ} → b ≡ true → z ≡ withRecord pairs k r h u d → length z ≡ length pairs → 4 * k + 4 ≤ length pairs
         → Appending w n r (h + 1) (k + 1) ups₀ downs₀ ups′ downs′ z
-    append-put t z rest e l room =
-        let f = entry-words h u d rh hn up-first down-first in
-        let q : z ≡ take (4 * k) pairs ++ words (pairOf w r h ∷ []) ++ rest = rw (f .0, f .1) at e in
+    append-put {z} e ez l room =
+        let (eu, ed) = entry-words h u d (t .above) (t .below) up-first down-first in
+        let q : z ≡ take (4 * k) pairs ++ words (pairOf w r h ∷ []) ++ drop (4 * k + 4) pairs = rw (eu, ed) at ez in
         record {
-          holds = rw (add-one h, more t, ← (append-assoc (rows w n r) (row w r h) (pairOf w r h ∷ [])))
-              (holds-more (pairOf w r h) z rest (inv .holds) q l room);
-          ups-left = emptied-turn ups′ lu zu (inv .ups-left);
-          downs-left = emptied-turn downs′ ld zd (inv .downs-left);
+          holds = rw (add-one h, more e, ← (append-assoc (rows w n r) (row w r h) (pairOf w r h ∷ [])))
+              (holds-more (pairOf w r h) (drop (4 * k + 4) pairs) (inv .holds) q l room);
+          ups-left = ups-emptied;
+          downs-left = downs-emptied;
         }
 
     pub append-full : b ≡ true → length pairs < 4 * k + 4 → RowAppended w n r ups′ downs′ pairs Full
-    append-full t full =
-        let e : rows w n (r + 1) ≡ rows w n r ++ row w r n = ap (rows w n) (add-one r) in
-        let a = ap length e ∙ length-append (rows w n r) (row w r n) in
-        let c = ap length (more t) ∙ length-append (row w r h) (pairOf w r h ∷ []) in
-        let i = inv .holds .count-is ∙ length-append (rows w n r) (row w r h) in
+    append-full e full =
+        let all-rows = ap (λ (l : List Pair). length l) (ap (rows w n) (add-one r)) ∙ length-append (rows w n r) (row w r n) in
+        let one-more = ap length (more e) ∙ length-append (row w r h) (pairOf w r h ∷ []) in
+        let so-far = inv .holds .count-is ∙ length-append (rows w n r) (row w r h) in
         record {
           appended = record {
             all = λ j q. absurd (all-full (sym q));
-            full = λ q. omega (arith, a, c, i, begins-length (row-begins w r (suc h) n hn));
+            full = λ q. omega (arith, all-rows, one-more, so-far, begins-length (row-begins w r (suc h) n (t .below)));
           };
           ups-none = λ j q. absurd (all-full (sym q));
           downs-none = λ j q. absurd (all-full (sym q));
         }
 
-  pub append-end : (h k : ℕ) (ups downs pairs : List ℕ) → h ≡ n → length ups ≡ length ups₀ → length downs ≡ length downs₀
+  pub append-end : {h k : ℕ} {ups downs pairs : List ℕ} → h ≤ n → n ≤ h → length ups ≡ length ups₀ → length downs ≡ length downs₀
       → Appending w n r h k ups₀ downs₀ ups downs pairs
       → RowAppended w n r ups downs pairs (All k)
-  append-end h k ups downs pairs e lu ld inv =
+  append-end {h} {k} {pairs} hn nh lu ld inv =
+      let e : h ≡ n = omega arith in
       let i = inv .holds in
       let s : Holds (rows w n (r + 1)) k pairs = rw (add-one r) (rw e at i) in
       record {

@@ -10,9 +10,14 @@ use Rattle.pairs_storing.specs.declared.Stored.{Stored}
 use Rattle.pairs_storing.specs.Storing.{RowAppended, RowTimes}
 
 -- n ranks fit the row of times, and `count` records the area
-abbrev pub AppendAsked : (n r count : ℕ) → Times → (pairs : List ℕ) → Type 0
-AppendAsked n r count t pairs = (r < n) × (n ≤ mostJunctions) × (n ≤ block * length (t .touched)) × (n ≤ length (t .ups))
-    × (n ≤ length (t .downs)) × (4 * count ≤ length pairs) × (length pairs ≤ 4 * mostPairs)
+pub record AppendAsked (n r count : ℕ) (t : Times) (pairs : List ℕ) : Type 0 where
+  pub rank-in : r < n
+  pub n-high : n ≤ mostJunctions
+  pub touched-long : n ≤ block * length (t .touched)
+  pub ups-long : n ≤ length (t .ups)
+  pub downs-long : n ≤ length (t .downs)
+  pub records-in : 4 * count ≤ length pairs
+  pub pairs-high : length pairs ≤ 4 * mostPairs
 
 abbrev pub RowTimesIn : Weights → (n r count : ℕ) → Times → (pairs : List ℕ) → Type 0
 RowTimesIn w n r count t pairs = RowTimes w n r count (t .touched) (t .ups) (t .downs) pairs

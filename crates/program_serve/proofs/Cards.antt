@@ -1,4 +1,5 @@
--- What the program does with a card that opens, and with one that does not. Assumes nothing.
+-- What the program does with a card: one that does not open has its line printed, and nothing is read (`refuses`); from one that opens the
+-- lines are answered (`attends`). Assumes nothing.
 use mathlib.Core.Path.{_∙_, _≡_, ap, ap₂, refl, subst, sym}
 use mathlib.Core.Bool.{Bool, cond, false, false≢true, not, true}
 use mathlib.Core.List.{List, [], _++_}
@@ -27,8 +28,7 @@ use Rattle.program_serve.specs.declared.Talk.{Talk}
 -- ---- an input that has ended
 
 still : {input line rest : List ℕ} {left : ℕ} {reads : List (List ℕ)} {b t e : Bool} → (from : ℕ) → Ends input line rest left b reads t e
-    → b ≡ true
-    → left + (length input + length reads) ≡ from + length rest → (t ≡ false) × (left ≡ from)
+    → b ≡ true → left + (length input + length reads) ≡ from + length rest → (t ≡ false) × (left ≡ from)
 still from (at-newline g e) q h = absurd (false≢true q)
 still from (at-end g e f) q h = absurd (false≢true q)
 still from (after-end f g) q h = let z = ap length g in (refl, omega (arith, h, z))
@@ -41,10 +41,9 @@ ended-still {from = from} (over n r) q = (refl, still (from .turns) (n .ends) q 
 
 -- ---- the card
 
-module _ (file : List ℕ) (lent a : Areas) (lends : shell.Lends file lent) (o : Opened) (out : List ℕ) (k : Lent) (from : Talk)
-    (begun : Begun o from)
-    (z : Held) (l : Talk)
-    (served : Served file (heldIn from a k out) (from .reader) z l) where
+-- it was opened in the areas `lent`, which are now a
+module _ {file : List ℕ} (lent : Areas) {a : Areas} (lends : shell.Lends file lent) {o : Opened} (out : List ℕ) {k : Lent} {from : Talk}
+    (begun : Begun o from) {z : Held} {l : Talk} (served : Served file (heldIn from a k out) (from .reader) z l) where
   refuses : o .prepared ≡ false → Refuses (take (o .length) out) z l
   refuses p =
       let s = begun .reader in

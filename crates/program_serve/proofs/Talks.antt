@@ -1,4 +1,5 @@
--- Lines answered one after the other: the laws of the loop. Assumes nothing.
+-- Lines answered one after the other: each turn answers the line that was read last and reads the next (`Underway`, `loop-turn`), and
+-- leaves fewer steps (`steps-fall`). Assumes nothing.
 use mathlib.Core.Path.{_∙_, _≡_, ap, ap₂, refl, subst, sym}
 use mathlib.Core.Bool.{Bool, cond, false, true}
 use mathlib.Core.List.{List, [], _++_, _∷_, append-assoc}
@@ -31,7 +32,7 @@ pub whole-area : (k : ℕ) (out : List ℕ) → length out ≤ k → out ≡ tak
 whole-area k out h = sym (take-all k out h)
 
 -- as many bytes as a text has are that text
-pub same-text : (k said : ℕ) (out text : List ℕ) → text ≡ take k out → said ≡ length text → take said out ≡ take k out
+same-text : (k said : ℕ) (out text : List ℕ) → text ≡ take k out → said ≡ length text → take said out ≡ take k out
 same-text k said out text e f = ap (λ (i : ℕ). take i out) (f ∙ ap length e) ∙ go k out
   where
     go : (k : ℕ) (out : List ℕ) → take (length (take k out)) out ≡ take k out
@@ -45,8 +46,7 @@ abbrev pub stepsLeft : Reader → ℕ
 stepsLeft r = r .turns + cond (r .ready) 1 0
 
 fall : {input line rest : List ℕ} {left : ℕ} {reads : List (List ℕ)} {b t e : Bool} → (from : ℕ) → Ends input line rest left b reads t e
-    → left + (length input + length reads) ≡ from + length rest
-    → left + cond t 1 0 < from + 1
+    → left + (length input + length reads) ≡ from + length rest → left + cond t 1 0 < from + 1
 fall {line = line} {rest = rest} from (at-newline g e) h = let z = ap length e in omega (arith, h, z, length-append line (newline ∷ rest))
 fall {line = line} {rest = rest} {left = left} from (at-end g e f) h = go (ltb 0 (length line)) (ap length f)
   where
@@ -78,7 +78,7 @@ pub underway-start : {card start chunk area : List ℕ} {h : Held} {from to : Re
 underway-start {start = start} {from = from} n =
     record { before = from; behind = start; input = []; turns = []; next = n; rest = λ i ts y end w. w }
 
-pub underway-turn : {card start chunk chunk′ area area′ : List ℕ} {h z : Held} {from to on : Reader}
+underway-turn : {card start chunk chunk′ area area′ : List ℕ} {h z : Held} {from to on : Reader}
     → (u : Underway card h from start z to chunk area) → to .ready ≡ true → (t : Turn)
     → AnsweredTo card z (u .next .line) t → NextLine to chunk on chunk′ area′ → Underway card h from start (t .left) on chunk′ area′
 underway-turn {card} {start} {chunk} {h = h} {from = from} {to = to} u r t a n = record {
@@ -95,9 +95,9 @@ underway-turn {card} {start} {chunk} {h = h} {from = from} {to = to} u r t a n =
       (u .rest (inOrder (u .next .reads) ++ i) (t ∷ ts) y end (answered (u .next) r a w)));
 }
 
-pub underway-end : {card start chunk area : List ℕ} {h z : Held} {from : Reader} {to : Talk}
-    → Underway card h from start z (to .reader) chunk area
-    → to .reader .ready ≡ false → to .said ≡ length (z .text) → Served card h from z to
+underway-end : {card start chunk area : List ℕ} {h z : Held} {from : Reader} {to : Talk}
+    → Underway card h from start z (to .reader) chunk area → to .reader .ready ≡ false → to .said ≡ length (z .text)
+    → Served card h from z to
 underway-end {start = start} {z = z} {to = to} u r e =
     record {
       chunk = start;
@@ -111,36 +111,39 @@ underway-end {start = start} {z = z} {to = to} u r e =
 
 -- a text is said: what is at hand is the same, with the header that was handed on
 said-held : {from to : Talk} {h : Header} {text chunk chunk′ area : List ℕ} (a : Areas) (l : Lent) (out : List ℕ) (k : ℕ)
-    → text ≡ take k out
-    → Turns from h text chunk to chunk′ area → heldIn to a l out ≡ heldOf h a l (take k out)
+    → text ≡ take k out → Turns from h text chunk to chunk′ area → heldIn to a l out ≡ heldOf h a l (take k out)
 said-held {to = to} {text = text} a l out k e w =
     ap₂ (λ (p : Header) (x : List ℕ). heldOf p a l x) (w .header) (same-text k (to .said) out text e (w .said))
 
+-- as many bytes were said as stand in the area
 pub said-length : {from to : Talk} {h : Header} {text chunk chunk′ area : List ℕ} (out : List ℕ) (k : ℕ) → text ≡ take k out
     → Turns from h text chunk to chunk′ area → to .said ≡ length (take (to .said) out)
 said-length {to = to} {text = text} out k e w = w .said ∙ ap length (e ∙ sym (same-text k (to .said) out text e (w .said)))
 
--- a turn: header p, areas b and l′ and the first k bytes of `out′` are what the answer to the line leaves
-module _ {card start chunk area : List ℕ} {h : Held} {from : Reader} (on : Talk) (a b : Areas) (l l′ : Lent) (out out′ bytes : List ℕ)
-    (p : Header) (k : ℕ)
-    (u : Underway card h from start (heldIn on a l out) (on .reader) chunk area) (ready : on .reader .ready ≡ true) where
-  abbrev AnswersOn : Line → Type 0
-  AnswersOn x = Answers card (before (headerIn (on .header)) a) l x (heldOf p b l′ (take k out′))
+-- a turn: the line that `bytes` say is answered; header p, areas b and l′ and the first k bytes of `out′` are what the answer leaves
+pub loop-turn : {card start chunk area text chunk′ area′ : List ℕ} {h : Held} {from : Reader} {on to : Talk} {a b : Areas} {l l′ : Lent}
+    {p : Header} (out out′ bytes : List ℕ) (k : ℕ) → Underway card h from start (heldIn on a l out) (on .reader) chunk area
+    → on .reader .ready ≡ true → ((xs : List ℕ) → Holds (on .reader .part) area xs → lineOf bytes ≡ lineOf xs)
+    → Answers card (before (headerIn (on .header)) a) l (lineOf bytes) (heldOf p b l′ (take k out′)) → text ≡ take k out′
+    → Turns on p text chunk to chunk′ area′ → Underway card h from start (heldIn to b l′ out′) (to .reader) chunk′ area′
+loop-turn {card} {start} {chunk′ = chunk′} {area′ = area′} {h = h} {from = from} {on = on} {to = to} {a = a} {b = b} {l = l} {l′ = l′}
+    {p = p} out out′ bytes k u ready heard answers e t =
+    let left = heldOf p b l′ (take k out′) in
+    let says = heard (u .next .line) (u .next .holds) in
+    subst (λ (z : Held). Underway card h from start z (to .reader) chunk′ area′) (sym (said-held b l′ out′ k e t))
+    (underway-turn u ready (record { line = u .next .line; lent = l; left = left })
+    (record {
+      line = refl;
+      lent = refl;
+      answers = subst (λ (x : Line). Answers card (before (headerIn (on .header)) a) l x left) says answers;
+    })
+    (t .next))
 
-  pub loop-turn : {text chunk′ area′ : List ℕ} {to : Talk} → ((xs : List ℕ) → Holds (on .reader .part) area xs → lineOf bytes ≡ lineOf xs)
-      → AnswersOn (lineOf bytes) → text ≡ take k out′ → Turns on p text chunk to chunk′ area′
-      → Underway card h from start (heldIn to b l′ out′) (to .reader) chunk′ area′
-  loop-turn {chunk′ = chunk′} {area′ = area′} {to = to} heard w e t =
-      let says = heard (u .next .line) (u .next .holds) in
-      subst (λ (z : Held). Underway card h from start z (to .reader) chunk′ area′) (sym (said-held b l′ out′ k e t))
-      (underway-turn u ready (record { line = u .next .line; lent = l; left = heldOf p b l′ (take k out′) })
-      (record { line = refl; lent = refl; answers = subst AnswersOn says w })
-      (t .next))
-
-pub loop-end : {card text start chunk area chunk′ area′ : List ℕ} {z : Held} {from on to : Talk} (a : Areas) (l : Lent) (out : List ℕ)
+-- the first turn only reads a line; after the last one none is ready
+pub loop-end : {card text start chunk area chunk′ area′ : List ℕ} {z : Held} {from on to : Talk} {a : Areas} {l : Lent} (out : List ℕ)
     → text ≡ take (from .said) out → Turns from (from .header) text start on chunk area
     → ((r : Reader) (c : List ℕ) → NextLine r c (on .reader) chunk area → Underway card (heldIn on a l out) r c z (to .reader) chunk′ area′)
     → to .reader .ready ≡ false → to .said ≡ length (z .text) → Served card (heldIn from a l out) (from .reader) z to
-loop-end {card} {z = z} {from = from} {to = to} a l out e t u r f =
+loop-end {card} {z = z} {from = from} {to = to} {a = a} {l = l} out e t u r f =
     subst (λ (x : Held). Served card x (from .reader) z to) (said-held a l out (from .said) e t)
     (underway-end (u (from .reader) _ (t .next)) r f)

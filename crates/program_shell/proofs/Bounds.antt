@@ -1,4 +1,4 @@
--- Each text fits in the area that it is written to. Assumes nothing.
+-- Each text fits in the area that it is written to, so it stands there whole. Assumes nothing.
 use mathlib.Core.Path.{_∙_, _≡_, ap, refl}
 use mathlib.Core.Logic.{inl, inr}
 use mathlib.Core.Bool.{cond, false, true}
@@ -61,19 +61,18 @@ pub unreadable-length : length unreadableText ≤ outRoom
 unreadable-length = omega arith
 
 -- a text that fits stands whole
-pub shown-text : (text area out : List ℕ) (k : ℕ) → length text ≤ outRoom → outRoom ≤ length area → Written area text out k
+pub shown-text : {text area out : List ℕ} {k : ℕ} → length text ≤ outRoom → outRoom ≤ length area → Written area text out k
     → take k out ≡ text
 unfolding shown
-shown-text text area out k h g w =
+shown-text {text} {area} {out} {k} h g w =
     let q : length text ≡ k = omega (arith, w .count) in
     let t : take (length area) text ≡ text = take-all (length area) text (omega arith) in
     ap (take k) (w .area) ∙ rw t (take-at text (drop (length text) area) k q)
 
 -- ---- an area of a fixed length
 
-module _ (most : ℕ) (xs : List ℕ) (e : length xs ≡ most) where
-  pub at-most : length xs ≤ most
-  at-most = omega (arith, e)
+pub at-most : {size most : ℕ} → size ≡ most → size ≤ most
+at-most e = omega (arith, e)
 
-  pub room : most ≤ length xs
-  room = omega (arith, e)
+pub room : {size most : ℕ} → size ≡ most → most ≤ size
+room e = omega (arith, e)

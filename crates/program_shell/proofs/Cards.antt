@@ -1,4 +1,5 @@
--- The ways of a card. Assumes nothing.
+-- What a card comes to: the line that it is refused by, or the prepared areas. With the areas that the program lends, question 7 of
+-- preparing is asked of the program's limits, so preparing decides as document 01 says (`prepared-opens`). Assumes nothing.
 use mathlib.Core.Path.{_∙_, _≡_, ap, ap₂, refl, subst, sym}
 use mathlib.Core.Logic.{_⊎_, _≢_, inl, inr}
 use mathlib.Core.Bool.{Bool, _||_, cond, false, true}
@@ -27,22 +28,19 @@ use Rattle.card_layout.specs.Sections.{entryOf}
 use Rattle.line_texts.specs.Areas.{Written}
 use Rattle.line_console.specs.Texts.{unreadableText}
 use Rattle.program_shell.specs.Limits.{fileLimit, junctionLimit, outRoom, pairWords, roadLimit}
-use Rattle.program_shell.specs.Opening.{Ends, Lends, Opening, Opens, judged, junctionRoom, larger, lengthsFor, noLine, onCard, onRoom}
-use Rattle.program_shell.specs.Opening.{opening}
-use Rattle.program_shell.specs.Opening.{prepared, refusalLine, roadRoom, unlessOver}
+use Rattle.program_shell.specs.Opening.{Ends, Lends, Opening, Opens, larger, noLine, onCard, onRoom, opening, unlessOver}
+use Rattle.program_shell.specs.Opening.{judged, junctionRoom, lengthsFor, prepared, refusalLine, roadRoom}
 use Rattle.program_shell.proofs.Bounds.{answer-length, shown-text, unreadable-length}
 
 -- ---- which questions refuse
 
 ask-low : (b : Bool) (q : Refusal) (rest : Option Refusal) (p : Refusal) → q .question < 7 → (rest ≡ some p → p .question < 7)
-    → ask b q rest ≡ some p
-    → p .question < 7
+    → ask b q rest ≡ some p → p .question < 7
 ask-low true q rest p h g e = g e
 ask-low false q rest p h g e = subst (λ (r : Refusal). r .question < 7) (some-some refl e) h
 
 each-low : (x : Total) (f : ℕ → Refusal) (rest : Option Refusal) (p : Refusal) → ((i : ℕ) → f i .question < 7)
-    → (rest ≡ some p → p .question < 7)
-    → askEach x f rest ≡ some p → p .question < 7
+    → (rest ≡ some p → p .question < 7) → askEach x f rest ≡ some p → p .question < 7
 each-low none f rest p h g e = g e
 each-low (some i) f rest p h g e = subst (λ (r : Refusal). r .question < 7) (some-some refl e) (h i)
 
@@ -86,29 +84,30 @@ refusal-length q = go (ℕ-discrete (q .question) 7)
     go (yes h) = rw (line-seven q h) unreadable-length
     go (no h) = rw (line-plain q h) (answer-length (Refused q) [] (omega arith))
 
--- ---- the ways
+-- ---- the line of a refused preparing
 
-module _ (q : Refusal) (k : ℕ) (out₀ out : List ℕ) where
+module _ (q : Refusal) {k : ℕ} {out₀ out : List ℕ} where
   pub larger-line : q .question ≡ 7 → Written out₀ unreadableText out k → Written out₀ (refusalLine q) out k
   larger-line h = subst (λ (t : List ℕ). Written out₀ t out k) (sym (line-seven q h))
 
   pub refused-line : q .question ≢ 7 → Written out₀ (noLine q) out k → Written out₀ (refusalLine q) out k
   refused-line h = subst (λ (t : List ℕ). Written out₀ t out k) (sym (line-plain q h))
 
-pub over-way : (bytes k : ℕ) (out₀ out : List ℕ) (o : Opening) → fileLimit < bytes → outRoom ≤ length out₀
-    → Written out₀ unreadableText out k
-    → Ends (take k out) ≡ unlessOver bytes o
-over-way bytes k out₀ out o h g w = rw (lt-ltb fileLimit bytes h) (ap Ends (shown-text unreadableText out₀ out k unreadable-length g w))
+pub refused-way : (q : Refusal) {k : ℕ} {out₀ out : List ℕ} → outRoom ≤ length out₀ → Written out₀ (refusalLine q) out k
+    → Ends (take k out) ≡ Ends (refusalLine q)
+refused-way q g w = ap Ends (shown-text (refusal-length q) g w)
 
-pub within-way : (bytes : ℕ) (o p : Opening) → bytes ≤ fileLimit → o ≡ p → o ≡ unlessOver bytes p
-within-way bytes o p h e = rw (le-ltb fileLimit bytes h) e
+-- ---- a file that is too long, or is not
 
-pub refused-way : (q : Refusal) (h : Header) (x : Answer) (a : Areas) (k : ℕ) (out₀ out : List ℕ) → x ≡ Refused q → outRoom ≤ length out₀
-    → Written out₀ (refusalLine q) out k → Ends (take k out) ≡ judged h x a
-refused-way q h x a k out₀ out u g w =
-    ap Ends (shown-text (refusalLine q) out₀ out k (refusal-length q) g w) ∙ ap (λ (y : Answer). judged h y a) (sym u)
+pub over-way : (o : Opening) {bytes k : ℕ} {out₀ out : List ℕ} → fileLimit < bytes → outRoom ≤ length out₀
+    → Written out₀ unreadableText out k → Ends (take k out) ≡ unlessOver bytes o
+over-way o {bytes} h g w = rw (lt-ltb fileLimit bytes h) (ap Ends (shown-text unreadable-length g w))
 
--- what a preparing comes to
+pub within-way : {bytes : ℕ} {o p : Opening} → bytes ≤ fileLimit → o ≡ p → o ≡ unlessOver bytes p
+within-way {bytes} h e = rw (le-ltb fileLimit bytes h) e
+
+-- ---- what a preparing comes to
+
 abbrev judgedStep : Step → Opening
 judgedStep u = judged (u .state .header) (u .answer) (u .state .areas)
 
@@ -125,10 +124,11 @@ accepted none none b c s t e = (refl, opens-opens refl e)
 accepted none (some q) b c s t e = absurd (ends-opens refl e)
 accepted (some q) y b c s t e = absurd (ends-opens refl e)
 
-pub prepared-way : (file : List ℕ) (a : Areas) (r : Answered) (b : Areas) (o : Areas → Opening) → after r b noneLent ≡ prepare file a
+-- what is made of its answer, for any areas, is so of the areas that it left
+pub prepared-way : (file : List ℕ) (a : Areas) {r : Answered} {b : Areas} {o : Areas → Opening} → after r b noneLent ≡ prepare file a
     → ((k : Areas) → o k ≡ unlessOver (length file) (judged (r .header) (r .answer) k)) → o b ≡ prepared file a
 unfolding prepared
-prepared-way file a r b o e f = f b ∙ ap (λ (u : Step). unlessOver (length file) (judgedStep u)) e
+prepared-way file a {b = b} e f = f b ∙ ap (λ (u : Step). unlessOver (length file) (judgedStep u)) e
 
 -- ---- the areas of a card that reading accepts
 

@@ -10,7 +10,7 @@ use Rattle.line_console.specs.Grammar.{long-unreadable}
 use Rattle.line_input.specs.Holds.{Holds}
 use Rattle.line_input.specs.declared.Part.{Part}
 
-module _ (p : Part) (area xs : List ℕ) (room : 45 < length area) (holds : Holds p area xs) where
+module _ {p : Part} {area xs : List ℕ} (room : 45 < length area) (holds : Holds p area xs) where
   pub long-line : p .long ≡ true → lineOf area ≡ lineOf xs
   long-line h = long-unreadable area room ∙ sym (long-unreadable xs (omega (arith, room, holds .more h .1)))
 

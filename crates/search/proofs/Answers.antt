@@ -12,7 +12,7 @@ use native.Mathlib.Decide.{ℕ-discrete}
 use native.Mathlib.Omega.{arith}
 use Rattle.graph.specs.Total.{Tested, Total, and-true, decide, decideOption, isNumber, isNumber-true, none-some, true-false, true-isNumber}
 use Rattle.graph.specs.Least.{anyBelow, anyBelow-true, true-anyBelow}
-use Rattle.graph.specs.Search.{Entry, Problem, back, hasGoal, history, is, logOf, routeOf, timeIn, totalOf, vertices, wayIn}
+use Rattle.graph.specs.Search.{Entry, Problem, back, hasGoal, history, is, logOf, routeOf, timeIn, totalOf, wayIn}
 use Rattle.graph.specs.Walk.{timeIn-here}
 use Rattle.graph.specs.Complete.{history-reached, length-le, no-goal}
 use Rattle.graph.specs.Back.{back-route, true-is}
@@ -195,14 +195,14 @@ module _ {g : Given} {s z : ℕ} (r : Ready g s z) {l l′ : Written} {c : ℕ} 
           eq-eqb v s q ∙ sym (true-is (goGiven g s z .start v) t (e ∙ ap some (omega arith)))
       at (no q) = ne-eqb v s q ∙ sym (ap (λ (y : Total). is y t) (codes r .start-elsewhere v q))
 
-  module _ (total : ℕ) (read : total ≡ getD (l′ .elapsed) z 0) (route₀ : List ℕ) where
+  module _ {total : ℕ} (read : total ≡ getD (l′ .elapsed) z 0) {route₀ : List ℕ} where
     -- what does not depend on the route
-    found-with : (number : ℕ) (route : List ℕ) → number ≡ length (routeOf (goGiven g s z))
+    found-with : {number : ℕ} {route : List ℕ} → number ≡ length (routeOf (goGiven g s z))
         → route ≡ goRoute (totalOf (goGiven g s z)) (routeOf (goGiven g s z)) route₀
         → Found (g .roads) (g .order) (g .live) s z (l .estimates) route₀ (l .log) (l′ .estimates) (l′ .elapsed) route (l′ .log)
         total c number
     unfolding logOf
-    found-with number route a b = record {
+    found-with a b = record {
       total-is = total-word total read;
       fits = total-fits;
       count-is = x .count-is ∙ count-is (codes r .ok .well-formed);
@@ -222,16 +222,16 @@ module _ {g : Given} {s z : ℕ} (r : Ready g s z) {l l′ : Written} {c : ℕ} 
         (eqb-true total noneWord q) in
         let w = way-lost (goGiven g s z) z (codes r .goals) (history (goGiven g s z)) (totalOf (goGiven g s z))
         (end (codes r .ok .well-formed)) p in
-        found-with 0 route₀ (ap length (sym w)) (ap (λ (T : Total). goRoute T (routeOf (goGiven g s z)) route₀) (sym p))
+        found-with (ap length (sym w)) (ap (λ (T : Total). goRoute T (routeOf (goGiven g s z)) route₀) (sym p))
 
     -- the route
-    pub answer-found : (number : ℕ) (route : List ℕ) → eqb total noneWord ≡ false
+    pub answer-found : {number : ℕ} {route : List ℕ} → eqb total noneWord ≡ false
         → number ≡ arcsBack (λ u. eqb u s) (stepBack (g .roads) (l′ .ways) (g .sizes .n) (g .sizes .m)) (g .sizes .n) z
         → route ≡ first (wayOf (λ u. getD (l′ .ways) u 0) (stepBack (g .roads) (l′ .ways) (g .sizes .n) (g .sizes .m)) number z) route₀
         → Found (g .roads) (g .order) (g .live) s z (l .estimates) route₀ (l .log) (l′ .estimates) (l′ .elapsed) route (l′ .log)
         total c number
     unfolding routeOf
-    answer-found number route q a b =
+    answer-found {number} q a b =
         let k = codes r in
         let G = goGiven g s z in
         let before = stepBack (g .roads) (l′ .ways) (g .sizes .n) (g .sizes .m) in
@@ -253,5 +253,5 @@ module _ {g : Given} {s z : ℕ} (r : Ready g s z) {l l′ : Written} {c : ℕ} 
         ∙ arcs-back (k .ok .well-formed) (x .ways) (λ v t lv e. begins-is v t e) steps (g .sizes .n) z (p .0) lz h le in
         let u : wayOf (λ u. getD (l′ .ways) u 0) before number z ≡ back G (history G) z =
         way-back-is (k .ok .well-formed) (x .ways) (λ v t lv e. begins-is v t e) steps number z (p .0) lz h (sym y) in
-        found-with number route (y ∙ ap length (sym w))
+        found-with (y ∙ ap length (sym w))
         (b ∙ ap (λ (l : List ℕ). first l route₀) (u ∙ sym w) ∙ ap (λ (T : Total). goRoute T (routeOf G) route₀) (sym (p .1)))

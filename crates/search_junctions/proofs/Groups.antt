@@ -11,8 +11,9 @@ use Rattle.model.specs.Bytes.{wordAt}
 use Rattle.search_junctions.specs.Grouped.{Empty, FirstFrom, Grouped}
 
 -- every row is empty: y is the part of the junctions, filled with m
-pub rows-cleared : (n m : ℕ) (rows y rest : List ℕ) → n ≤ length rows → y ≡ replicate (length (take n rows)) m → Empty n m (y ++ rest)
-rows-cleared n m rows y rest room q u lu =
+pub rows-cleared : {n m : ℕ} (rows rest : List ℕ) {y : List ℕ} → n ≤ length rows → y ≡ replicate (length (take n rows)) m
+    → Empty n m (y ++ rest)
+rows-cleared {n} {m} rows rest {y} room q u lu =
     let k : length (take n rows) ≡ n = length-take-le n rows room in
     let long : length y ≡ n = ap length q ∙ length-replicate (length (take n rows)) m ∙ k in
     List·getD-append y rest 0 u (omega arith) ∙ ap (λ (l : List ℕ). getD l u 0) q
@@ -24,37 +25,37 @@ pub record Linked (roads : List ℕ) (n m i : ℕ) (rows : List ℕ) : Type 0 wh
   pub next : (k : ℕ) → i ≤ k → k < m → wordAt roads (roadSize * k) < n
       → FirstFrom roads m (wordAt roads (roadSize * k)) (suc k) (getD rows (n + k) 0)
 
-module _ (roads : List ℕ) (n m : ℕ) where
-  pub linked-start : (rows : List ℕ) → ((u : ℕ) → u < n → getD rows u 0 ≡ m) → Linked roads n m m rows
-  linked-start rows h = record {
+-- a row of another junction begins one road earlier
+wider : {roads : List ℕ} {m u j f : ℕ} → (wordAt roads (roadSize * j) ≡ u → ⊥) → FirstFrom roads m u (j + 1) f → FirstFrom roads m u j f
+wider {roads} {m} {u} {j} {f} ne w = record {
+  low = omega (arith, w .low);
+  high = w .high;
+  leaves = w .leaves;
+  none-before = λ i a b. at i a b (ℕ-discrete i j);
+}
+  where
+    at : (i : ℕ) → j ≤ i → i < f → Dec (i ≡ j) → wordAt roads (roadSize * i) ≡ u → ⊥
+    at i a b (yes q) = rw q ne
+    at i a b (no q) = w .none-before i (omega arith) b
+
+module _ {roads : List ℕ} {n m : ℕ} where
+  pub linked-start : {rows : List ℕ} → Empty n m rows → Linked roads n m m rows
+  linked-start h = record {
     first = λ u lu. rw (h u lu) (record
         { low = omega arith; high = omega arith; leaves = λ l. absurd (omega arith); none-before = λ i a b. absurd (omega arith) });
     next = λ k a b. absurd (omega arith);
   }
 
-  pub linked-end : (rows : List ℕ) (i : ℕ) → i ≤ 0 → Linked roads n m i rows → Grouped roads n m rows
-  linked-end rows i z l =
+  pub linked-end : {rows : List ℕ} {i : ℕ} → i ≤ 0 → Linked roads n m i rows → Grouped roads n m rows
+  linked-end {i = i} z l =
       let e : i ≡ 0 = omega arith in
       record { first = λ u lu. rw e at (l .first u lu); next = λ k lk t. l .next k (omega arith) lk t }
 
-  -- a row of another junction begins one road earlier
-  wider : (u j f : ℕ) → (wordAt roads (roadSize * j) ≡ u → ⊥) → FirstFrom roads m u (j + 1) f → FirstFrom roads m u j f
-  wider u j f ne w = record {
-    low = omega (arith, w .low);
-    high = w .high;
-    leaves = w .leaves;
-    none-before = λ i a b. at i a b (ℕ-discrete i j);
-  }
-    where
-      at : (i : ℕ) → j ≤ i → i < f → Dec (i ≡ j) → wordAt roads (roadSize * i) ≡ u → ⊥
-      at i a b (yes q) = rw q ne
-      at i a b (no q) = w .none-before i (omega arith) b
-
-  module _ (i j u : ℕ) (rows : List ℕ) (e : i ≡ j + 1) (lj : j < m) (t : u ≡ wordAt roads (roadSize * j))
+  module _ {i j u : ℕ} {rows : List ℕ} (e : i ≡ j + 1) (lj : j < m) (t : u ≡ wordAt roads (roadSize * j))
       (l : Linked roads n m i rows) where
     pub linked-skip : n ≤ u → Linked roads n m j rows
     linked-skip h = record {
-      first = λ w lw. wider w j (getD rows w 0) (λ q. omega arith) (rw e at (l .first w lw));
+      first = λ w lw. wider (λ q. omega arith) (rw e at (l .first w lw));
       next = λ k a b lt. at k a b lt (ℕ-discrete k j);
     }
       where
@@ -81,7 +82,7 @@ module _ (roads : List ℕ) (n m : ℕ) where
             (record { low = omega arith; high = omega arith; leaves = λ _. sym t; none-before = λ i a b. absurd (omega arith) })
         head w lw (no q) =
             rw (getD-set-other behind u w j 0 q, getD-set-other rows (n + j) w (getD rows u 0) 0 (λ z. omega arith))
-            (wider w j (getD rows w 0) (λ r. q (sym r ∙ sym t)) (rw e at (l .first w lw)))
+            (wider (λ r. q (sym r ∙ sym t)) (rw e at (l .first w lw)))
 
         at : (k : ℕ) → j ≤ k → k < m → wordAt roads (roadSize * k) < n → Dec (k ≡ j)
             → FirstFrom roads m (wordAt roads (roadSize * k)) (suc k) (getD put-first (n + k) 0)

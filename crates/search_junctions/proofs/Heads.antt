@@ -1,26 +1,26 @@
 -- The estimates of the heads of a junction's open roads, asked road by road. Assumes nothing.
-use mathlib.Core.Path.{_∙_, _≡_, ap, subst, sym}
+use mathlib.Core.Path.{_∙_, _≡_, subst, sym}
 use mathlib.Core.Logic.{_⊎_, inl, inr}
-use mathlib.Core.Bool.{Bool, false, not, true}
-use mathlib.Core.Option.{none, some}
+use mathlib.Core.Bool.{Bool, not, true}
 use mathlib.Core.List.{List}
 use Prim.Native.Nat.{_*_, _+_, _<_, _≤_, suc, ℕ}
-use borrow.Author.Tests.{eqb-false, eqb-true, not-true}
+use borrow.Author.Tests.{eqb-false, not-true}
 use lib.Dec.{eqb}
 use lib.ListN.{getD, length}
 use native.Mathlib.Numerals.{add-one}
 use native.Mathlib.Omega.{arith}
 use Rattle.graph.specs.Network.{Network}
-use Rattle.model.specs.Word.{noneWord, ofWord, ofWord-none, unasked}
+use Rattle.model.specs.Word.{noneWord, unasked}
 use Rattle.model.specs.Layout.{roadSize}
 use Rattle.model.specs.Bytes.{wordAt}
 use Rattle.model.specs.Laws.{kept-refl, kept-trans}
 use Rattle.pairs_hierarchy.specs.Estimates.{Estimated, aim-estimated}
 use Rattle.search_junctions.specs.Grouped.{FirstFrom}
-use Rattle.search_junctions.specs.State.{Given, Ready, goGiven, mapGiven}
+use Rattle.search_junctions.specs.State.{Given, Ready, goGiven}
 use Rattle.search_junctions.specs.Asking.{Asks, EstimatesIn, Leads}
 use Rattle.search_junctions.specs.Facts.{codes}
 use Rattle.search_junctions.proofs.Rows.{Row}
+use Rattle.search_junctions.proofs.Opens.{OpenRoad, closed-cost, none-far, open-arc, open-cost, open-head, open-tail}
 use Rattle.search_junctions.specs.Fills.{filling-again, filling-more, filling-same, leads-closed, leads-open, leads-skip}
 use Rattle.search_junctions.specs.Fills.{leads-skip-back, pairs-kept}
 
@@ -80,60 +80,55 @@ pub known-word : {x y : ℕ} {b : Bool} → x ≡ y → b ≡ eqb x unasked → 
 known-word {x} {y} {b} q t n u = eqb-false x unasked (sym t ∙ not-true b n) (q ∙ u)
 
 -- ---- the ways through the code, for road i
-module _ (g : Given) (i : ℕ) (li : i < g .sizes .m) (w : ℕ) (w-is : w ≡ getD (g .live) i 0) where
-  pub head-closed : (e : List ℕ) → eqb w noneWord ≡ true → Asks g (wordAt (g .roads) (roadSize * i)) i (i + 1) e e
-  head-closed e closed = record {
+abbrev pub AsksRoad : (g : Given) (i : ℕ) (e e′ : List ℕ) → Type 0
+AsksRoad g i = Asks g (wordAt (g .roads) (roadSize * i)) i (i + 1)
+
+module _ {g : Given} {i : ℕ} where
+  pub head-closed : {w : ℕ} {e : List ℕ} → w ≡ getD (g .live) i 0 → eqb w noneWord ≡ true → AsksRoad g i e e
+  head-closed w-is closed = record {
     kept = kept-refl;
     exact = λ s z H e₀ r.
-        let G = goGiven g s z in
-        let x : getD (g .live) i 0 ≡ noneWord = sym w-is ∙ eqb-true w noneWord closed in
-        let q : G .net .cost i ≡ none = codes r .reads .costs i ∙ ap ofWord x ∙ ofWord-none in
+        let q = closed-cost (codes r .reads) i w-is closed in
         filling-same (λ a y. both (leads-skip (omega arith) a) y) (λ a y. both (leads-closed q a) y);
   }
 
-  module _ (h : ℕ) (h-is : h ≡ wordAt (g .roads) (roadSize * i + 4)) where
-    -- the head of a road of a map is one of its junctions
-    pub head-far : (e : List ℕ) → g .sizes .n ≤ h → Asks g (wordAt (g .roads) (roadSize * i)) i (i + 1) e e
-    head-far e far = record {
-      kept = kept-refl;
-      exact = λ s z H e₀ r f.
-          let k = codes r in
-          let b = k .ok .well-formed .inside .heads i (rw (k .reads .arcs-are) li) in
-          absurd (omega (arith, b, k .reads .heads i li, k .reads .size-is));
-    }
+  pub head-far : {h : ℕ} {e : List ℕ} → i < g .sizes .m → h ≡ wordAt (g .roads) (roadSize * i + 4) → g .sizes .n ≤ h → AsksRoad g i e e
+  head-far li h-is far = record {
+    kept = kept-refl;
+    exact = λ s z H e₀ r f. absurd (none-far (codes r .reads) (codes r .ok) li h-is far);
+  }
 
-    -- an open road leads to its head
-    opens : {s z : ℕ} (r : Ready g s z) → eqb w noneWord ≡ false → Leads (goGiven g s z .net) (wordAt (g .roads) (roadSize * i)) (i + 1) h
-    unfolding ofWord
-    opens r open′ =
-        let k = codes r in
+  module _ {w h : ℕ} (road : OpenRoad (g .sizes) (g .roads) (g .live) i w h) where
+    -- it leads to its head
+    leads : {s z : ℕ} → Ready g s z → Leads (goGiven g s z .net) (wordAt (g .roads) (roadSize * i)) (i + 1) h
+    leads r =
+        let reads = codes r .reads in
         record {
           road = i;
           cost = w;
           below = omega arith;
-          inside = rw (k .reads .arcs-are) li;
-          from = k .reads .tails i li;
-          opens = k .reads .costs i ∙ ap ofWord (sym w-is) ∙ rw open′;
-          to = k .reads .heads i li ∙ sym h-is;
+          inside = open-arc reads road;
+          from = open-tail reads road;
+          opens = open-cost reads road;
+          to = open-head reads road;
         }
 
-    -- its estimate is known
-    pub head-known : (e : List ℕ) → eqb w noneWord ≡ false → h < g .sizes .n → (getD e h 0 ≡ unasked → ⊥)
-        → Asks g (wordAt (g .roads) (roadSize * i)) i (i + 1) e e
-    head-known e open′ lh known = record {
+    -- the head's estimate is known
+    pub head-known : {e : List ℕ} → (getD e h 0 ≡ unasked → ⊥) → AsksRoad g i e e
+    head-known known = record {
       kept = kept-refl;
       exact = λ s z H e₀ r f.
-          filling-again h (rw (r .n-is) lh) known (λ a y. both (leads-skip (omega arith) a) y)
-          (λ a y. asked-split {N = goGiven g s z .net} {i = i} (codes r .reads .heads i li ∙ sym h-is) a y) f;
+          filling-again h (rw (r .n-is) (road .head-in)) known (λ a y. both (leads-skip (omega arith) a) y)
+          (λ a y. asked-split {N = goGiven g s z .net} {i = i} (open-head (codes r .reads) road) a y) f;
     }
 
-    pub head-open : (v : ℕ) (e e′ : List ℕ) → eqb w noneWord ≡ false → h < g .sizes .n
-        → Estimated (g .order) (g .ranks) (g .pairs) (g .sizes .pairs) (g .down) e e′ h v
-        → Asks g (wordAt (g .roads) (roadSize * i)) i (i + 1) e e′
-    head-open v e e′ open′ lh est = record {
+    -- it is asked
+    pub head-open : {v : ℕ} {e e′ : List ℕ} → Estimated (g .order) (g .ranks) (g .pairs) (g .sizes .pairs) (g .down) e e′ h v
+        → AsksRoad g i e e′
+    head-open est = record {
       kept = est .kept;
       exact = λ s z H e₀ r f.
-          filling-more h (rw (r .n-is) lh) (λ a y. both (leads-skip (omega arith) a) y) (inr (opens r open′))
-          (λ a y. asked-split {N = goGiven g s z .net} {i = i} (codes r .reads .heads i li ∙ sym h-is) a y)
+          filling-more h (rw (r .n-is) (road .head-in)) (λ a y. both (leads-skip (omega arith) a) y) (inr (leads r))
+          (λ a y. asked-split {N = goGiven g s z .net} {i = i} (open-head (codes r .reads) road) a y)
           (aim-estimated est (g .roads) (r .prepared) z (f .aims)) (est .exact (g .roads) (r .prepared) z (f .aims) .1) f;
     }

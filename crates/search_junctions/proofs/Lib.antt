@@ -1,5 +1,6 @@
 pub mod Groups
 pub mod Rows
+pub mod Opens
 pub mod Heads
 pub mod Roads
 pub mod Starts

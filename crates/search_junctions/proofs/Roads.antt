@@ -1,10 +1,9 @@
 -- The roads of a logged junction, relaxed one after the other. Assumes nothing.
 use mathlib.Core.Path.{_∙_, _≡_, ap, subst, subst₂, sym}
-use mathlib.Core.Bool.{false, true}
+use mathlib.Core.Bool.{true}
 use mathlib.Core.Option.{none, some}
 use mathlib.Core.List.{List}
 use Prim.Native.Nat.{_*_, _+_, _<_, _≤_, min, suc, ℕ}
-use borrow.Author.Tests.{eqb-true}
 use lib.Dec.{eqb}
 use lib.ListN.{getD}
 use native.Mathlib.Numerals.{add-one}
@@ -12,7 +11,7 @@ use native.Mathlib.Omega.{arith}
 use Rattle.graph.specs.Total.{_⊕_, cond-same, ⊕-none}
 use Rattle.graph.specs.Search.{Entry, Problem, offerVia, timeIn}
 use Rattle.graph.specs.Walk.{some-offerVia}
-use Rattle.model.specs.Word.{noneWord, ofWord, ofWord-none, ofWord-some, unasked, word}
+use Rattle.model.specs.Word.{noneWord, ofWord, ofWord-some, unasked, word}
 use Rattle.model.specs.Layout.{roadSize}
 use Rattle.model.specs.Bytes.{wordAt}
 use Rattle.network.specs.Width.{fit, fit-in}
@@ -21,6 +20,7 @@ use Rattle.search_labels.specs.Relax.{labels-passed, labels-skip, labels-taken}
 use Rattle.search_junctions.specs.Grouped.{FirstFrom}
 use Rattle.search_junctions.specs.Relaxing.{Read, Relaxes}
 use Rattle.search_junctions.proofs.Rows.{Row}
+use Rattle.search_junctions.proofs.Opens.{OpenRoad, closed-cost, none-far, open-arc, open-cost, open-head, open-tail}
 
 -- a closed road gives nothing
 via-closed : (G : Problem) (H : List Entry) (v i : ℕ) → G .net .cost i ≡ none → offerVia (G .net) H v i ≡ none
@@ -32,49 +32,44 @@ offer-word : (o t w : ℕ) → o ≡ min noneWord (word (fit (ofWord t ⊕ ofWor
 offer-word o t w e h = e ∙ rw (ofWord-some t (omega arith), ofWord-some w (omega arith), fit-in (t + w) (omega arith)) (omega arith)
 
 -- ---- the ways through the code, for road i
-module _ (r : Read) (i from : ℕ) (li : i < r .sizes .m) where
-  abbrev Road : (l l′ : Labelling) → Type 0
-  Road = Relaxes r (wordAt (r .roads) (roadSize * i)) from i (i + 1)
+abbrev pub RelaxesRoad : (r : Read) (i from : ℕ) (l l′ : Labelling) → Type 0
+RelaxesRoad r i from = Relaxes r (wordAt (r .roads) (roadSize * i)) from i (i + 1)
 
-  module _ (w : ℕ) (w-is : w ≡ getD (r .live) i 0) where
-    pub road-closed : (l : Labelling) → Room (r .sizes .n) l → eqb w noneWord ≡ true → Road l l
-    road-closed l room closed = record {
-      room = room;
-      exact = λ G H ok k reached logged known labels.
-          let x : getD (r .live) i 0 ≡ noneWord = sym w-is ∙ eqb-true w noneWord closed in
-          let q : G .net .cost i ≡ none = k .costs i ∙ ap ofWord x ∙ ofWord-none in
-          labels-passed (rw (k .arcs-are) li) (λ v. via-closed G H v i q) l labels;
-    }
+module _ {r : Read} {i from : ℕ} where
+  pub road-closed : {w : ℕ} {l : Labelling} → i < r .sizes .m → w ≡ getD (r .live) i 0 → eqb w noneWord ≡ true → Room (r .sizes .n) l
+      → RelaxesRoad r i from l l
+  road-closed {l = l} li w-is closed room = record {
+    room = room;
+    exact = λ G H ok reads reached logged known labels.
+        let q = closed-cost reads i w-is closed in
+        labels-passed (rw (reads .arcs-are) li) (λ v. via-closed G H v i q) l labels;
+  }
 
-    module _ (h : ℕ) (h-is : h ≡ wordAt (r .roads) (roadSize * i + 4)) where
-      -- the head of a road of a map is one of its junctions
-      pub road-far : (l : Labelling) → Room (r .sizes .n) l → r .sizes .n ≤ h → Road l l
-      road-far l room far = record {
-        room = room;
-        exact = λ G H ok k reached logged known labels.
-            let b = ok .well-formed .inside .heads i (rw (k .arcs-are) li) in
-            absurd (omega (arith, b, k .heads i li, k .size-is));
-      }
+  pub road-far : {h : ℕ} {l : Labelling} → i < r .sizes .m → h ≡ wordAt (r .roads) (roadSize * i + 4) → r .sizes .n ≤ h
+      → Room (r .sizes .n) l → RelaxesRoad r i from l l
+  road-far li h-is far room =
+      record { room = room; exact = λ G H ok reads reached logged known labels. absurd (none-far reads ok li h-is far) }
 
-      pub road-open : (e o : ℕ) (l l′ : Labelling) → Room (r .sizes .n) l → eqb w noneWord ≡ false → h < r .sizes .n
-          → e ≡ getD (r .estimates) h 0 → o ≡ min noneWord (word (fit (ofWord from ⊕ ofWord w)))
-          → Taken o e i (r .sizes .n) h l l′ → Road l l′
-      unfolding ofWord
-      road-open e o l l′ room open′ lh e-is offer taken = record {
-        room = taken .room;
-        exact = λ G H ok k reached logged known labels.
-            let la : i < G .net .arcs = rw (k .arcs-are) li in
-            let hd : G .net .head i ≡ h = k .heads i li ∙ sym h-is in
-            let tl : G .net .tail i ≡ wordAt (r .roads) (roadSize * i) = k .tails i li in
-            let cost : G .net .cost i ≡ some w = k .costs i ∙ ap ofWord (sym w-is) ∙ rw open′ in
-            let from-is : timeIn H (G .net .tail i) ≡ some from = ap (timeIn H) tl ∙ logged in
-            let gives = some-offerVia (G .net) H h i from w (from + w) hd from-is cost (omega arith) in
-            let low = ok .offers reached h i (from + w) la gives in
-            let o-is : o ≡ from + w = offer-word o from w offer (omega (arith, low, ok .words)) in
-            let pot-is : e ≡ word (G .pot h) =
-            e-is ∙ subst (λ (v : ℕ). getD (r .estimates) v 0 ≡ word (G .pot v)) hd (known i w la tl cost) in
-            labels-taken ok reached la hd (gives ∙ ap some (sym o-is)) pot-is (rw (k .size-is) lh) lh room taken labels;
-      }
+  -- the head, whose estimate is e, takes the offer o
+  pub road-open : {w h e o : ℕ} {l l′ : Labelling} → OpenRoad (r .sizes) (r .roads) (r .live) i w h → e ≡ getD (r .estimates) h 0
+      → o ≡ min noneWord (word (fit (ofWord from ⊕ ofWord w))) → Room (r .sizes .n) l → Taken o e i (r .sizes .n) h l l′
+      → RelaxesRoad r i from l l′
+  road-open {w} {h} {e} {o} road e-is offer room taken = record {
+    room = taken .room;
+    exact = λ G H ok reads reached logged known labels.
+        let la = open-arc reads road in
+        let hd = open-head reads road in
+        let tl = open-tail reads road in
+        let cost = open-cost reads road in
+        let from-is : timeIn H (G .net .tail i) ≡ some from = ap (timeIn H) tl ∙ logged in
+        let gives = some-offerVia (G .net) H h i from w (from + w) hd from-is cost (omega arith) in
+        let low = ok .offers reached h i (from + w) la gives in
+        let o-is : o ≡ from + w = offer-word o from w offer (omega (arith, low, ok .words)) in
+        let pot-is : e ≡ word (G .pot h) =
+        e-is ∙ subst (λ (v : ℕ). getD (r .estimates) v 0 ≡ word (G .pot v)) hd (known i w la tl cost) in
+        labels-taken ok reached la hd (gives ∙ ap some (sym o-is)) pot-is (rw (reads .size-is) (road .head-in)) (road .head-in) room taken
+        labels;
+  }
 
 -- ---- one road after the other
 

@@ -8,12 +8,12 @@ use Rattle.model.specs.Layout.{roadSize}
 use Rattle.model.specs.Bytes.{wordAt}
 use Rattle.search_junctions.specs.Ways.{stepBack}
 
-module _ (roads vias : List ℕ) (n m v : ℕ) where
+module _ (roads vias : List ℕ) (n : ℕ) {m : ℕ} (v : ℕ) where
   pub step-none : m ≤ getD vias v 0 → v ≡ stepBack roads vias n m v
   unfolding stepBack
   step-none h = rw (le-ltb (getD vias v 0) m h)
 
-  module _ (u : ℕ) (l : getD vias v 0 < m) (e : u ≡ wordAt roads (roadSize * getD vias v 0)) where
+  module _ {u : ℕ} (l : getD vias v 0 < m) (e : u ≡ wordAt roads (roadSize * getD vias v 0)) where
     pub step-far : n ≤ u → v ≡ stepBack roads vias n m v
     unfolding stepBack
     step-far h = rw (lt-ltb (getD vias v 0) m l, ← e, le-ltb u n h)

@@ -1,8 +1,7 @@
--- definitions
+-- What a search keeps of each node: definitions first, then the laws that proofs over labels cite.
 pub mod Labelling
 pub mod Labelled
 pub mod Ways
--- laws, which the proofs of a search over labels cite
 pub mod Relax
 pub mod Log
 pub mod Begun

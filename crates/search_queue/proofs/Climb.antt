@@ -10,7 +10,7 @@ use native.Mathlib.Decide.{decLt, ℕ-discrete}
 use native.Mathlib.Omega.{arith}
 use Rattle.graph.specs.Total.{Tested, decide}
 use Rattle.search_queue.specs.Order.{Before, Order, SameBut, Waiting, mostNodes, settledKey}
-use Rattle.search_queue.specs.Tree.{Above, Changed, Holds, Tournament, before, better, here, nobody, somebody, wordIn}
+use Rattle.search_queue.specs.Tree.{Above, Changed, Holds, NodeIn, Tournament, before, better, here, nobody, somebody, wordIn}
 use Rattle.search_queue.specs.Laws.{word-key}
 use Rattle.search_queue.proofs.Orders.{before-new, before-self, before-trans, waiting-new, waiting-old}
 use Rattle.search_queue.proofs.Words.{after-keys, before-false, before-keys, before-true, better-first, better-second}
@@ -116,21 +116,21 @@ pub record Climb (o : Order) (n : ℕ) (tree₀ tree : List ℕ) (at w : ℕ) : 
   pub word : Holds o n at w
   pub done : (q : ℕ) → 0 < q → q < 2 * n → (Above q at → q < at → ⊥) → Holds o n q (getD tree q 0)
 
-pub climb-start : (o : Order) (n v : ℕ) (tree : List ℕ) (at w : ℕ) → v < n → 2 * n ≤ length tree → at ≡ n + v → w ≡ wordIn o v
+pub climb-start : {o : Order} {n v : ℕ} {keys tree : List ℕ} {at w : ℕ} → NodeIn n v keys tree → at ≡ n + v → w ≡ wordIn o v
     → Changed o n v tree → Climb o n (set tree at w) (set tree at w) at w
-climb-start o n v tree at w lv room at-is w-is c = record {
-  low = omega arith;
-  high = omega arith;
-  room = simp length-set room;
+climb-start {o} {n} {v} {keys} {tree} {at} {w} node at-is w-is c = record {
+  low = omega (arith, node .inside);
+  high = omega (arith, node .inside);
+  room = simp length-set (node .tree-room);
   long = refl;
   word = leaf;
   done = λ q low high f.
-      holds-written o n tree at w q (omega arith) leaf
+      holds-written o n tree at w q (omega (arith, node .inside, node .tree-room)) leaf
       (λ ne. holds-apart (c .same) (λ u a _. other q ne f u a) (λ u a _. other q ne f u a) (c .right q low high));
 }
   where
     leaf : Holds o n at w
-    leaf = rw (w-is, at-is) (holds-leaf o n v lv)
+    leaf = rw (w-is, at-is) (holds-leaf o n v (node .inside))
 
     other : (q : ℕ) → (q ≡ at → ⊥) → (Above q at → q < at → ⊥) → (u : ℕ) → Above q (n + u) → u ≡ v → ⊥
     other q ne f u a e =
@@ -138,13 +138,13 @@ climb-start o n v tree at w lv room at-is w-is c = record {
         let le = above-le b in
         f b (omega arith)
 
-module _ (o : Order) (n : ℕ) (tree₀ tree : List ℕ) (at up beside w : ℕ) (room : n ≤ mostNodes) (more : 1 < at)
-    (up-is : up ≡ at / 2) (beside-is : beside ≡ 4 * up + 1 - at) (c : Climb o n tree₀ tree at w) where
+module _ {o : Order} {n : ℕ} {tree₀ tree : List ℕ} {at up beside w : ℕ} (room : n ≤ mostNodes) (more : 1 < at) (up-is : up ≡ at / 2)
+    (beside-is : beside ≡ 4 * up + 1 - at) (c : Climb o n tree₀ tree at w) where
   -- the place beside is decided
   holds-beside : Holds o n beside (getD tree beside 0)
   holds-beside = c .done beside (omega arith) (omega arith) (λ a l. (let z = above-le (above-half a l) in omega arith))
 
-  module _ (w′ : ℕ) (w-is : w′ ≡ better (o .tie) w (getD tree beside 0)) where
+  module _ {w′ : ℕ} (w-is : w′ ≡ better (o .tie) w (getD tree beside 0)) where
     holds-up : Holds o n up w′
     holds-up = rw w-is (decided o (two-beside n at up beside more (c .high) up-is beside-is) room (c .word) holds-beside)
 

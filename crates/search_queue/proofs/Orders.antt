@@ -1,9 +1,9 @@
 -- The order of choice: that it is an order, and that it stays between nodes that did not change. Assumes nothing.
 use mathlib.Core.Path.{_∙_, _≡_, ap, refl, sym}
 use mathlib.Core.List.{List}
-use Prim.Native.Nat.{_<_, ℕ}
-use lib.ListN.{getD, length, set}
-use lib.Seq.{getD-set-other, getD-set-same, set-getD}
+use Prim.Native.Nat.{ℕ}
+use lib.ListN.{getD, set}
+use lib.Seq.{getD-set-other, set-getD}
 use native.Mathlib.Omega.{arith}
 use Rattle.search_queue.specs.Order.{Before, Order, SameBut, Waiting, byKey}
 
@@ -52,10 +52,8 @@ module _ {v : ℕ} {o o′ : Order} (s : SameBut v o o′) where
       }
 
 -- ---- the key of v is written
-module _ (keys : List ℕ) (v k : ℕ) where
-  pub written-again : getD keys v 0 ≡ k → keys ≡ set keys v k
-  written-again e = sym (ap (set keys v) (sym e) ∙ set-getD keys v 0)
+pub written-again : (keys : List ℕ) (v : ℕ) {k : ℕ} → getD keys v 0 ≡ k → keys ≡ set keys v k
+written-again keys v e = sym (ap (set keys v) (sym e) ∙ set-getD keys v 0)
 
-  pub same-but : SameBut v (byKey keys) (byKey (set keys v k))
-  same-but = record { keys-same = λ u ne. getD-set-other keys v u k 0 ne; ties-same = λ u ne. refl }
-  -- to another key
+pub same-but : (keys : List ℕ) {v : ℕ} (k : ℕ) → SameBut v (byKey keys) (byKey (set keys v k))
+same-but keys {v} k = record { keys-same = λ u ne. getD-set-other keys v u k 0 ne; ties-same = λ u ne. refl }

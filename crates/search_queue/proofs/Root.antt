@@ -1,12 +1,12 @@
 -- The root of a tournament tells what is chosen. Assumes nothing.
 use mathlib.Core.Path.{_≡_}
 use mathlib.Core.List.{List}
-use Prim.Native.Nat.{_%_, _+_, _/_, _<_, _≤_, suc, zero, ℕ}
+use Prim.Native.Nat.{_%_, _+_, _/_, _<_, suc, zero, ℕ}
 use lib.ListN.{getD}
 use native.Mathlib.Decide.{decLt}
 use native.Mathlib.Nat.{not-suc-le-zero}
 use native.Mathlib.Omega.{arith}
-use Rattle.search_queue.specs.Order.{Chosen, Order, first-is, mostNodes, none-left}
+use Rattle.search_queue.specs.Order.{Chosen, first-is, mostNodes, none-left}
 use Rattle.search_queue.specs.Tree.{Above, Choice, Holds, here, higher, nobody, nobodyWord, somebody}
 use Rattle.search_queue.specs.Laws.{word-below, word-number}
 
@@ -23,7 +23,7 @@ above-root p l = below (suc p) p (omega arith) l
         go (no m) f = let e : q ≡ 1 = omega arith in rw e here
 
 -- its word is nobody's, or tells a number
-module _ (n : ℕ) (tree : List ℕ) where
+module _ {n : ℕ} (tree : List ℕ) where
   pub root-nobody : getD tree 1 0 ≡ nobodyWord → Choice n tree n
   root-nobody q o l room t = go (t 1 (omega arith) (omega arith))
     where

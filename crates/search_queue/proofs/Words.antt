@@ -2,10 +2,10 @@
 -- the smaller word is the better. Assumes nothing.
 use mathlib.Core.Path.{_≡_, refl, sym}
 use mathlib.Core.Logic.{inl, inr}
-use mathlib.Core.Bool.{Bool, false, true}
+use mathlib.Core.Bool.{false, true}
 use Prim.Native.Nat.{_%_, _*_, _+_, _/_, _<_, _≤_, ℕ}
-use borrow.Author.Tests.{eq-eqb, eqb-false, eqb-true, le-ltb, leb-false, leb-true, lt-ltb, ltb-false, ltb-true, ne-eqb}
-use lib.Dec.{eqb, leb, ltb}
+use borrow.Author.Tests.{le-ltb, leb-false, leb-true, lt-ltb}
+use lib.Dec.{leb}
 use native.Mathlib.Decide.{ℕ-discrete}
 use native.Mathlib.Omega.{arith}
 use Rattle.graph.specs.Search.{below-or}
@@ -80,7 +80,7 @@ module _ (tie : ℕ → ℕ) (x y : ℕ) where
   better-second t = rw t refl
 
 -- without ties the smaller word is the better
-module _ (x y : ℕ) where
+module _ {x y : ℕ} where
   no-ties-true : before noTies x y ≡ true → x ≤ y
   unfolding before
   no-ties-true h =

@@ -5,7 +5,7 @@ use mathlib.Core.Bool.{Bool, cond}
 use mathlib.Core.List.{List}
 use Prim.Native.Nat.{_%_, _*_, _+_, _/_, _<_, _≤_, ℕ}
 use lib.Dec.{leb, ltb}
-use lib.ListN.{getD}
+use lib.ListN.{getD, length}
 use Rattle.graph.specs.Search.{below-or}
 use Rattle.search_queue.specs.Order.{Before, Chosen, Order, SameBut, Waiting, mostNodes, settledKey}
 
@@ -45,6 +45,13 @@ pub data Holds (o : Order) (n p : ℕ) : ℕ → Type 0 where
 -- every place holds what it should
 abbrev pub Tournament : (o : Order) (n : ℕ) (tree : List ℕ) → Type 0
 Tournament o n tree = (p : ℕ) → 0 < p → p < 2 * n → Holds o n p (getD tree p 0)
+
+-- v is one of n nodes, for which keys and tree have room
+pub record NodeIn (n v : ℕ) (keys tree : List ℕ) : Type 0 where
+  pub inside : v < n
+  pub n-high : n ≤ mostNodes
+  pub keys-room : n ≤ length keys
+  pub tree-room : 2 * n ≤ length tree
 
 -- it did so before the key of v changed
 pub record Changed (o : Order) (n v : ℕ) (tree : List ℕ) : Type 0 where

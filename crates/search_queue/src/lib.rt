@@ -1,10 +1,10 @@
 // The queue: the key of each node, and the choice of the next candidate. Nodes are the numbers below n; what they stand for is not known
 // here. The choice is a tournament, a tree in which each inner place holds the better of the two under it.
 ghost use mathlib.Core.Path.{_≡_};
-ghost use Prim.Native.Nat.{_*_, _<_, _≤_};
+ghost use Prim.Native.Nat.{_<_};
 ghost use lib.ListN.{length, set};
 ghost use Rattle.search_queue.specs.Order.{byKey, mostNodes};
-ghost use Rattle.search_queue.specs.Tree.{Changed, Choice, Tournament, better, noTies, wordIn};
+ghost use Rattle.search_queue.specs.Tree.{Changed, Choice, NodeIn, Tournament, better, noTies, wordIn};
 
 // The key of a node that never was a candidate, and that of a logged one. The key of a candidate is below both.
 pub const NO_KEY: u64 = 18446744073709551615;
@@ -38,8 +38,7 @@ fn better_of(x: u64, y: u64) -> u64
 
 // The key of v has changed: the places above v are decided anew. (To stop where a place stays as it was costs more than it saves.)
 fn renew(keys: &[u64], tree: &mut [u64], n: u32, v: u32)
-    requires { ⌜ (v < n) × (n ≤ mostNodes) × (n ≤ length (now keys)) × (2 * n ≤ length (now tree))
-        × Changed (byKey (now keys)) n v (now tree) ⌝ }
+    requires { ⌜ NodeIn n v (now keys) (now tree) × Changed (byKey (now keys)) n v (now tree) ⌝ }
     ensures { λ _. ⌜ Tournament (byKey (now (keys .entry))) n (now (tree .exit)) ⌝ }
 {
     let mut w = word_of(keys, v);
@@ -57,8 +56,7 @@ fn renew(keys: &[u64], tree: &mut [u64], n: u32, v: u32)
 
 // The key of v becomes `key`; with SETTLED it is a candidate no more.
 pub fn put(keys: &mut [u64], tree: &mut [u64], n: u32, v: u32, key: u64)
-    requires { ⌜ (v < n) × (n ≤ mostNodes) × (n ≤ length (now keys)) × (2 * n ≤ length (now tree))
-        × Tournament (byKey (now keys)) n (now tree) ⌝ }
+    requires { ⌜ NodeIn n v (now keys) (now tree) × Tournament (byKey (now keys)) n (now tree) ⌝ }
     ensures { λ _. ⌜ (now (keys .exit) ≡ set (now (keys .entry)) v key) × Tournament (byKey (now (keys .exit))) n (now (tree .exit)) ⌝ }
 {
     let a = v as usize;

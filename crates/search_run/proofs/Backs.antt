@@ -49,45 +49,45 @@ module _ {begins : ℕ → Bool} {before : ℕ → ℕ} {n v : ℕ} where
         omega (arith, c .counted, g)
 
 -- ---- writing: `via v` is the last arc of the way to v
-module _ (via before : ℕ → ℕ) where
-  way-length : (k v : ℕ) → length (wayOf via before k v) ≡ k
-  unfolding wayOf
-  way-length zero v = refl
-  way-length (suc k) v =
-      let h = way-length k (before v) in
-      length-append (wayOf via before k (before v)) (via v ∷ []) ∙ omega (arith, h)
 
-  -- what is still to be written, and what stands behind it, are the whole way and the rest of the area
-  abbrev Writes : (k v : ℕ) (area₀ : List ℕ) (j u : ℕ) (area : List ℕ) → Type 0
-  Writes k v area₀ j u area = wayOf via before j u ++ drop j area ≡ wayOf via before k v ++ drop k area₀
+way-length : (via before : ℕ → ℕ) (k v : ℕ) → length (wayOf via before k v) ≡ k
+unfolding wayOf
+way-length via before zero v = refl
+way-length via before (suc k) v =
+    let h = way-length via before k (before v) in
+    length-append (wayOf via before k (before v)) (via v ∷ []) ∙ omega (arith, h)
 
-  stored : (area : List ℕ) (j x : ℕ) → j < length area → drop j (set area j x) ≡ x ∷ drop (suc j) area
-  stored area j x h =
-      let l : j < length (set area j x) = rw length-set h in
-      drop-cons (set area j x) j 0 l ∙ ap₂ (λ (a : ℕ) (r : List ℕ). a ∷ r) (getD-set-same area j x 0 h)
-      (drop-set-lt (suc j) area j x (omega arith))
+stored : (area : List ℕ) (j x : ℕ) → j < length area → drop j (set area j x) ≡ x ∷ drop (suc j) area
+stored area j x h =
+    let l : j < length (set area j x) = rw length-set h in
+    drop-cons (set area j x) j 0 l ∙ ap₂ (λ (a : ℕ) (r : List ℕ). a ∷ r) (getD-set-same area j x 0 h)
+    (drop-set-lt (suc j) area j x (omega arith))
 
-  pub write-turn : (k v : ℕ) (area₀ : List ℕ) (i j u w x : ℕ) (area : List ℕ) → i ≡ j + 1 → j < length area → x ≡ via u
-      → w ≡ before u
-      → Writes k v area₀ i u area → Writes k v area₀ j w (set area j x)
-  unfolding wayOf
-  write-turn k v area₀ i j u w x area e l ex ew h =
-      let s : i ≡ suc j = omega arith in
-      ap (λ (r : List ℕ). wayOf via before j w ++ r) (stored area j x l)
-      ∙ sym (append-snoc (wayOf via before j w) x (drop (suc j) area))
-      ∙ rw (ew, ex, ← s) (rw s (rw s at h))
-
-  pub write-end : (k v : ℕ) (area₀ : List ℕ) (j u : ℕ) (area : List ℕ) → j ≤ 0 → Writes k v area₀ j u area
-      → area ≡ first (wayOf via before k v) area₀
-  unfolding wayOf
-  write-end k v area₀ j u area z h =
-      let e : j ≡ 0 = omega arith in
-      let g : area ≡ wayOf via before k v ++ drop k area₀ = rw e at h in
-      g ∙ ap (λ (i : ℕ). wayOf via before k v ++ drop i area₀) (sym (way-length k v))
-
--- j arcs are still to be written, those that lead to u.
+-- j arcs are still to be written, those that lead to u; with what stands behind them they are the whole way and the rest of the area
 pub record Writing (via before : ℕ → ℕ) (n k v : ℕ) (area₀ : List ℕ) (j u : ℕ) (area : List ℕ) : Type 0 where
   pub low : j ≤ k
   pub inside : u < n
   pub long : length area ≡ length area₀
-  pub writes : Writes via before k v area₀ j u area
+  pub writes : wayOf via before j u ++ drop j area ≡ wayOf via before k v ++ drop k area₀
+
+module _ {via before : ℕ → ℕ} {n k v : ℕ} {area₀ : List ℕ} where
+  pub write-turn : {i j u w x : ℕ} {area : List ℕ} → Writing via before n k v area₀ i u area → i ≡ j + 1 → j < length area → x ≡ via u
+      → w ≡ before u
+      → w < n → Writing via before n k v area₀ j w (set area j x)
+  unfolding wayOf
+  write-turn {i} {j} {u} {w} {x} {area} h e l ex ew lw =
+      let s : i ≡ suc j = omega arith in
+      record {
+        low = omega (arith, h .low);
+        inside = lw;
+        long = length-set area j x ∙ h .long;
+        writes = ap (λ (r : List ℕ). wayOf via before j w ++ r) (stored area j x l)
+            ∙ sym (append-snoc (wayOf via before j w) x (drop (suc j) area)) ∙ rw (ew, ex, ← s) (rw s (rw s at (h .writes)));
+      }
+
+  pub write-end : {j u : ℕ} {area : List ℕ} → Writing via before n k v area₀ j u area → j ≤ 0 → area ≡ first (wayOf via before k v) area₀
+  unfolding wayOf
+  write-end {j} {area = area} h z =
+      let e : j ≡ 0 = omega arith in
+      let g : area ≡ wayOf via before k v ++ drop k area₀ = rw e at (h .writes) in
+      g ∙ ap (λ (i : ℕ). wayOf via before k v ++ drop i area₀) (sym (way-length via before k v))

@@ -20,8 +20,9 @@ use Rattle.model.specs.Bytes.{listed}
 use Rattle.model.specs.State.{first}
 use Rattle.model.specs.Laws.{listed-at, listed-length}
 use Rattle.model.specs.Ends.{first-snoc, listed-is}
-use Rattle.search_queue.specs.Order.{Chosen, FirstOf, first-is, none-left, settledKey}
-use Rattle.search_labels.specs.Labelling.{Labelling, Room, orderOf}
+use Rattle.search_queue.specs.Order.{Chosen, FirstOf, byKey, first-is, none-left, settledKey}
+use Rattle.search_queue.specs.Tree.{Tournament}
+use Rattle.search_labels.specs.Labelling.{Labelling, Room, labellingOf, orderOf}
 use Rattle.search_labels.specs.Labelled.{Chooses, Labels}
 use Rattle.search_labels.specs.Log.{labels-log, next-chosen, next-none}
 use Rattle.search_junctions.specs.State.{Given, Ready, goGiven, mapGiven}
@@ -39,16 +40,33 @@ pub data Next (n : ℕ) (G : Problem) (H : List Entry) (l : Labelling) (v : ℕ)
   over : (c k : ℕ) → v ≡ n → Labels G H c k l → Complete G H → Next n G H l v
   on : (c k : ℕ) → FirstOf (orderOf l) n v → Labels G H c k l → G .net .arcs ≤ k → hasGoal G H ≡ false → Next n G H l v
 
--- c nodes are logged: a history that the definition reaches, its log and its times, the estimates that it has asked, the labels, and what
--- comes next. e₀ and log₀ are estimates and log before it.
-pub record Going (g : Given) (s z : ℕ) (e₀ log₀ e elapsed log : List ℕ) (l : Labelling) (c v : ℕ) : Type 0 where
+-- where a run stands: what it has written so far, how many nodes are logged, and which comes next
+pub record Stand : Type 0 where
+  pub estimates : List ℕ
+  pub elapsed : List ℕ
+  pub log : List ℕ
+  pub labels : Labelling
+  pub count : ℕ
+  pub next : ℕ
+
+abbrev pub standOf : (estimates elapsed log : List ℕ) → Labelling → (count next : ℕ) → Stand
+standOf e t log l c v = record { estimates = e; elapsed = t; log = log; labels = l; count = c; next = v }
+
+-- from a, the next node is logged with its time; e, l and v are estimates, labels and next node then
+abbrev pub logged : Stand → (e : List ℕ) → Labelling → (v : ℕ) → Stand
+logged a e l v =
+    standOf e (set (a .elapsed) (a .next) (getD (a .labels .times) (a .next) 0)) (set (a .log) (a .count) (a .next)) l (a .count + 1) v
+
+-- A run stands at a after a history that the definition reaches: its log and its times, the estimates that it has asked, the labels, and
+-- what comes next. e₀ and log₀ are estimates and log before it.
+pub record Going (g : Given) (s z : ℕ) (e₀ log₀ : List ℕ) (a : Stand) : Type 0 where
   pub past : List Entry
   pub reached : Reached (goGiven g s z) past
-  pub counted : length past ≡ c
-  pub log-is : log ≡ first (vertices (reverse past)) log₀
-  pub elapsed-is : elapsed ≡ listed (g .sizes .n) (λ u. word (timeIn past u))
-  pub filling : Filling (mapGiven g) z (Asked (goGiven g s z) s z past) (g .down) e₀ e
-  pub next : Next (g .sizes .n) (goGiven g s z) past l v
+  pub counted : length past ≡ a .count
+  pub log-is : a .log ≡ first (vertices (reverse past)) log₀
+  pub elapsed-is : a .elapsed ≡ listed (g .sizes .n) (λ u. word (timeIn past u))
+  pub filling : Filling (mapGiven g) z (Asked (goGiven g s z) s z past) (g .down) e₀ (a .estimates)
+  pub next : Next (g .sizes .n) (goGiven g s z) past (a .labels) (a .next)
 
 -- ---- one entry more
 
@@ -103,11 +121,15 @@ module _ (G : Problem) (H : List Entry) (E : Entry) where
 abbrev pub entryOf : Labelling → ℕ → Entry
 entryOf l v = record { vertex = v; time = getD (l .times) v 0; key = getD (l .keys) v 0 }
 
--- v is settled in the labels, and the rest of them stays
-pub record Settles (l l′ : Labelling) (v : ℕ) : Type 0 where
-  pub times-are : l′ .times ≡ l .times
-  pub keys-are : l′ .keys ≡ set (l .keys) v settledKey
-  pub vias-are : l′ .vias ≡ l .vias
+-- the queue has other keys, the times and arcs stay
+abbrev pub withKeys : Labelling → (keys tree : List ℕ) → Labelling
+withKeys l keys tree = labellingOf (l .times) keys (l .vias) tree
+
+-- v is a candidate no more
+pub record Settled (n v : ℕ) (l : Labelling) (keys tree : List ℕ) : Type 0 where
+  pub keys-are : keys ≡ set (l .keys) v settledKey
+  pub right : Tournament (byKey keys) n tree
+  pub tree-long : length tree ≡ length (l .tree)
 
 -- the entry E is logged after the history H
 record Logs (G : Problem) (H : List Entry) (E : Entry) (l : Labelling) : Type 0 where
@@ -130,7 +152,7 @@ module _ {g : Given} {s z : ℕ} (r : Ready g s z) where
 
   pub going-start : {e e′ elapsed log : List ℕ} {l : Labelling} {top : ℕ} → Begun (g .roads) (g .order) (g .live) (g .down) s z e e′ l
       → elapsed ≡ replicate (g .sizes .n) noneWord → Chosen (orderOf l) (g .sizes .n) top
-      → Going g s z e log e′ elapsed log l 0 top
+      → Going g s z e log (standOf e′ elapsed log l 0 top)
   unfolding hasGoal vertices
   going-start b cleared ch = record {
     past = [];
@@ -165,65 +187,81 @@ module _ {g : Given} {s z : ℕ} (r : Ready g s z) where
       })) ∙ ap word (sym (k .pots h))
 
   -- v is logged: what the definition does
-  logs : {e₀ log₀ e elapsed log : List ℕ} {l l′ : Labelling} {c v : ℕ} (d : Going g s z e₀ log₀ e elapsed log l c v)
-      → v < g .sizes .n → Room (g .sizes .n) l
-      → Settles l l′ v → Logs (goGiven g s z) (d .past) (entryOf l v) l′
-  logs {l = l} {l′} {v = v} d lv room t = at (d .next)
+  logs : {e₀ log₀ : List ℕ} {a : Stand} (d : Going g s z e₀ log₀ a) → a .next < g .sizes .n → Room (g .sizes .n) (a .labels)
+      → {keys tree : List ℕ} → Settled (g .sizes .n) (a .next) (a .labels) keys tree
+      → Logs (goGiven g s z) (d .past) (entryOf (a .labels) (a .next)) (withKeys (a .labels) keys tree)
+  logs {a = a} d lv room {keys} {tree} t = at (d .next)
     where
+      l : Labelling
+      l = a .labels
+
+      v : ℕ
+      v = a .next
+
       sized : FirstOf (orderOf l) (g .sizes .n) v → FirstOf (orderOf l) (goGiven g s z .size) v
       sized f = rw (codes r .reads .size-is) f
 
-      at : Next (g .sizes .n) (goGiven g s z) (d .past) l v → Logs (goGiven g s z) (d .past) (entryOf l v) l′
-      at (over a k q labels complete) = absurd (omega arith)
-      at (on a k f labels full free) =
+      at : Next (g .sizes .n) (goGiven g s z) (d .past) l v → Logs (goGiven g s z) (d .past) (entryOf l v) (withKeys l keys tree)
+      at (over c k q labels complete) = absurd (omega arith)
+      at (on c k f labels full free) =
           let n = next-chosen full l (chooses l) labels v (sized f) in
           record {
             reached = grow (d .reached) free n;
             free = free;
             new = new-of n;
             labels =
-                labels-log full (entryOf l v) (new-of n) l l′ labels (t .times-are) (t .vias-are) (t .keys-are)
+                labels-log full (entryOf l v) (new-of n) l (withKeys l keys tree) labels refl refl (t .keys-are)
                 (omega (arith, lv, room .keys-room)) refl (f .waits);
           }
 
-  module _ {e₀ log₀ e elapsed log : List ℕ} {l l′ : Labelling} {c v : ℕ} (d : Going g s z e₀ log₀ e elapsed log l c v)
-      (lv : v < g .sizes .n) (lc : c < length log₀) (room : Room (g .sizes .n) l) (t : Settles l l′ v) where
+  -- one turn: the next node is logged, and is settled in the labels
+  module _ {e₀ log₀ : List ℕ} {a : Stand} (d : Going g s z e₀ log₀ a) (lv : a .next < g .sizes .n) (lc : a .count < length log₀)
+      (room : Room (g .sizes .n) (a .labels)) {keys tree : List ℕ} (t : Settled (g .sizes .n) (a .next) (a .labels) keys tree) where
+    abbrev entry : Entry
+    entry = entryOf (a .labels) (a .next)
+
+    log-then : set (a .log) (a .count) (a .next) ≡ first (vertices (reverse (entry ∷ d .past))) log₀
+    log-then = log-next (d .past) entry log₀ (d .counted) (d .log-is) lc
+
+    elapsed-then : set (a .elapsed) (a .next) (getD (a .labels .times) (a .next) 0)
+        ≡ listed (g .sizes .n) (λ u. word (timeIn (entry ∷ d .past) u))
+    elapsed-then = elapsed-next (d .past) entry (g .sizes .n) lv (d .elapsed-is)
+
     -- it is the target: the log is complete
-    pub turn-goal : v ≡ z → Going g s z e₀ log₀ e (set elapsed v (getD (l .times) v 0)) (set log c v) l′ (c + 1) (g .sizes .n)
+    pub turn-goal : a .next ≡ z → Going g s z e₀ log₀ (logged a (a .estimates) (withKeys (a .labels) keys tree) (g .sizes .n))
     turn-goal q =
         let x = logs d lv room t in
-        let goal = goal-more (goGiven g s z) (d .past) (entryOf l v) (codes r .goals v ∙ eq-eqb v z q) in
+        let goal = goal-more (goGiven g s z) (d .past) entry (codes r .goals (a .next) ∙ eq-eqb (a .next) z q) in
         record {
-          past = entryOf l v ∷ d .past;
+          past = entry ∷ d .past;
           reached = x .reached;
           counted = omega (arith, d .counted);
-          log-is = log-next (d .past) (entryOf l v) log₀ (d .counted) (d .log-is) lc;
-          elapsed-is = elapsed-next (d .past) (entryOf l v) (g .sizes .n) lv (d .elapsed-is);
-          filling = filling-same (asked-older (entryOf l v) (x .new)) (asked-goal (entryOf l v) (x .new) q) (d .filling);
-          next = over v 0 refl (x .labels) (inl goal);
+          log-is = log-then;
+          elapsed-is = elapsed-then;
+          filling = filling-same (asked-older entry (x .new)) (asked-goal entry (x .new) q) (d .filling);
+          next = over (a .next) 0 refl (x .labels) (inl goal);
         }
 
     -- it is not: the estimates of its open roads' heads are asked, and its roads relaxed
-    pub turn-on : {e′ : List ℕ} {l″ : Labelling} {top : ℕ} → (v ≡ z → ⊥) → Asks g v 0 (g .sizes .m) e e′
-        → Relaxes (record { sizes = g .sizes; roads = g .roads; live = g .live; estimates = e′ }) v (getD (l .times) v 0) 0 (g .sizes .m)
-        l′ l″
+    pub turn-on : {e′ : List ℕ} {l″ : Labelling} {top : ℕ} → (a .next ≡ z → ⊥) → Asks g (a .next) 0 (g .sizes .m) (a .estimates) e′
+        → Relaxes (record { sizes = g .sizes; roads = g .roads; live = g .live; estimates = e′ }) (a .next)
+        (getD (a .labels .times) (a .next) 0) 0 (g .sizes .m) (withKeys (a .labels) keys tree) l″
         → Chosen (orderOf l″) (g .sizes .n) top
-        → Going g s z e₀ log₀ e′ (set elapsed v (getD (l .times) v 0)) (set log c v) l″ (c + 1) top
-    turn-on {e′} ne asks relaxes ch =
+        → Going g s z e₀ log₀ (logged a e′ l″ top)
+    turn-on ne asks relaxes ch =
         let k = codes r in
         let x = logs d lv room t in
         let f = asked-heads (d .filling) asks in
-        let free = free-more (goGiven g s z) (d .past) (entryOf l v) (k .goals v ∙ ne-eqb v z ne) (x .free) in
+        let free = free-more (goGiven g s z) (d .past) entry (k .goals (a .next) ∙ ne-eqb (a .next) z ne) (x .free) in
+        let labels = relaxes .exact (goGiven g s z) (entry ∷ d .past) (k .ok) (k .reads) (x .reached)
+        (timeIn-here entry (d .past) (a .next) refl) (known-heads f) (x .labels) in
         record {
-          past = entryOf l v ∷ d .past;
+          past = entry ∷ d .past;
           reached = x .reached;
           counted = omega (arith, d .counted);
-          log-is = log-next (d .past) (entryOf l v) log₀ (d .counted) (d .log-is) lc;
-          elapsed-is = elapsed-next (d .past) (entryOf l v) (g .sizes .n) lv (d .elapsed-is);
+          log-is = log-then;
+          elapsed-is = elapsed-then;
           filling =
-              filling-same (asked-more (entryOf l v) (x .new) ne (k .reads .arcs-are))
-              (asked-more-back (entryOf l v) (x .new) ne (k .reads .arcs-are)) f;
-          next =
-              next-of (relaxes .exact (goGiven g s z) (entryOf l v ∷ d .past) (k .ok) (k .reads) (x .reached)
-              (timeIn-here (entryOf l v) (d .past) v refl) (known-heads f) (x .labels)) (omega (arith, k .reads .arcs-are)) free ch;
+              filling-same (asked-more entry (x .new) ne (k .reads .arcs-are)) (asked-more-back entry (x .new) ne (k .reads .arcs-are)) f;
+          next = next-of labels (omega (arith, k .reads .arcs-are)) free ch;
         }

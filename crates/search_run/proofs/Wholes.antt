@@ -4,7 +4,7 @@ use mathlib.Core.Logic.{_⊎_, inl, inr}
 use mathlib.Core.Bool.{_&&_, false, true}
 use mathlib.Core.Option.{none, some}
 use mathlib.Core.List.{List, []}
-use Prim.Native.Nat.{_*_, _+_, _-_, _<_, _≤_, min, suc, zero, ℕ}
+use Prim.Native.Nat.{_*_, _+_, _-_, _<_, _≤_, min, ℕ}
 use borrow.Author.Tests.{eq-eqb, eqb-false, eqb-true, lt-ltb, ltb-true}
 use lib.Dec.{eqb, ltb}
 use lib.ListN.{getD, getD-replicate, length, length-replicate, length-set, replicate, set}
@@ -24,7 +24,7 @@ use Rattle.model.specs.Laws.{kept-refl, kept-trans}
 use Rattle.network.specs.Locals.{all-same}
 use Rattle.network.specs.declared.Sizes.{Sizes}
 use Rattle.search_queue.specs.Order.{byKey, noKey, settledKey}
-use Rattle.search_queue.specs.Tree.{Choice, Tournament, nobodyWord}
+use Rattle.search_queue.specs.Tree.{Choice, nobodyWord}
 use Rattle.search_queue.specs.Laws.{chosen-inside, fresh-tree}
 use Rattle.search_labels.specs.Labelling.{AsLong, Labelling, Room, labellingOf, orderOf}
 use Rattle.search_labels.specs.Labelled.{Labels}
@@ -36,8 +36,9 @@ use Rattle.search_junctions.specs.Asking.{Asks, EstimatesIn, PairsIn}
 use Rattle.search_junctions.specs.Firsts.{Begins, Blank}
 use Rattle.search_junctions.specs.Relaxing.{Relaxes, ReadIn}
 use Rattle.search_junctions.specs.Facts.{codes}
-use Rattle.search_run.specs.Runs.{Advanced, Advances, Lends, Tells, writtenOf}
-use Rattle.search_run.proofs.Turns.{Going, Next, Settles, chooses, going-start, on, over, turn-goal, turn-on}
+use Rattle.search_run.specs.Runs.{Advanced, Advances, Lends, Tells, Written, writtenOf}
+use Rattle.search_run.proofs.Turns.{Going, Next, Settled, Stand, chooses, going-start, logged, on, over, standOf, turn-goal}
+use Rattle.search_run.proofs.Turns.{turn-on, withKeys}
 
 -- ---- the history of a run
 
@@ -56,8 +57,33 @@ not-complete : {G : Problem} {H : List Entry} {E : Entry} → hasGoal G H ≡ fa
 not-complete free (chosen k p) (inl q) = true-false q free
 not-complete {E = E} free (chosen k p) (inr (finished n)) = n E k
 
-keys-same : (keys : List ℕ) (v k : ℕ) {keys′ : List ℕ} → keys′ ≡ set keys v k → length keys′ ≡ length keys
-keys-same keys v k q = ap length q ∙ length-set keys v k
+-- ---- lengths of the local areas
+
+long-trans : {l l′ l″ : Labelling} → AsLong l l′ → AsLong l′ l″ → AsLong l l″
+long-trans x y = record {
+  times-long = y .times-long ∙ x .times-long;
+  keys-long = y .keys-long ∙ x .keys-long;
+  vias-long = y .vias-long ∙ x .vias-long;
+  tree-long = y .tree-long ∙ x .tree-long;
+}
+
+-- no node has a time or a key, and nobody is at any place of the tree
+abbrev pub blankOf : (vias : List ℕ) → Labelling
+blankOf vias =
+    labellingOf (replicate mostJunctions noneWord) (replicate mostJunctions noKey) vias (replicate (2 * mostJunctions) nobodyWord)
+
+-- they are as long as the code has them
+pub record Locals (l : Labelling) : Type 0 where
+  pub times-are : mostJunctions ≡ length (l .times)
+  pub keys-are : mostJunctions ≡ length (l .keys)
+  pub tree-are : 2 * mostJunctions ≡ length (l .tree)
+
+pub locals-kept : {l l′ : Labelling} → AsLong l l′ → Locals l → Locals l′
+locals-kept long x = record {
+  times-are = x .times-are ∙ sym (long .times-long);
+  keys-are = x .keys-are ∙ sym (long .keys-long);
+  tree-are = x .tree-are ∙ sym (long .tree-long);
+}
 
 -- ---- what is lent on
 
@@ -89,9 +115,7 @@ pub reading : {z : Sizes} {roads live e′ : List ℕ} {order ranks pairs down e
     → ReadIn (record { sizes = z; roads = roads; live = live; estimates = e′ })
 reading x q = record { m-high = x .m-high; roads-are = x .roads-are; live-is = x .live-is; estimates-are = q ∙ x .estimates-are }
 
--- no node has a time or a key, and so nobody is at any place
-pub room-blank : {n : ℕ} {w : List ℕ} → n ≤ mostJunctions → n ≤ length w
-    → Room n (labellingOf (replicate mostJunctions noneWord) (replicate mostJunctions noKey) w (replicate (2 * mostJunctions) nobodyWord))
+pub room-blank : {n : ℕ} {w : List ℕ} → n ≤ mostJunctions → n ≤ length w → Room n (blankOf w)
 room-blank {n} high ways = record {
   n-high = omega arith;
   times-room = simp length-replicate high;
@@ -106,9 +130,7 @@ room-blank {n} high ways = record {
 
 pub blank : {z : Sizes} {order ranks pairs down e w : List ℕ} {roads live t : ℕ}
     → Sized (z .n) (z .m) (z .pairs) roads (length order) (length ranks) (length pairs) live (length down) (length e) t
-    → z .n ≤ length w
-    → Blank z order ranks pairs down e
-    (labellingOf (replicate mostJunctions noneWord) (replicate mostJunctions noKey) w (replicate (2 * mostJunctions) nobodyWord))
+    → z .n ≤ length w → Blank z order ranks pairs down e (blankOf w)
 blank {z} x ways = record {
   over = pairs-in x refl;
   room = room-blank (x .n-high) ways;
@@ -118,34 +140,59 @@ blank {z} x ways = record {
 
 -- the roads of v are linked in the local arrays
 pub linked : {roads : List ℕ} {n m v : ℕ} {rows : List ℕ} → v < n → n ≤ mostJunctions → m ≤ mostRoads → Grouped roads n m rows
-    → length rows ≡ mostJunctions + mostRoads → Links roads n m rows v
+    → mostJunctions + mostRoads ≡ length rows → Links roads n m rows v
 linked lv ln lm grouped a = record { here = lv; rows-room = omega arith; grouped = grouped }
 
 -- ---- the turns
 
--- the test of the loop
-pub turn-taken : (v n c most : ℕ) → ltb v n && ltb c most ≡ true → (v < n) × (c < most)
-turn-taken v n c most h = let q = and-true (ltb v n) (ltb c most) h in (ltb-true v n (q .0), ltb-true c most (q .1))
+-- the loop goes on: v is a node, and the budget is not used up
+pub record Turn (v n c most : ℕ) : Type 0 where
+  pub node-in : v < n
+  pub count-in : c < most
 
-turn-left : {v n c most : ℕ} → ltb v n && ltb c most ≡ false → (v < n) × (c < most) → ⊥
-turn-left {v} {n} {c} {most} h y = true-false refl (rw (lt-ltb v n (y .0), lt-ltb c most (y .1)) at h)
+pub turn-taken : {v n c most : ℕ} → ltb v n && ltb c most ≡ true → Turn v n c most
+turn-taken {v} {n} {c} {most} h =
+    let (node, count) = and-true (ltb v n) (ltb c most) h in
+    record { node-in = ltb-true v n node; count-in = ltb-true c most count }
 
-module _ (g : Given) (s z most : ℕ) where
-  -- From what stands at the beginning of the loop (e, t, log, l, c, v) to what stands now. t and t′ are elapsed.
-  pub record Running (e t log : List ℕ) (l : Labelling) (c v : ℕ) (e′ t′ log′ : List ℕ) (l′ : Labelling) (c′ v′ : ℕ) : Type 0 where
-    pub count-le : c′ ≤ most
-    pub next-le : v′ ≤ g .sizes .n
-    pub estimates-long : length e′ ≡ length e
-    pub elapsed-long : length t′ ≡ length t
-    pub log-long : length log′ ≡ length log
-    pub long : AsLong l l′
-    pub room : Room (g .sizes .n) l′
-    pub kept : Kept e e′
-    pub goes : (e₀ log₀ : List ℕ) → Ready g s z → most ≤ length log₀ → Going g s z e₀ log₀ e t log l c v
-        → Going g s z e₀ log₀ e′ t′ log′ l′ c′ v′
+turn-left : {v n c most : ℕ} → ltb v n && ltb c most ≡ false → Turn v n c most → ⊥
+turn-left {v} {n} {c} {most} h t = true-false refl (rw (lt-ltb v n (t .node-in), lt-ltb c most (t .count-in)) at h)
 
+-- v is settled, and its place in the queue renewed
+module _ {n v : ℕ} {l : Labelling} {keys tree : List ℕ} (s : Settled n v l keys tree) where
+  pub long-settled : AsLong l (withKeys l keys tree)
+  long-settled = record {
+    times-long = refl;
+    keys-long = ap length (s .keys-are) ∙ length-set (l .keys) v settledKey;
+    vias-long = refl;
+    tree-long = s .tree-long;
+  }
+
+  pub room-settled : Room n l → Room n (withKeys l keys tree)
+  room-settled room = record {
+    n-high = room .n-high;
+    times-room = room .times-room;
+    keys-room = omega (arith, room .keys-room, long-settled .keys-long);
+    vias-room = room .vias-room;
+    tree-room = omega (arith, room .tree-room, s .tree-long);
+    right = s .right;
+  }
+
+-- From where the run stands at the beginning of the loop, a, to where it stands now, b.
+pub record Running (g : Given) (s z most : ℕ) (a b : Stand) : Type 0 where
+  pub count-le : b .count ≤ most
+  pub next-le : b .next ≤ g .sizes .n
+  pub estimates-long : length (b .estimates) ≡ length (a .estimates)
+  pub elapsed-long : length (b .elapsed) ≡ length (a .elapsed)
+  pub log-long : length (b .log) ≡ length (a .log)
+  pub long : AsLong (a .labels) (b .labels)
+  pub room : Room (g .sizes .n) (b .labels)
+  pub kept : Kept (a .estimates) (b .estimates)
+  pub goes : (e₀ log₀ : List ℕ) → Ready g s z → most ≤ length log₀ → Going g s z e₀ log₀ a → Going g s z e₀ log₀ b
+
+module _ {g : Given} {s z most : ℕ} where
   pub running-start : {e t log : List ℕ} {l : Labelling} {v : ℕ} → v ≤ g .sizes .n → Room (g .sizes .n) l
-      → Running e t log l 0 v e t log l 0 v
+      → Running g s z most (standOf e t log l 0 v) (standOf e t log l 0 v)
   running-start le room = record {
     count-le = omega arith;
     next-le = le;
@@ -158,85 +205,70 @@ module _ (g : Given) (s z most : ℕ) where
     goes = λ e₀ log₀ r le d. d;
   }
 
-  module _ {e t log : List ℕ} {l : Labelling} {c v : ℕ} {e₁ t₁ log₁ : List ℕ} {l₁ : Labelling} {c₁ v₁ : ℕ}
-      (x : Running e t log l c v e₁ t₁ log₁ l₁ c₁ v₁) (lv : v₁ < g .sizes .n) (lc : c₁ < most) where
-    -- v₁ is settled
-    module _ {keys tree : List ℕ} (settled : keys ≡ set (l₁ .keys) v₁ settledKey) (right : Tournament (byKey keys) (g .sizes .n) tree)
-        (lt : length tree ≡ length (l₁ .tree)) where
-      settles : Settles l₁ (labellingOf (l₁ .times) keys (l₁ .vias) tree) v₁
-      settles = record { times-are = refl; keys-are = settled; vias-are = refl }
+  -- b's next node is logged and settled
+  module _ {a b : Stand} (x : Running g s z most a b) (turn : Turn (b .next) (g .sizes .n) (b .count) most) {keys tree : List ℕ}
+      (settled : Settled (g .sizes .n) (b .next) (b .labels) keys tree) where
+    elapsed-kept : length (set (b .elapsed) (b .next) (getD (b .labels .times) (b .next) 0)) ≡ length (a .elapsed)
+    elapsed-kept = length-set (b .elapsed) (b .next) (getD (b .labels .times) (b .next) 0) ∙ x .elapsed-long
 
-      pub room-settled : Room (g .sizes .n) (labellingOf (l₁ .times) keys (l₁ .vias) tree)
-      room-settled = record {
-        n-high = x .room .n-high;
-        times-room = x .room .times-room;
-        keys-room = omega (arith, x .room .keys-room, keys-same (l₁ .keys) v₁ settledKey settled);
-        vias-room = x .room .vias-room;
-        tree-room = omega (arith, x .room .tree-room, lt);
-        right = right;
-      }
+    log-kept : length (set (b .log) (b .count) (b .next)) ≡ length (a .log)
+    log-kept = length-set (b .log) (b .count) (b .next) ∙ x .log-long
 
-      pub running-goal : eqb v₁ z ≡ true
-          → Running e t log l c v e₁ (set t₁ v₁ (getD (l₁ .times) v₁ 0)) (set log₁ c₁ v₁) (labellingOf (l₁ .times) keys (l₁ .vias) tree)
-          (c₁ + 1) (g .sizes .n)
-      running-goal q = record {
-        count-le = omega arith;
-        next-le = omega arith;
-        estimates-long = x .estimates-long;
-        elapsed-long = length-set t₁ v₁ (getD (l₁ .times) v₁ 0) ∙ x .elapsed-long;
-        log-long = length-set log₁ c₁ v₁ ∙ x .log-long;
-        long = record {
-          times-long = x .long .times-long;
-          keys-long = keys-same (l₁ .keys) v₁ settledKey settled ∙ x .long .keys-long;
-          vias-long = x .long .vias-long;
-          tree-long = lt ∙ x .long .tree-long;
-        };
-        room = room-settled;
-        kept = x .kept;
-        goes = λ e₀ log₀ r le d. turn-goal r (x .goes e₀ log₀ r le d) lv (omega arith) (x .room) settles (eqb-true v₁ z q);
-      }
+    -- it is the target
+    pub running-goal : eqb (b .next) z ≡ true
+        → Running g s z most a (logged b (b .estimates) (withKeys (b .labels) keys tree) (g .sizes .n))
+    running-goal q = record {
+      count-le = omega (arith, turn .count-in);
+      next-le = omega arith;
+      estimates-long = x .estimates-long;
+      elapsed-long = elapsed-kept;
+      log-long = log-kept;
+      long = long-trans (x .long) (long-settled settled);
+      room = room-settled settled (x .room);
+      kept = x .kept;
+      goes = λ e₀ log₀ r le d.
+          turn-goal r (x .goes e₀ log₀ r le d) (turn .node-in) (omega (arith, turn .count-in)) (x .room) settled
+          (eqb-true (b .next) z q);
+    }
 
-      -- and its roads are relaxed
-      pub running-on : {e₂ : List ℕ} {l₂ : Labelling} {v₂ : ℕ} → eqb v₁ z ≡ false → length e₂ ≡ length e₁
-          → AsLong (labellingOf (l₁ .times) keys (l₁ .vias) tree) l₂ → Asks g v₁ 0 (g .sizes .m) e₁ e₂
-          → Relaxes (record { sizes = g .sizes; roads = g .roads; live = g .live; estimates = e₂ }) v₁ (getD (l₁ .times) v₁ 0) 0
-          (g .sizes .m)
-          (labellingOf (l₁ .times) keys (l₁ .vias) tree) l₂
-          → Choice (g .sizes .n) (l₂ .tree) v₂
-          → Running e t log l c v e₂ (set t₁ v₁ (getD (l₁ .times) v₁ 0)) (set log₁ c₁ v₁) l₂ (c₁ + 1) v₂
-      running-on {e₂} {l₂} {v₂} q le long asks relaxes top =
-          let ch = top (orderOf l₂) (omega arith) (relaxes .room .n-high) (relaxes .room .right) in
-          record {
-            count-le = omega arith;
-            next-le = chosen-inside ch;
-            estimates-long = le ∙ x .estimates-long;
-            elapsed-long = length-set t₁ v₁ (getD (l₁ .times) v₁ 0) ∙ x .elapsed-long;
-            log-long = length-set log₁ c₁ v₁ ∙ x .log-long;
-            long = record {
-              times-long = long .times-long ∙ x .long .times-long;
-              keys-long = long .keys-long ∙ keys-same (l₁ .keys) v₁ settledKey settled ∙ x .long .keys-long;
-              vias-long = long .vias-long ∙ x .long .vias-long;
-              tree-long = long .tree-long ∙ lt ∙ x .long .tree-long;
-            };
-            room = relaxes .room;
-            kept = kept-trans (x .kept) (asks .kept);
-            goes = λ e₀ log₀ r le d.
-                turn-on r (x .goes e₀ log₀ r le d) lv (omega arith) (x .room) settles (eqb-false v₁ z q) asks relaxes ch;
-          }
+    -- it is not: its roads are relaxed
+    pub running-on : {e : List ℕ} {l : Labelling} {v : ℕ} → eqb (b .next) z ≡ false → length e ≡ length (b .estimates)
+        → AsLong (withKeys (b .labels) keys tree) l → Asks g (b .next) 0 (g .sizes .m) (b .estimates) e
+        → Relaxes (record { sizes = g .sizes; roads = g .roads; live = g .live; estimates = e }) (b .next)
+        (getD (b .labels .times) (b .next) 0) 0 (g .sizes .m) (withKeys (b .labels) keys tree) l
+        → Choice (g .sizes .n) (l .tree) v → Running g s z most a (logged b e l v)
+    running-on {l = l} q le long asks relaxes top =
+        let ch = top (orderOf l) (omega (arith, turn .node-in)) (relaxes .room .n-high) (relaxes .room .right) in
+        record {
+          count-le = omega (arith, turn .count-in);
+          next-le = chosen-inside ch;
+          estimates-long = le ∙ x .estimates-long;
+          elapsed-long = elapsed-kept;
+          log-long = log-kept;
+          long = long-trans (x .long) (long-trans (long-settled settled) long);
+          room = relaxes .room;
+          kept = kept-trans (x .kept) (asks .kept);
+          goes = λ e₀ log₀ r le d.
+              turn-on r (x .goes e₀ log₀ r le d) (turn .node-in) (omega (arith, turn .count-in)) (x .room) settled
+              (eqb-false (b .next) z q) asks relaxes ch;
+        }
 
 -- ---- the end
 
+-- what the caller has of it
+abbrev pub leaves : Stand → Written
+leaves a = writtenOf (a .estimates) (a .elapsed) (a .labels .vias) (a .log)
+
 -- What stands when the loop is left: the budget is used up, or nothing comes next.
-module _ {g : Given} {s z : ℕ} (r : Ready g s z) {e₀ log₀ e t log : List ℕ} {l : Labelling} {c v : ℕ}
-    (d : Going g s z e₀ log₀ e t log l c v) (budget : ℕ) (low : c ≤ min budget (g .sizes .n))
-    (left : (v < g .sizes .n) × (c < min budget (g .sizes .n)) → ⊥) where
+module _ {g : Given} {s z : ℕ} (r : Ready g s z) {e₀ log₀ : List ℕ} {a : Stand} (d : Going g s z e₀ log₀ a) (budget : ℕ)
+    (low : a .count ≤ min budget (g .sizes .n)) (left : Turn (a .next) (g .sizes .n) (a .count) (min budget (g .sizes .n)) → ⊥) where
   -- whether it is complete, and that all that the budget allows is logged
   record Ends : Type 0 where
-    tells : Tells (eqb v (g .sizes .n)) (Complete (goGiven g s z) (d .past))
-    all : (c ≡ budget) ⊎ Complete (goGiven g s z) (d .past)
+    tells : Tells (eqb (a .next) (g .sizes .n)) (Complete (goGiven g s z) (d .past))
+    all : (a .count ≡ budget) ⊎ Complete (goGiven g s z) (d .past)
     at : ℕ
     upto : ℕ
-    labels : Labels (goGiven g s z) (d .past) at upto l
+    labels : Labels (goGiven g s z) (d .past) at upto (a .labels)
 
   ends : Ends
   ends = go (d .next)
@@ -244,15 +276,24 @@ module _ {g : Given} {s z : ℕ} (r : Ready g s z) {e₀ log₀ e t log : List �
       wf : WellFormed (goGiven g s z)
       wf = codes r .ok .well-formed
 
+      c : ℕ
+      c = a .count
+
+      v : ℕ
+      v = a .next
+
+      l : Labelling
+      l = a .labels
+
       go : Next (g .sizes .n) (goGiven g s z) (d .past) l v → Ends
-      go (over a k q labels complete) = record {
+      go (over u k q labels complete) = record {
         tells = record { yes-is = λ t. complete; no-is = λ f. absurd (true-false (eq-eqb v (g .sizes .n) q) f) };
         all = inr complete;
-        at = a;
+        at = u;
         upto = k;
         labels = labels;
       }
-      go (on a k f labels full free) =
+      go (on u k f labels full free) =
           let n = next-chosen full l (chooses r l) labels v (rw (codes r .reads .size-is) f) in
           let short = length-le wf (grow (d .reached) free n) in
           let lc : c < g .sizes .n = omega (arith, short, d .counted, codes r .reads .size-is) in
@@ -262,42 +303,43 @@ module _ {g : Given} {s z : ℕ} (r : Ready g s z) {e₀ log₀ e t log : List �
               no-is = λ q. not-complete free n;
             };
             all = inl (used (decLt c (min budget (g .sizes .n))) lc (f .inside));
-            at = a;
+            at = u;
             upto = k;
             labels = labels;
           }
         where
           used : Dec (c < min budget (g .sizes .n)) → c < g .sizes .n → v < g .sizes .n → c ≡ budget
-          used (yes y) lc lv = absurd (left (lv, y))
+          used (yes y) lc lv = absurd (left (record { node-in = lv; count-in = y }))
           used (no y) lc lv = omega arith
 
   advanced : {elapsed₀ vias₀ : List ℕ}
-      → Advanced g s z (run (goGiven g s z) budget []) (writtenOf e₀ elapsed₀ vias₀ log₀) (writtenOf e t (l .vias) log) c
-      (eqb v (g .sizes .n))
+      → Advanced g s z (run (goGiven g s z) budget []) (writtenOf e₀ elapsed₀ vias₀ log₀) (leaves a) (a .count)
+      (eqb (a .next) (g .sizes .n))
   advanced {elapsed₀} {vias₀} =
-      subst (λ (H : List Entry). Advanced g s z H (writtenOf e₀ elapsed₀ vias₀ log₀) (writtenOf e t (l .vias) log) c (eqb v (g .sizes .n)))
+      subst (λ (H : List Entry). Advanced g s z H (writtenOf e₀ elapsed₀ vias₀ log₀) (leaves a) (a .count) (eqb (a .next) (g .sizes .n)))
       (run-of (codes r .ok .well-formed) (d .reached) (d .counted) (omega arith) (ends .all)) (record {
         count-is = sym (d .counted);
         log-is = d .log-is;
         elapsed-is = d .elapsed-is;
         filling = d .filling;
-        ways = λ v t lv h. way-at l (ends .labels) v t lv h;
+        ways = λ v t lv h. way-at (a .labels) (ends .labels) v t lv h;
         complete-is = ends .tells;
       })
 
--- the run as a whole: its first candidate, and its turns
-pub advances : {g : Given} {s z budget most : ℕ} {e elapsed₀ vias₀ log₀ : List ℕ} {e₁ t₁ : List ℕ} {l₁ : Labelling} {v₁ : ℕ}
-    {e₂ t₂ log₂ : List ℕ} {l₂ : Labelling} {c v : ℕ} → Lends g s z (writtenOf e elapsed₀ vias₀ log₀)
-    → Begins (g .sizes) (g .order) (g .ranks) (g .pairs) (g .down) s e e₁ l₁ → t₁ ≡ replicate (length elapsed₀) noneWord
-    → Choice (g .sizes .n) (l₁ .tree) v₁ → most ≡ min budget (g .sizes .n)
-    → Running g s z most e₁ t₁ log₀ l₁ 0 v₁ e₂ t₂ log₂ l₂ c v → ltb v (g .sizes .n) && ltb c most ≡ false
-    → Advances g s z budget (writtenOf e elapsed₀ vias₀ log₀) (writtenOf e₂ t₂ (l₂ .vias) log₂) c (eqb v (g .sizes .n))
-advances {g} {budget = budget} {most} {e} {log₀ = log₀} {l₁ = l₁} lends begun cleared top most-is x left = record {
+-- the run as a whole: its first candidate, and its turns. e₁, t₁, l₁ and v₁ stand when the loop begins.
+pub advances : {g : Given} {s z budget most : ℕ} {l₀ : Written} {e₁ t₁ : List ℕ} {l₁ : Labelling} {v₁ : ℕ} {a : Stand}
+    → Lends g s z l₀ → Begins (g .sizes) (g .order) (g .ranks) (g .pairs) (g .down) s (l₀ .estimates) e₁ l₁
+    → t₁ ≡ replicate (length (l₀ .elapsed)) noneWord → Choice (g .sizes .n) (l₁ .tree) v₁ → most ≡ min budget (g .sizes .n)
+    → Running g s z most (standOf e₁ t₁ (l₀ .log) l₁ 0 v₁) a → ltb (a .next) (g .sizes .n) && ltb (a .count) most ≡ false
+    → Advances g s z budget l₀ (leaves a) (a .count) (eqb (a .next) (g .sizes .n))
+advances {g} {budget = budget} {most} {l₀} {l₁ = l₁} lends begun cleared top most-is x left = record {
   kept = kept-trans (begun .kept) (x .kept);
   count-le = omega (arith, x .count-le);
   exact = λ r a.
-      let ch = top (orderOf l₁) (omega (arith, lends .0)) (begun .room .n-high) (begun .room .right) in
-      let none = cleared ∙ ap (λ (k : ℕ). replicate k noneWord) (lends .4 .elapsed-is) in
-      let d = x .goes e log₀ r (omega (arith, lends .3)) (going-start r (begun .exact (g .roads) (g .live) _ r a) none ch) in
-      advanced r d budget (omega (arith, x .count-le)) (λ y. turn-left {most = most} left (y .0, omega (arith, y .1)));
+      let ch = top (orderOf l₁) (omega (arith, lends .start-in)) (begun .room .n-high) (begun .room .right) in
+      let none = cleared ∙ ap (λ (k : ℕ). replicate k noneWord) (lends .sized .elapsed-is) in
+      let d = x .goes (l₀ .estimates) (l₀ .log) r (omega (arith, lends .log-long))
+      (going-start r (begun .exact (g .roads) (g .live) _ r a) none ch) in
+      advanced r d budget (omega (arith, x .count-le))
+      (λ t. turn-left {most = most} left (record { node-in = t .node-in; count-in = omega (arith, t .count-in) }));
 }

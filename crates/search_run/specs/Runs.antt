@@ -32,9 +32,12 @@ abbrev pub written : (estimates elapsed ways log : RefT (List ℕ)) → Written
 written a b c d = writtenOf (a .now) (b .now) (c .now) (d .now)
 
 -- start and target are junctions, and there is room for what is written
-abbrev pub Lends : Given → (s z : ℕ) → Written → Type 0
-Lends g s z l = (s < g .sizes .n) × (z < g .sizes .n) × (g .sizes .n ≤ length (l .ways)) × (g .sizes .n ≤ length (l .log))
-    × SizedIn g (l .estimates) (l .elapsed)
+pub record Lends (g : Given) (s z : ℕ) (l : Written) : Type 0 where
+  pub start-in : s < g .sizes .n
+  pub target-in : z < g .sizes .n
+  pub ways-long : g .sizes .n ≤ length (l .ways)
+  pub log-long : g .sizes .n ≤ length (l .log)
+  pub sized : SizedIn g (l .estimates) (l .elapsed)
 
 -- ---- what a run leaves
 

@@ -1,4 +1,4 @@
--- A go by what its questions and its search say. Assumes nothing.
+-- A go by what its questions and its search say: refused (`go-refused`), or made (`go-handed`). Assumes nothing.
 use mathlib.Core.Path.{_∙_, _≡_, ap, ap₂, refl, subst, subst₂, sym}
 use mathlib.Core.Logic.{_⊎_, inl, inr}
 use mathlib.Core.Bool.{Bool, _&&_, false, true}
@@ -12,19 +12,18 @@ use native.Mathlib.Omega.{arith}
 use Rattle.graph.specs.Total.{Total, and-true, some-some}
 use Rattle.graph.specs.Search.{countOf, history, logOf, routeOf, timeIn, totalOf, vertices}
 use Rattle.graph.specs.Map.{Map}
-use Rattle.model.specs.Types as model
 use Rattle.model.specs.Types.{Answer, Header, Lengths, LentLengths, NoJunction, NoTarget, Refusal}
 use Rattle.model.specs.Word.{noneWord, ofWord, ofWord-word, word}
 use Rattle.model.specs.Bytes.{listed}
 use Rattle.model.specs.Limits.{mostTotal}
 use Rattle.model.specs.Card.{andThen, ask, mapOn}
 use Rattle.model.specs.Areas.{Areas, Each, lengths}
-use Rattle.model.specs.State.{Lent, Step, answering, first, leaving}
+use Rattle.model.specs.State.{Lent, Step, answering, first}
 use Rattle.model.specs.Machine.{isAt, targetOf}
 use Rattle.model.specs.Set.{settable}
 use Rattle.model.specs.Estimate.{filled, withEstimates}
 use Rattle.model.specs.Go.{asks, goAnswer, goMade, goRefusal, goRoute, liveOf, searchOf}
-use Rattle.model.specs.Calls.{Go, calling, goCall, knownOf, refusalBy}
+use Rattle.model.specs.Calls.{goCall, knownOf}
 use Rattle.model.specs.Contracts.{CallContract, after, baseOn, before, refusing}
 use Rattle.model.specs.Laws.{andThen-none, ask-none, kept-refl}
 use Rattle.model.specs.Good.{AimFacts, Good}
@@ -44,45 +43,65 @@ use Rattle.unit.specs.declared.Answered.{Answered}
 use Rattle.unit.specs.Shape.{answeredIn, headerIn, targetIn}
 use Rattle.unit.specs.Meets.{asksGo}
 use Rattle.unit.proofs.Bodies.{good-map, good-prepared}
+use Rattle.unit.proofs.Fitting.{Fits, fits-facts}
 use Rattle.unit.proofs.Made.{aimed-at}
 use Rattle.unit.proofs.Refused.{made-by, never-left, refused-by}
 
 -- ---- the questions
 
--- what a go may rely on once none of its questions refuses
-pub record GoFacts (h : Header) (s route log : ℕ) : Type 0 where
+-- what a go may rely on once none of its own questions refuses
+pub record GoFacts (h : Header) (s : ℕ) (k : Lent) : Type 0 where
   pub start : s < h .n
   pub aimed : isAt (h .target) ≡ true
-  pub route-room : h .n ≤ route
-  pub log-room : h .n ≤ log
+  pub route-room : h .n ≤ length (k .route)
+  pub log-room : h .n ≤ length (k .log)
 
-pub go-facts : (h : Header) (base : ℕ → Total) (s route log : ℕ) → goRefusal (knownOf base h) s route log ≡ none → GoFacts h s route log
+-- the go's own questions
+abbrev own : (card : List ℕ) → Header → (start : ℕ) → Lent → Option Refusal
+own card h s k = goRefusal (knownOf (baseOn card) h) s (length (k .route)) (length (k .log))
+
+go-facts : (card : List ℕ) (h : Header) (s : ℕ) (k : Lent) → own card h s k ≡ none → GoFacts h s k
 unfolding goRefusal
-go-facts h base s route log e =
-    let p = ask-none (ltb s (h .n)) NoJunction _ e in
-    let t = ask-none (isAt (h .target)) NoTarget _ (p .1) in
-    let k = ask-none (leb (h .n) route && leb (h .n) log) LentLengths none (t .1) in
-    let b = and-true (leb (h .n) route) (leb (h .n) log) (k .0) in
+go-facts card h s k e =
+    let roomy = leb (h .n) (length (k .route)) && leb (h .n) (length (k .log)) in
+    let (below, then) = ask-none (ltb s (h .n)) NoJunction _ e in
+    let (aimed, lent) = ask-none (isAt (h .target)) NoTarget _ then in
+    let (roomy-is, _) = ask-none roomy LentLengths none lent in
+    let (route-is, log-is) = and-true (leb (h .n) (length (k .route))) (leb (h .n) (length (k .log))) roomy-is in
     record {
-      start = ltb-true s (h .n) (p .0);
-      aimed = t .0;
-      route-room = leb-true (h .n) route (b .0);
-      log-room = leb-true (h .n) log (b .1);
+      start = ltb-true s (h .n) below;
+      aimed = aimed;
+      route-room = leb-true (h .n) (length (k .route)) route-is;
+      log-room = leb-true (h .n) (length (k .log)) log-is;
     }
 
--- what passed: 9, the go's own questions, and the target's range
-pub record GoPassed (h : Header) (base : ℕ → Total) (card : ℕ) (l : Each ℕ) (s route log : ℕ) : Type 0 where
-  pub fits : fitsBy h card l ≡ true
-  pub asked : goRefusal (knownOf base h) s route log ≡ none
-  pub target : targetOf (h .target) < h .n
+-- what is asked of a go: 9, its own questions, and the target's range
+abbrev pub goVerdict : (card : List ℕ) → Header → Each ℕ → (start : ℕ) → Lent → Option Refusal
+goVerdict card h l s k = asksGo (baseOn card) h (length card) l s (length (k .route)) (length (k .log))
 
-pub go-passed : (h : Header) (base : ℕ → Total) (card : ℕ) (l : Each ℕ) (s route log : ℕ) {x : Verdict} → x ≡ Passed
-    → verdictIn x ≡ asksGo base h card l s route log → GoPassed h base card l s route log
-go-passed h base card l s route log e k =
-    let p = andThen-none (ask (fitsBy h card l) Lengths (goRefusal (knownOf base h) s route log)) _ (sym (ap verdictIn (sym e) ∙ k)) in
-    let q = ask-none (fitsBy h card l) Lengths (goRefusal (knownOf base h) s route log) (p .0) in
-    let t = ask-none (ltb (targetOf (h .target)) (h .n)) Lengths none (p .1) in
-    record { fits = q .0; asked = q .1; target = ltb-true (targetOf (h .target)) (h .n) (t .0) }
+-- and passed
+pub record GoPassed (card : List ℕ) (u : unit.Header) (l : Each ℕ) (s : ℕ) (k : Lent) : Type 0 where
+  pub fits : fitsBy (headerIn u) (length card) l ≡ true
+  pub asked : own card (headerIn u) s k ≡ none
+  pub sizes : Fits (headerIn u) card l
+  pub facts : GoFacts (headerIn u) s k
+  pub target : targetOf (targetIn (u .target)) < u .sizes .n
+
+pub go-passed : {card : List ℕ} {u : unit.Header} {l : Each ℕ} {s : ℕ} {k : Lent} {x : Verdict} → x ≡ Passed
+    → verdictIn x ≡ goVerdict card (headerIn u) l s k → GoPassed card u l s k
+go-passed {card} {u} {l} {s} {k} passes verdict-is =
+    let h = headerIn u in
+    let none-says-no = sym (ap verdictIn (sym passes) ∙ verdict-is) in
+    let (first-ones, then) = andThen-none (ask (fitsBy h (length card) l) Lengths (own card h s k)) _ none-says-no in
+    let (fits, asked) = ask-none (fitsBy h (length card) l) Lengths (own card h s k) first-ones in
+    let (inside, _) = ask-none (ltb (targetOf (h .target)) (h .n)) Lengths none then in
+    record {
+      fits = fits;
+      asked = asked;
+      sizes = fits-facts fits;
+      facts = go-facts card h s k asked;
+      target = ltb-true (targetOf (h .target)) (h .n) inside;
+    }
 
 -- a refusal is that of 9 and 12 to 14, or 9 again for the target
 which : (o : Option Refusal) (b : Bool) (q : Refusal) → some q ≡ andThen o (ask b Lengths none)
@@ -95,40 +114,37 @@ which none false q e = inr (refl, refl, some-some refl e)
 
 module _ (card : List ℕ) (h : unit.Header) (a : Areas) (s : ℕ) (k : Lent) where
   -- no list of calls leaves a target out of range
-  astray : fitsBy (headerIn h) (length card) (lengths a) ≡ true
-      → goRefusal (knownOf (baseOn card) (headerIn h)) s (length (k .route)) (length (k .log)) ≡ none
+  astray : fitsBy (headerIn h) (length card) (lengths a) ≡ true → own card (headerIn h) s k ≡ none
       → h .sizes .n ≤ targetOf (targetIn (h .target))
       → CallContract card (before (headerIn h) a) (goCall s k) (refusing Lengths (before (headerIn h) a) (goCall s k))
   astray f x o =
-      let facts = go-facts (headerIn h) (baseOn card) s (length (k .route)) (length (k .log)) x in
-      never-left card (headerIn h) a (goCall s k) f x _ (λ g. out g (aimed-at g (facts .aimed) .below))
-      (record { leaves = refl; kept = kept-refl })
+      never-left f x (λ g. out g (aimed-at g (go-facts card (headerIn h) s k x .aimed) .below)) (record { leaves = refl; kept = kept-refl })
     where
       out : Good card (before (headerIn h) a) → targetOf (targetIn (h .target)) < mapOn card .vertices → ⊥
       out g y = omega (arith, g .n-is)
 
-  pub go-refused : {x : Verdict} {q : code.Refusal} {r : Answered} → x ≡ Failed q
-      → verdictIn x ≡ asksGo (baseOn card) (headerIn h) (length card) (lengths a) s (length (k .route)) (length (k .log))
-      → r ≡ record { header = h; answer = answers.Refused q }
-      → CallContract card (before (headerIn h) a) (goCall s k) (after (answeredIn r) a k)
-  go-refused {x} {q} {r} e v i =
-      let o = ask (fitsBy (headerIn h) (length card) (lengths a)) Lengths (refusalBy (baseOn card) (headerIn h) (goCall s k)) in
-      let b = ltb (targetOf (targetIn (h .target))) (h .sizes .n) in
-      subst (λ (y : Answered). CallContract card (before (headerIn h) a) (goCall s k) (after (answeredIn y) a k)) (sym i)
-      (go (which o b (refusalIn q) (ap verdictIn (sym e) ∙ v)))
-    where
-      first-refusal : Option Refusal
-      first-refusal = ask (fitsBy (headerIn h) (length card) (lengths a)) Lengths (refusalBy (baseOn card) (headerIn h) (goCall s k))
+pub go-refused : {card : List ℕ} {h : unit.Header} {a : Areas} {s : ℕ} {k : Lent} {x : Verdict} {q : code.Refusal} {r : Answered}
+    → x ≡ Failed q → verdictIn x ≡ goVerdict card (headerIn h) (lengths a) s k → r ≡ record { header = h; answer = answers.Refused q }
+    → CallContract card (before (headerIn h) a) (goCall s k) (after (answeredIn r) a k)
+go-refused {card} {h} {a} {s} {k} {q = q} fails verdict-is handed =
+    let inside = ltb (targetOf (targetIn (h .target))) (h .sizes .n) in
+    subst (λ (y : Answered). CallContract card (before (headerIn h) a) (goCall s k) (after (answeredIn y) a k)) (sym handed)
+    (go (which (ask fits Lengths (own card (headerIn h) s k)) inside (refusalIn q) (ap verdictIn (sym fails) ∙ verdict-is)))
+  where
+    fits : Bool
+    fits = fitsBy (headerIn h) (length card) (lengths a)
 
-      go : (some (refusalIn q) ≡ first-refusal)
-          ⊎ ((first-refusal ≡ none)
-          × (ltb (targetOf (targetIn (h .target))) (h .sizes .n) ≡ false) × (refusalIn q ≡ Lengths))
-          → CallContract card (before (headerIn h) a) (goCall s k) (refusing (refusalIn q) (before (headerIn h) a) (goCall s k))
-      go (inl y) = refused-by card (headerIn h) a (goCall s k) (refusalIn q) y
-      go (inr y) =
-          let p = ask-none (fitsBy (headerIn h) (length card) (lengths a)) Lengths _ (y .0) in
-          subst (λ (u : Refusal). CallContract card (before (headerIn h) a) (goCall s k) (refusing u (before (headerIn h) a) (goCall s k)))
-          (sym (y .2)) (astray (p .0) (p .1) (ltb-false (targetOf (targetIn (h .target))) (h .sizes .n) (y .1)))
+    Refusing : Refusal → Type 0
+    Refusing u = CallContract card (before (headerIn h) a) (goCall s k) (refusing u (before (headerIn h) a) (goCall s k))
+
+    go : (some (refusalIn q) ≡ ask fits Lengths (own card (headerIn h) s k))
+        ⊎ ((ask fits Lengths (own card (headerIn h) s k) ≡ none)
+        × (ltb (targetOf (targetIn (h .target))) (h .sizes .n) ≡ false) × (refusalIn q ≡ Lengths)) → Refusing (refusalIn q)
+    go (inl y) = refused-by y
+    go (inr (first-none, outside, is-9)) =
+        let (fits-is, asked) = ask-none fits Lengths (own card (headerIn h) s k) first-none in
+        subst Refusing (sym is-9)
+        (astray card h a s k fits-is asked (ltb-false (targetOf (targetIn (h .target))) (h .sizes .n) outside))
 
 -- ---- a go that was made
 
@@ -177,16 +193,15 @@ module _ (card : List ℕ) (h : Header) (a : Areas) (s : ℕ) (k : Lent) where
         below-marks : (t : ℕ) → t ≤ mostTotal → t < noneWord
         below-marks t q = omega arith
 
-    pub go-made : fitsBy h (length card) (lengths a) ≡ true
-        → goRefusal (knownOf (baseOn card) h) s (length (k .route)) (length (k .log)) ≡ none
-        → {z : ℕ} → z ≡ targetOf (h .target) → roads ≡ roadsIn card (h .m) → order ≡ orderIn card (h .n) (h .m)
+    go-made : fitsBy h (length card) (lengths a) ≡ true → own card h s k ≡ none → {z : ℕ} → z ≡ targetOf (h .target)
+        → roads ≡ roadsIn card (h .m) → order ≡ orderIn card (h .n) (h .m)
         → Searches roads order (a .built .ranks) (a .built .pairs) (a .live) (a .aimed .down) (h .pairs) s z (a .aimed .estimates)
         (k .route) (k .log) e elapsed route log total count number
         → x ≡ goAnswer (ofWord total) count number
         → CallContract card (before h a) (goCall s k) (answering x (before h (goneAreas a e elapsed)) (lentOf route log))
     unfolding left-by
-    go-made f g {z} ez er eo d y =
-        made-by card h a (goCall s k) f g _ (λ w. exactly w (subst (Searched roads order) ez d)) (record { leaves = refl; kept = d .kept })
+    go-made f g {z} target-is roads-are order-is d answer-is =
+        made-by f g (λ w. exactly w (subst (Searched roads order) target-is d)) (record { leaves = refl; kept = d .kept })
       where
         Searched : (roads order : List ℕ) → ℕ → Type 0
         Searched r o z = Searches r o (a .built .ranks) (a .built .pairs) (a .live) (a .aimed .down) (h .pairs) s z (a .aimed .estimates)
@@ -196,27 +211,24 @@ module _ (card : List ℕ) (h : Header) (a : Areas) (s : ℕ) (k : Lent) where
             → left-by x e elapsed route log ≡ goMade (mapOn card) (before h a) s k
         exactly w searched =
             let z = targetOf (h .target) in
-            let aims = aimed-at w (go-facts h (baseOn card) s (length (k .route)) (length (k .log)) g .aimed) in
-            let here : mapIn roads order ≡ mapOn card = ap₂ mapIn er eo ∙ good-map w in
+            let here : mapIn roads order ≡ mapOn card = ap₂ mapIn roads-are order-is ∙ good-map w in
             let prepared = subst₂ (λ (r : List ℕ) (o : List ℕ). Prepared r o (a .built .ranks) (a .built .pairs) (h .pairs))
-            (sym er) (sym eo) (good-prepared w) in
-            let q = searched .exact prepared (subst (λ (N : Map). AimFacts N z (a .aimed .down) (a .aimed .estimates)) (sym here) aims)
-            (subst (λ (N : Map). (i : ℕ) → i < N .base .arcs → settable (N .base .cost i) (liveOf (a .live) i) ≡ true)
-            (sym here) (w .times)) in
-            found-is q y ∙ ap gone-on here ∙ made-is
+            (sym roads-are) (sym order-is) (good-prepared w) in
+            let aims = subst (λ (N : Map). AimFacts N z (a .aimed .down) (a .aimed .estimates)) (sym here)
+            (aimed-at w (go-facts card h s k g .aimed)) in
+            let times = subst (λ (N : Map). (i : ℕ) → i < N .base .arcs → settable (N .base .cost i) (liveOf (a .live) i) ≡ true)
+            (sym here) (w .times) in
+            found-is (searched .exact prepared aims times) answer-is ∙ ap gone-on here ∙ made-is
 
 -- the same of what is handed back
-module _ (card : List ℕ) (h : unit.Header) (a : Areas) (s : ℕ) (k : Lent) where
-  pub go-handed : {roads order e elapsed route log : List ℕ} {total count number : ℕ} {x : code-answer.Answer}
-      → fitsBy (headerIn h) (length card) (lengths a) ≡ true
-      → goRefusal (knownOf (baseOn card) (headerIn h)) s (length (k .route)) (length (k .log)) ≡ none
-      → {z : ℕ} → z ≡ targetOf (targetIn (h .target)) → roads ≡ roadsIn card (h .sizes .m)
-      → order ≡ orderIn card (h .sizes .n) (h .sizes .m)
-      → Searches roads order (a .built .ranks) (a .built .pairs) (a .live) (a .aimed .down) (h .sizes .pairs) s z (a .aimed .estimates)
-      (k .route) (k .log) e elapsed route log total count number
-      → answerIn x ≡ goAnswer (ofWord total) count number → (r : Answered) → r ≡ record { header = h; answer = x }
-      → CallContract card (before (headerIn h) a) (goCall s k) (after (answeredIn r) (goneAreas a e elapsed) (lentOf route log))
-  go-handed {e = e} {elapsed} {route} {log} f g ez er eo d y r i =
-      subst (λ (u : Answered). CallContract card (before (headerIn h) a) (goCall s k)
-      (after (answeredIn u) (goneAreas a e elapsed) (lentOf route log)))
-      (sym i) (go-made card (headerIn h) a s k f g ez er eo d y)
+pub go-handed : {card : List ℕ} {h : unit.Header} {a : Areas} {s : ℕ} {k : Lent} {roads order e elapsed route log : List ℕ}
+    {total count number : ℕ} {x : code-answer.Answer} {r : Answered} → GoPassed card h (lengths a) s k
+    → {z : ℕ} → z ≡ targetOf (targetIn (h .target)) → roads ≡ roadsIn card (h .sizes .m) → order ≡ orderIn card (h .sizes .n) (h .sizes .m)
+    → Searches roads order (a .built .ranks) (a .built .pairs) (a .live) (a .aimed .down) (h .sizes .pairs) s z (a .aimed .estimates)
+    (k .route) (k .log) e elapsed route log total count number
+    → answerIn x ≡ goAnswer (ofWord total) count number → r ≡ record { header = h; answer = x }
+    → CallContract card (before (headerIn h) a) (goCall s k) (after (answeredIn r) (goneAreas a e elapsed) (lentOf route log))
+go-handed {card} {h} {a} {s} {k} {e = e} {elapsed} {route} {log} p target-is roads-are order-is searched answer-is handed =
+    subst (λ (u : Answered). CallContract card (before (headerIn h) a) (goCall s k)
+    (after (answeredIn u) (goneAreas a e elapsed) (lentOf route log)))
+    (sym handed) (go-made card (headerIn h) a s k (p .fits) (p .asked) target-is roads-are order-is searched answer-is)

@@ -1,13 +1,12 @@
 -- What the functions that ask say, in the words of the definitions; go's answer. Assumes nothing.
 use mathlib.Core.Path.{_∙_, _≡_, ap, ap₂, refl, sym}
-use mathlib.Core.Logic.{_≢_}
 use mathlib.Core.Bool.{Bool, _&&_, false, true}
 use mathlib.Core.Option.{Option, none, some}
 use mathlib.Core.List.{List}
 use Prim.Native.Nat.{_*_, _+_, _<_, _≤_, ℕ}
-use borrow.Author.Tests.{le-ltb, lt-ltb, ne-eqb}
-use lib.Dec.{leb, ltb}
-use native.Mathlib.Omega.{arith}
+use borrow.Author.Tests.{eqb-true, le-ltb, lt-ltb}
+use lib.Dec.{eqb, leb, ltb}
+use lib.ListN.{length}
 use Rattle.graph.specs.Total.{Total}
 use Rattle.model.specs.Types.{Gone, Header, Lengths, LentLengths, NoJunction, NoPath, NoRoad, NoTarget, NotAllowed, Refusal, Refused}
 use Rattle.model.specs.Word.{noneWord, ofWord, ofWord-none}
@@ -19,7 +18,7 @@ use Rattle.model.specs.Set.{setRefusal, settable}
 use Rattle.model.specs.Aim.{aimRefusal}
 use Rattle.model.specs.Estimate.{estimateRefusal}
 use Rattle.model.specs.Go.{goAnswer, goRefusal}
-use Rattle.model.specs.Calls.{Aim, Estimate, Set, knownOf}
+use Rattle.model.specs.Calls.{Aim, Estimate, Set}
 use Rattle.model.specs.Contracts.{baseOn}
 use Rattle.card_layout.specs.Parts.{roadsIn}
 use Rattle.unit_questions.specs.Lending.{fitsBy}
@@ -68,31 +67,35 @@ module _ (base : ℕ → Total) (h : Header) (card : ℕ) (l : Each ℕ) where
   go-asks s r k e =
       e ∙ in-a-row (fitsBy h card l) (ltb s (h .n)) (isAt (h .target)) (leb (h .n) r && leb (h .n) k) (ltb (targetOf (h .target)) (h .n))
 
-  module _ (i t : ℕ) where
-    pub set-9 : {b : Bool} → b ≡ fitsBy h card l → b ≡ false → some Lengths ≡ asks base h card l (Set i t) 0 0
-    set-9 e f = rw (sym e ∙ f)
+-- ---- a set's, one after the other
 
-    pub set-10 : {b : Bool} → b ≡ fitsBy h card l → b ≡ true → h .m ≤ i → some NoRoad ≡ asks base h card l (Set i t) 0 0
-    unfolding setRefusal
-    set-10 e f k = rw (sym e ∙ f, le-ltb i (h .m) k)
+-- fits is what 9 was told of the header, the card and the lengths
+module _ (card : List ℕ) (h : Header) (l : Each ℕ) (i t : ℕ) {fits : Bool} (told : fits ≡ fitsBy h (length card) l) where
+  abbrev set-asks : Option Refusal
+  set-asks = asks (baseOn card) h (length card) l (Set i t) 0 0
 
-    pub set-11 : {b c : Bool} → b ≡ fitsBy h card l → b ≡ true → i < h .m → {x : Option Refusal} → x ≡ ask c NotAllowed none
-        → c ≡ settable (base i) (ofWord t) → x ≡ asks base h card l (Set i t) 0 0
-    unfolding setRefusal
-    set-11 e f k y g = y ∙ rw (sym e ∙ f, lt-ltb i (h .m) k, g)
+  pub set-9 : fits ≡ false → some Lengths ≡ set-asks
+  set-9 f = rw (sym told ∙ f)
 
--- question 11 of the word that was read in the part of the card that was handed on
-pub word-read : (card roads : List ℕ) (m i b t : ℕ) {r : Bool} → i < m → roads ≡ roadsIn card m → b ≡ wordAt roads (12 * i + 8)
-    → r ≡ settable (some b) (ofWord t) → r ≡ settable (baseOn card i) (ofWord t)
-word-read card roads m i b t l e k y =
-    y ∙ ap (λ (x : ℕ). settable (some x) (ofWord t)) (k ∙ ap (λ (x : List ℕ). wordAt x (12 * i + 8)) e ∙ road-word card m i l)
+  pub set-10 : fits ≡ true → h .m ≤ i → some NoRoad ≡ set-asks
+  unfolding setRefusal
+  set-10 f k = rw (sym told ∙ f, le-ltb i (h .m) k)
+
+  -- 11 is asked of the base time b, read in the part of the card that was handed on
+  pub set-11 : {x : Option Refusal} {allowed : Bool} {roads : List ℕ} {b : ℕ} → fits ≡ true → i < h .m → x ≡ ask allowed NotAllowed none
+      → roads ≡ roadsIn card (h .m) → b ≡ wordAt roads (12 * i + 8) → allowed ≡ settable (some b) (ofWord t) → x ≡ set-asks
+  unfolding setRefusal
+  set-11 f k asked-is roads-are base-is allowed-is =
+      let read = base-is ∙ ap (λ (x : List ℕ). wordAt x (12 * i + 8)) roads-are ∙ road-word card (h .m) i k in
+      asked-is ∙ rw (sym told ∙ f, lt-ltb i (h .m) k, allowed-is, read)
 
 -- ---- go's answer
 
-module _ (total c k : ℕ) where
-  pub gone-none : total ≡ noneWord → Refused (NoPath c) ≡ goAnswer (ofWord total) c k
-  gone-none e = rw (e, ofWord-none)
+-- once the code has asked whether the total is the mark none
+module _ (total c k : ℕ) {is-none : Bool} (asked-is : is-none ≡ eqb total noneWord) where
+  pub gone-none : is-none ≡ true → Refused (NoPath c) ≡ goAnswer (ofWord total) c k
+  gone-none e = rw (eqb-true total noneWord (sym asked-is ∙ e), ofWord-none)
 
-  pub gone-some : total ≢ noneWord → Gone total c k ≡ goAnswer (ofWord total) c k
+  pub gone-some : is-none ≡ false → Gone total c k ≡ goAnswer (ofWord total) c k
   unfolding ofWord
-  gone-some e = rw (ne-eqb total noneWord e)
+  gone-some e = rw (sym asked-is ∙ e)

@@ -1,10 +1,10 @@
 -- A call that a question refuses, and one that none refuses, meet their contract. Assumes nothing.
 use mathlib.Core.Path.{_∙_, _≡_, ap, refl, subst, sym}
-use mathlib.Core.Logic.{_⊎_, inl, inr}
-use mathlib.Core.Bool.{Bool, _&&_, false, true}
+use mathlib.Core.Logic.{inl, inr}
+use mathlib.Core.Bool.{false, true}
 use mathlib.Core.Option.{Option, none, some}
 use mathlib.Core.List.{List}
-use Prim.Native.Nat.{_+_, _<_, _≤_, ℕ}
+use Prim.Native.Nat.{_+_, _<_, ℕ}
 use borrow.Author.Tests.{le-ltb}
 use lib.ListN.{length}
 use native.Mathlib.Decide.{decLt}
@@ -14,13 +14,12 @@ use Rattle.model.specs.Types.{Header, Lengths, Refusal}
 use Rattle.model.specs.Card.{ask, mapOn}
 use Rattle.model.specs.Areas.{Areas, lengths}
 use Rattle.model.specs.State.{Lent, State, Step, fitting, inRange}
-use Rattle.model.specs.Machine.{isAt, targetOf}
 use Rattle.model.specs.Set.{setRefusal}
 use Rattle.model.specs.Aim.{aimRefusal}
 use Rattle.model.specs.Estimate.{estimateRefusal}
 use Rattle.model.specs.Go.{goRefusal}
 use Rattle.model.specs.Calls.{Aim, Asked, Call, Estimate, Go, Left, Set, Writes, calling, made, refusalBy, step}
-use Rattle.model.specs.Contracts.{Anywhere, CallContract, baseOn, before, refusing}
+use Rattle.model.specs.Contracts.{CallContract, baseOn, before, refusing}
 use Rattle.model.specs.Good.{Good, left-good, left-in-range, zero-refused}
 use Rattle.model.specs.Chain.{step-lengths}
 use Rattle.unit_questions.specs.Lending.{fitsBy}
@@ -56,9 +55,16 @@ passed-there base h c e = go (decLt 0 (h .n + h .m))
     go (yes l) = l
     go (no l) = let z = zero-refused base h c (omega arith) in absurd (none-some e (z .1))
 
+-- where no question says no, a step is what was made
+steps-made : (card : List ℕ) (h : Header) (a : Areas) (c : Call) → fitsBy h (length card) (lengths a) ≡ true
+    → refusalBy (baseOn card) h c ≡ none → Left card (before h a)
+    → made (mapOn card) (before h a) (c .asked) (c .lent) ≡ step card (before h a) c
+unfolding step
+steps-made card h a c f x w = let (_, fits) = and-true (inRange h) (fitting card (before h a)) f in rw (fits, same-questions w c, x)
+
 -- ---- the two ways through a call
 
-module _ (card : List ℕ) (h : Header) (a : Areas) (c : Call) where
+module _ {card : List ℕ} {h : Header} {a : Areas} {c : Call} where
   -- 9, of a header out of range too
   refused-9 : fitsBy h (length card) (lengths a) ≡ false → CallContract card (before h a) c (refusing Lengths (before h a) c)
   refused-9 e = record {
@@ -72,10 +78,10 @@ module _ (card : List ℕ) (h : Header) (a : Areas) (c : Call) where
       go w (inl f) = absurd (true-false (rw (left-in-range w, f)) e)
 
   -- the first question that says no
-  pub refused-by : (q : Refusal) → some q ≡ ask (fitsBy h (length card) (lengths a)) Lengths (refusalBy (baseOn card) h c)
+  pub refused-by : {q : Refusal} → some q ≡ ask (fitsBy h (length card) (lengths a)) Lengths (refusalBy (baseOn card) h c)
       → CallContract card (before h a) c (refusing q (before h a) c)
   unfolding step
-  refused-by q e = go (decide (fitsBy h (length card) (lengths a)))
+  refused-by {q} e = go (decide (fitsBy h (length card) (lengths a)))
     where
       go : Tested (fitsBy h (length card) (lengths a)) → CallContract card (before h a) c (refusing q (before h a) c)
       go (inr f) =
@@ -83,10 +89,10 @@ module _ (card : List ℕ) (h : Header) (a : Areas) (c : Call) where
           subst (λ (x : Refusal). CallContract card (before h a) c (refusing x (before h a) c)) (sym i) (refused-9 f)
       go (inl f) =
           let x : refusalBy (baseOn card) h c ≡ some q = sym (rw f at e) in
-          let y = and-true (inRange h) (fitting card (before h a)) f in
+          let (_, fits) = and-true (inRange h) (fitting card (before h a)) f in
           record {
             lengths = λ g. absurd (true-false f g);
-            exact = λ w. stepped w (y .1) x;
+            exact = λ w. stepped w fits x;
             anywhere = λ g. record {
               refuses = λ p d. ap (λ (z : Refusal). refusing z (before h a) c) (some-some x d);
               writes = λ d. absurd (none-some d x);
@@ -99,23 +105,19 @@ module _ (card : List ℕ) (h : Header) (a : Areas) (c : Call) where
 
   -- no question says no
   module _ (f : fitsBy h (length card) (lengths a) ≡ true) (x : refusalBy (baseOn card) h c ≡ none) where
-    made-where : (r : Step) → (Left card (before h a) → r ≡ step card (before h a) c) → Writes (before h a) (c .asked) (c .lent) r
+    made-where : {r : Step} → (Left card (before h a) → r ≡ step card (before h a) c) → Writes (before h a) (c .asked) (c .lent) r
         → CallContract card (before h a) c r
-    made-where r e w = record {
+    made-where e w = record {
       lengths = λ g. absurd (true-false f g);
       exact = e;
       anywhere = λ g. record { refuses = λ q d. absurd (none-some x d); writes = λ d. w };
     }
 
-    steps-made : Left card (before h a) → made (mapOn card) (before h a) (c .asked) (c .lent) ≡ step card (before h a) c
-    unfolding step
-    steps-made w = let y = and-true (inRange h) (fitting card (before h a)) f in rw (y .1, same-questions w c, x)
-
-    pub made-by : (r : Step) → (Good card (before h a) → r ≡ made (mapOn card) (before h a) (c .asked) (c .lent))
+    pub made-by : {r : Step} → (Good card (before h a) → r ≡ made (mapOn card) (before h a) (c .asked) (c .lent))
         → Writes (before h a) (c .asked) (c .lent) r → CallContract card (before h a) c r
-    made-by r e w = made-where r (λ l. e (left-good l (passed-there (baseOn card) h c x)) ∙ steps-made l) w
+    made-by e w = made-where (λ l. e (left-good l (passed-there (baseOn card) h c x)) ∙ steps-made card h a c f x l) w
 
     -- what no list of calls leaves
-    pub never-left : (r : Step) → (Good card (before h a) → ⊥) → Writes (before h a) (c .asked) (c .lent) r
+    pub never-left : {r : Step} → (Good card (before h a) → ⊥) → Writes (before h a) (c .asked) (c .lent) r
         → CallContract card (before h a) c r
-    never-left r never w = made-where r (λ l. absurd (never (left-good l (passed-there (baseOn card) h c x)))) w
+    never-left never w = made-where (λ l. absurd (never (left-good l (passed-there (baseOn card) h c x)))) w

@@ -1,10 +1,10 @@
 -- What the functions of this crate promise: the contract of a call, by the areas at entry and at exit. Definitions only.
 use mathlib.Core.Path.{_≡_}
-use mathlib.Core.Bool.{_&&_, true}
 use mathlib.Core.Option.{Option, none}
 use mathlib.Core.List.{List}
 use Prim.Native.Nat.{ℕ}
 use lib.Dec.{ltb}
+use lib.ListN.{length}
 use denote.Triple.Both.{Both}
 use Rattle.graph.specs.Total.{Total}
 use Rattle.model.specs.Types as model
@@ -12,8 +12,7 @@ use Rattle.model.specs.Card.{andThen, ask}
 use Rattle.model.specs.Areas.{Areas, Each, lengths}
 use Rattle.model.specs.State.{Lent}
 use Rattle.model.specs.Machine.{targetOf}
-use Rattle.model.specs.Estimate.{withEstimates}
-use Rattle.model.specs.Calls.{Aim, Asked, Call, Estimate, Go, Set, calling, knownOf, refusalOf}
+use Rattle.model.specs.Calls.{Aim, Asked, Estimate, Go, Set, calling, knownOf, refusalOf}
 use Rattle.model.specs.Contracts.{CallContract, after, before}
 use Rattle.network.specs.Lending.{Slice}
 use Rattle.unit_questions.specs.Lending.{fitsBy, untouched}
@@ -59,6 +58,13 @@ abbrev pub AimPart : (card : List ℕ) → Header → Each ℕ → (pairs down e
 AimPart card h l pairs down estimates j r = (a : Areas) → lengths a ≡ l → a .built .pairs ≡ pairs .entry .now
     → a .aimed ≡ record { down = down .entry .now; estimates = estimates .entry .now }
     → MeetsAlone card h (record { entry = a; exit = withAimed a (down .exit .now) (estimates .exit .now) }) (Aim j) r
+
+-- an estimate is told the lengths of the areas that it is handed
+pub record EstimateLengths (l : Each ℕ) (ranks pairs down estimates : List ℕ) : Type 0 where
+  pub ranks-are : l .built .ranks ≡ length ranks
+  pub pairs-are : l .built .pairs ≡ length pairs
+  pub down-is : l .aimed .down ≡ length down
+  pub estimates-are : l .aimed .estimates ≡ length estimates
 
 abbrev pub EstimatePart : (card : List ℕ) → Header → Each ℕ → (ranks pairs down estimates : Slice) → (junction : ℕ) → Answered → Type 0
 EstimatePart card h l ranks pairs down estimates j r = (a : Areas) → lengths a ≡ l

@@ -13,7 +13,7 @@ ghost use Rattle.unit_answers.specs.Shape.{answerIn, callIn};
 ghost use Rattle.network.specs.Lending.{areas};
 ghost use Rattle.unit_questions.specs.Lending.{fitsBy, lengthsIn, lent};
 ghost use Rattle.unit.specs.Shape.{headerIn, targetIn};
-ghost use Rattle.unit.specs.Meets.{AimPart, EstimatePart, Meets, MeetsAlone, SetPart, asks, asksGo};
+ghost use Rattle.unit.specs.Meets.{AimPart, EstimateLengths, EstimatePart, Meets, MeetsAlone, SetPart, asks, asksGo};
 use network::Junction;
 use network::Refusal;
 use network::Sizes;
@@ -226,8 +226,7 @@ impl Header {
         estimates: &mut [TimeWord],
         j: Junction,
     ) -> Answered
-        requires { ⌜ (l .ranks ≡ length (now ranks)) × (l .pairs ≡ length (now pairs)) × (l .down ≡ length (now down))
-            × (l .estimates ≡ length (now estimates)) ⌝ }
+        requires { ⌜ EstimateLengths (lengthsIn l) (now ranks) (now pairs) (now down) (now estimates) ⌝ }
         ensures { λ r. ⌜ EstimatePart (now (card .entry)) self (lengthsIn l) ranks pairs down estimates (j .0) r ⌝ }
     {
         match self.estimate_asked(card.len(), l, j) {

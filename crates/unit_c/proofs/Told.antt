@@ -11,7 +11,12 @@ use Rattle.model.specs.Contracts.{WriteContract}
 use Rattle.model.specs.Areas.{Areas}
 use Rattle.model.specs.State.{Lent}
 use Rattle.model.specs.Calls.{Asked}
+use Rattle.network.specs.Refusals.{refusalIn}
+use Rattle.network.specs.declared.Refusal as code
 use Rattle.network.specs.declared.Sizes.{Sizes}
+use Rattle.card.specs.Answers.{writingIn}
+use Rattle.card.specs.declared.Writing.{Writing}
+use Rattle.card.specs.declared.Writing.the-variants as writings
 use Rattle.unit_answers.specs.declared.Answer.{Answer}
 use Rattle.unit.specs.declared.Target.{Target}
 use Rattle.unit.specs.declared.Target.the-variants.{Absent, At}
@@ -50,15 +55,20 @@ module _ {card : List ℕ} {a : Both Areas Areas} {c : Asked} {h k : Header} {w 
 
 -- ---- the card
 
-pub read-told : (w : Reading) (n m : ℕ) → Read n m ≡ w → (0 ≡ readingNumber w) × (n ∷ m ∷ [] ≡ readingWords w)
-read-told w n m e = (ap readingNumber e, ap readingWords e)
+pub read-told : {w : Reading} {n m : ℕ} → Read n m ≡ w → (0 ≡ readingNumber w) × (n ∷ m ∷ [] ≡ readingWords w)
+read-told e = (ap readingNumber e, ap readingWords e)
 
-pub unread-told : (w : Reading) (q : Refusal) → Unreadable q ≡ w → (q .question ≡ readingNumber w) × (q .place ∷ 0 ∷ [] ≡ readingWords w)
-unread-told w q e = (ap readingNumber e, ap readingWords e)
+pub unread-told : {w : Reading} {q : Refusal} → Unreadable q ≡ w → (q .question ≡ readingNumber w) × (q .place ∷ 0 ∷ [] ≡ readingWords w)
+unread-told e = (ap readingNumber e, ap readingWords e)
 
-module _ (map : Rows) (area after : List ℕ) where
-  pub accepted-told : WriteContract map area after Accepted → Wrote map area after 0 0
-  accepted-told h = record { answer = Accepted; meets = h; number-is = refl; place-is = refl }
+-- what the writer answered is what C is told
+module _ {map : Rows} {area after : List ℕ} {w : Writing} where
+  answer-is : {x : Writing} → w ≡ x → WriteContract map area after (writingIn w) → WriteContract map area after (writingIn x)
+  answer-is e h = subst (λ (y : Writing). WriteContract map area after (writingIn y)) e h
 
-  pub refused-told : (q : Refusal) → WriteContract map area after (Refused q) → Wrote map area after (q .question) (q .place)
-  refused-told q h = record { answer = Refused q; meets = h; number-is = refl; place-is = refl }
+  pub accepted-told : w ≡ writings.Accepted → WriteContract map area after (writingIn w) → Wrote map area after 0 0
+  accepted-told e h = record { answer = Accepted; meets = answer-is e h; number-is = refl; place-is = refl }
+
+  pub refused-told : {q : code.Refusal} → w ≡ writings.Refused q → WriteContract map area after (writingIn w)
+      → Wrote map area after (q .question) (q .place)
+  refused-told {q} e h = record { answer = Refused (refusalIn q); meets = answer-is e h; number-is = refl; place-is = refl }

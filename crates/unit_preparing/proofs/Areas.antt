@@ -1,10 +1,11 @@
 -- The live times one after the other, and areas that are the same where each is. Assumes nothing.
-use mathlib.Core.Path.{_∙_, _≡_}
+use mathlib.Core.Path.{_∙_, _≡_, refl}
 use mathlib.Core.List.{List}
 use Prim.Native.Nat.{_+_, _<_, _≤_, ℕ}
-use lib.ListN.{getD, length, replicate, set}
+use lib.ListN.{getD, length, length-set, replicate, set}
 use lib.Seq.{getD-set-other, getD-set-same}
 use native.Mathlib.Decide.{ℕ-discrete}
+use native.Mathlib.Nat.{not-suc-le-zero}
 use native.Mathlib.Omega.{arith}
 use Rattle.model.specs.Bytes.{listed}
 use Rattle.model.specs.Areas.{Areas, Each, areasOf, each}
@@ -13,24 +14,29 @@ use Rattle.unit_preparing.specs.Preparing.{baseIn}
 
 -- ---- the loop over the live times
 
--- the first i live times are base times
-abbrev pub Bases : (roads : List ℕ) → ℕ → List ℕ → Type 0
-Bases roads i live = (k : ℕ) → k < i → getD live k 0 ≡ baseIn roads k
+-- the first i live times are base times, in an area of the length that it had
+pub record Filling (roads live₀ live : List ℕ) (i : ℕ) : Type 0 where
+  pub in-area : i ≤ length live₀
+  pub kept : length live ≡ length live₀
+  pub bases : (k : ℕ) → k < i → getD live k 0 ≡ baseIn roads k
 
-module _ (roads : List ℕ) where
-  pub bases-start : (live : List ℕ) → Bases roads 0 live
-  bases-start live k h = absurd (omega arith)
+pub filling-start : {roads live₀ : List ℕ} → Filling roads live₀ live₀ 0
+filling-start = record { in-area = omega arith; kept = refl; bases = λ k h. absurd (not-suc-le-zero h) }
 
-  pub bases-turn : (i : ℕ) (live : List ℕ) (b w : ℕ) → i < length live → Bases roads i live → b ≡ baseIn roads i → w ≡ b
-      → Bases roads (i + 1) (set live i w)
-  bases-turn i live b w h inv e f k l = at (ℕ-discrete k i)
+module _ {roads live₀ live : List ℕ} {i : ℕ} (f : Filling roads live₀ live i) where
+  pub filling-turn : {b w : ℕ} → i < length live → b ≡ baseIn roads i → w ≡ b → Filling roads live₀ (set live i w) (i + 1)
+  filling-turn {b} {w} h base-is written = record {
+    in-area = omega (arith, f .kept);
+    kept = length-set live i w ∙ f .kept;
+    bases = λ k l. at k l (ℕ-discrete k i);
+  }
     where
-      at : Dec (k ≡ i) → getD (set live i w) k 0 ≡ baseIn roads k
-      at (yes p) = rw p (getD-set-same live i w 0 h ∙ f ∙ e)
-      at (no p) = getD-set-other live i k w 0 p ∙ inv k (omega arith)
+      at : (k : ℕ) → k < i + 1 → Dec (k ≡ i) → getD (set live i w) k 0 ≡ baseIn roads k
+      at k l (yes p) = rw p (getD-set-same live i w 0 h ∙ written ∙ base-is)
+      at k l (no p) = getD-set-other live i k w 0 p ∙ f .bases k (omega arith)
 
-  pub bases-end : (i n : ℕ) (live : List ℕ) → length live ≡ n → n ≤ i → Bases roads i live → live ≡ listed n (baseIn roads)
-  bases-end i n live e h inv = listed-is n (baseIn roads) live e (λ k l. inv k (omega arith))
+  pub filling-end : length live ≤ i → live ≡ listed (length live₀) (baseIn roads)
+  filling-end h = listed-is (length live₀) (baseIn roads) live (f .kept) (λ k l. f .bases k (omega (arith, f .kept)))
 
 -- ---- all areas at once
 

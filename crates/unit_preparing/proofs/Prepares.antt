@@ -74,15 +74,15 @@ module _ {card : List ℕ} {s : Sizes} {a : Areas} {roads order : List ℕ} (b :
   pub no-room : {pairs : List ℕ} {z : Contracted} → Contraction (mapIn roads order) (length (a .built .pairs)) pairs z → z ≡ Overflow
       → {left : Each ℕ} → left ≡ lengths a → {y : Areas} → y ≡ zerosOf left → PrepareContract card a y (handedBack s Overflow)
   unfolding prepare roomRefusal
-  no-room c e k z =
-      let h = contraction-overflow c e in
+  no-room c overflows kept zeroed-are =
+      let h = contraction-overflow c overflows in
       let q : length (a .built .pairs) < recordSize * length (pairsOf (mapOn card)) = omega (
         arith,
         h,
         ap (λ (M : Map). length (pairsOf M)) map-here,
       ) in
       rw (b .accepts .passes, lt-leb (recordSize * length (pairsOf (mapOn card))) (length (a .built .pairs)) q)
-      (ap (λ (x : Areas). answering (Refused Room) (unprepared x) noneLent) (z ∙ ap zerosOf k))
+      (ap (λ (x : Areas). answering (Refused Room) (unprepared x) noneLent) (zeroed-are ∙ ap zerosOf kept))
 
   -- ---- the pairs fit
 

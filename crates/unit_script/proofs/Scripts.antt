@@ -1,7 +1,7 @@
 -- A script of calls: the turns of its run, and the machine's answers. Assumes nothing.
 use mathlib.Core.Path.{_∙_, _≡_, ap, ap₂, refl, subst, sym}
 use mathlib.Core.Logic.{inl, inr}
-use mathlib.Core.Bool.{Bool, _&&_, false, true}
+use mathlib.Core.Bool.{false, true}
 use mathlib.Core.List.{List, [], _++_, _∷_, append-assoc, append-nil, map}
 use Prim.Native.Nat.{_*_, _+_, _-_, _<_, _≤_, suc, zero, ℕ}
 use borrow.Author.Tests.{ltb-false, ltb-true}
@@ -17,15 +17,14 @@ use Rattle.model.specs.Card.{mapOn}
 use Rattle.model.specs.Areas.{Areas}
 use Rattle.model.specs.State.{Lent, State, Step, first, prepare}
 use Rattle.model.specs.Machine.{Machine, started}
-use Rattle.model.specs.Calls.{Asked, Call, Plain, calling, machineStep, plain, steps}
+use Rattle.model.specs.Calls.{Asked, Call, Plain, calling, machineStep, plain}
 use Rattle.model.specs.Demand3.{Demand3}
 use Rattle.model.specs.Contracts.{CallContract, PrepareContract, after, before}
 use Rattle.model.specs.Chain.{Chain, chain-demand3, chain-steps, left-prepared}
 use Rattle.unit_script.specs.Words.{answerWords, callAt, endAt, isCall, putAt, roomIn}
 use Rattle.unit_script.specs.Script.{Held, Made, OneContract, ReplayContract, answersOf, begun, callsIn, callsOf, held, holding}
-use Rattle.unit_script.specs.Script.{isNext}
-use Rattle.unit_script.specs.Script.{lend, machineAnswers, onward, scripted, told}
-use Rattle.unit_script.proofs.Words.{call-fits}
+use Rattle.unit_script.specs.Script.{isNext, lend, machineAnswers, onward, scripted, told}
+use Rattle.unit_script.proofs.Words.{call-fits, ends-within}
 
 -- ---- the words of an answer
 
@@ -133,13 +132,13 @@ back-first : (i j : ℕ) (l m : Lent) → length (m .route) ≡ i → length (m 
     → back i j l m ≡ record { route = first (m .route) (l .route); log = first (m .log) (l .log) }
 back-first i j l m e f = rw (← e, ← f)
 
-pub one-made : {card : List ℕ} {h : Header} {a b : Areas} (l m : Lent) (asked : Asked) (i j : ℕ) (x : Answered)
+pub one-made : {card : List ℕ} {h : Header} {a b : Areas} {l m : Lent} {asked : Asked} {i j : ℕ} {x : Answered}
     → i ≤ length (l .route) → j ≤ length (l .log)
     → CallContract card (before h a) (calling asked (part i j l)) (after x b m)
     → length (m .route) ≡ length (take i (l .route)) → length (m .log) ≡ length (take j (l .log))
     → OneContract card h (record { entry = a; exit = b }) (record { entry = l; exit = back i j l m })
     (record { asked = asked; route = i; log = j }) x
-one-made {card} {h} {a} {b} l m asked i j x li lj c nr nl = record {
+one-made {b = b} {l} {m} {i = i} {j} {x} li lj c nr nl = record {
   left = after x b m;
   answers = refl;
   meets = c;
@@ -178,10 +177,6 @@ module _ (script : List ℕ) (l : Lent) (at k room : ℕ) where
           let z : n ≡ 0 = omega arith in
           ap (scripted script l at) z
 
--- where a call is next there is room for its answer
-pub next-fits : (k room : ℕ) (whole : Bool) → ltb k room && whole ≡ true → k < room
-next-fits k room whole e = ltb-true k room (and-true (ltb k room) whole e .0)
-
 -- with room for so many answers the calls before call k, which stands at a place of the script, are made, and those from there on are left
 pub record Run (card script : List ℕ) (room at k : ℕ) (out₀ out : List ℕ) (h₀ h : Held) : Type 0 where
   pub done : List Plain
@@ -199,18 +194,18 @@ run-start {card} {script} {out₀} room {h₀} = record {
 
 module _ {card script : List ℕ} {room at k : ℕ} {out₀ out : List ℕ} {h₀ h : Held} (w : Run card script room at k out₀ out h₀ h) where
   -- the next call p of the script, which ends at a place and handed x back
-  pub run-turn : isNext script at k room ≡ true → (p : Plain) (x : Answered) {end : ℕ} {b : Areas} {m : Lent} {out′ : List ℕ}
+  pub run-turn : isNext script at k room ≡ true → {p : Plain} {x : Answered} {end : ℕ} {b : Areas} {m : Lent} {out′ : List ℕ}
       → length (h .lent .route) ≡ length (h₀ .lent .route) → length (h .lent .log) ≡ length (h₀ .lent .log)
       → p ≡ callAt script at (length (h .lent .route)) (length (h .lent .log)) → end ≡ endAt script at
       → OneContract card (h .state .header) (record { entry = h .state .areas; exit = b }) (record { entry = h .lent; exit = m }) p x
       → out′ ≡ putAt out k (answerWords (x .answer))
       → Run card script room end (k + 1) out₀ out′ h₀ (holding (x .header) b m)
-  run-turn next p x {end} {b} {m} {out′} er el e n c f =
+  run-turn next {p} {x} {end} {b} {m} {out′} er el e n c f =
       let left : List Plain = scripted script (h₀ .lent) end (room - (k + 1)) in
       let is : callAt script at (length (h₀ .lent .route)) (length (h₀ .lent .log)) ≡ p = sym (e ∙ ap₂ (callAt script at) er el) in
-      let fits = call-fits script at (length (h .lent .route)) (length (h .lent .log)) p e in
+      let (route-fits, log-fits) = call-fits script at e in
       let one : Made card (w .done ++ (p ∷ [])) out₀ out′ h₀ (onward h (c .left)) =
-      made-more (w .made) k (w .many) p (c .left) out′ (fed-back (h .lent) p (fits .0) (fits .1)) (c .meets)
+      made-more (w .made) k (w .many) p (c .left) out′ (fed-back (h .lent) p route-fits log-fits) (c .meets)
       (f ∙ ap (λ (y : Answer). putAt out k (answerWords y)) (sym (c .answers))) in
       let next-is : scripted script (h₀ .lent) at (room - k) ≡ p ∷ left =
       scripted-next script (h₀ .lent) at k room next
@@ -240,8 +235,8 @@ pub record AtTurn (card script : List ℕ) (room at k : ℕ) (out₀ out : List 
   pub words : length out ≡ length out₀
   pub run : Run card script room at k out₀ out h₀ h
 
-pub turn-start : {card script out₀ : List ℕ} (room : ℕ) {h₀ : Held} → AtTurn card script room 0 0 out₀ out₀ h₀ h₀
-turn-start room = record {
+pub turn-start : {card script out₀ : List ℕ} {room : ℕ} {h₀ : Held} → AtTurn card script room 0 0 out₀ out₀ h₀ h₀
+turn-start {room = room} = record {
   within = omega arith;
   live = refl;
   down = refl;
@@ -253,6 +248,20 @@ turn-start room = record {
   run = run-start room;
 }
 
+module _ {card script : List ℕ} {room at k : ℕ} {out₀ out : List ℕ} {h₀ h : Held} (t : AtTurn card script room at k out₀ out h₀ h) where
+  -- where a call is next there is room for its answer
+  pub turn-room : isNext script at k room ≡ true → k < room
+  turn-room e = ltb-true k room (and-true (ltb k room) (isCall script at) e .0)
+
+  -- that call is lent no more entries than there are
+  pub turn-fits : {p : Plain} → p ≡ callAt script at (length (h .lent .route)) (length (h .lent .log))
+      → (p .route ≤ length (h .lent .route)) × (p .log ≤ length (h .lent .log))
+  turn-fits e = call-fits script at e
+
+  -- and ends within the script
+  pub turn-ends : {end : ℕ} → end ≡ endAt script at → end ≤ length script
+  turn-ends e = ends-within script at (t .within) e
+
 -- ---- the machine's answers
 
 machine-answers : (M : Map) (m : Machine) (l : List Call) (r : List Step) → Demand3 M m l r → answersOf r ≡ machineAnswers M m (map plain l)
@@ -262,11 +271,11 @@ machine-answers M m (c ∷ l) [] d = absurd d
 machine-answers M m (c ∷ l) (u ∷ r) d = ap₂ _∷_ (d .0 .same .answer) (machine-answers M (machineStep M m (plain c) .next) l r (d .1))
 
 -- from a preparing on the areas a, which left a′ and handed back y
-pub replay-made : {card : List ℕ} (a b : Areas) (l m : Lent) (script : List ℕ) {out₀ out : List ℕ} (a′ : Areas) (y x : Answered)
+pub replay-made : {card : List ℕ} {a b : Areas} {l m : Lent} {script out₀ out : List ℕ} {a′ : Areas} (y : Answered) {x : Answered}
     → PrepareContract card a a′ y → x .answer ≡ y .answer
     → Made card (callsIn script l out₀) out₀ out (holding (y .header) a′ l) (holding (x .header) b m)
     → ReplayContract card (record { entry = a; exit = b }) (record { entry = l; exit = m }) script out₀ out x
-replay-made {card} a b l m script {out₀} {out} a′ y x e f c =
+replay-made {card} {a} {b} {l} {m} {script} {out₀} {out} y {x} e f c =
     let spelled : List Plain = callsIn script l out₀ in
     let w : Made card spelled out₀ out (begun card a l) (holding (x .header) b m) =
     subst (λ (u : Step). Made card spelled out₀ out (record { state = u .state; lent = l }) (holding (x .header) b m)) e c in

@@ -1,7 +1,6 @@
 -- The words of a call and of an answer. Assumes nothing.
 use mathlib.Core.Path.{_∙_, _≡_, ap, refl, subst, sym}
 use mathlib.Core.Logic.{_≢_, inl, inr}
-use mathlib.Core.Bool.{false, true}
 use mathlib.Core.List.{List, [], _∷_}
 use Prim.Native.Nat.{_*_, _+_, _-_, _<_, _≤_, min, suc, zero, ℕ}
 use borrow.Author.Tests.{le-leb, leb-true, lt-leb}
@@ -17,27 +16,28 @@ use Rattle.unit_script.specs.Words.{answerSize, answerWords, callAt, end
 
 -- ---- the words of a call
 
-pub none-of : (kind : ℕ) → kind ≢ 0 → kind ≢ 1 → kind ≢ 2 → kind ≢ 3 → 0 ≡ wordsOf kind
-none-of zero a b c d = absurd (a refl)
-none-of (suc zero) a b c d = absurd (b refl)
-none-of (suc (suc zero)) a b c d = absurd (c refl)
-none-of (suc (suc (suc zero))) a b c d = absurd (d refl)
-none-of (suc (suc (suc (suc k)))) a b c d = refl
+pub none-of : {kind : ℕ} → kind ≢ 0 → kind ≢ 1 → kind ≢ 2 → kind ≢ 3 → 0 ≡ wordsOf kind
+none-of {kind = zero} a b c d = absurd (a refl)
+none-of {kind = suc zero} a b c d = absurd (b refl)
+none-of {kind = suc (suc zero)} a b c d = absurd (c refl)
+none-of {kind = suc (suc (suc zero))} a b c d = absurd (d refl)
+none-of {kind = suc (suc (suc (suc k)))} a b c d = refl
 
 -- a call of a kind is what its words spell
-pub spells-set : (kind one two three r l t : ℕ) → kind ≡ 0 → t ≡ two
-    → _≡_ {A = Plain} (record { asked = Set one t; route = r; log = l }) (spelled kind one two three r l)
-spells-set kind one two three r l t e f = rw (e, f)
+module _ (one two three r l : ℕ) where
+  pub spells-set : {kind t : ℕ} → kind ≡ 0 → t ≡ two
+      → _≡_ {A = Plain} (record { asked = Set one t; route = r; log = l }) (spelled kind one two three r l)
+  spells-set e f = rw (e, f)
 
-pub spells : (kind k one two three r l : ℕ) → kind ≡ k → spelled k one two three r l ≡ spelled kind one two three r l
-spells kind k one two three r l e = rw e
+  pub spells : {kind k : ℕ} → kind ≡ k → spelled k one two three r l ≡ spelled kind one two three r l
+  spells e = rw e
 
-pub spells-go : (kind one two three r l i j : ℕ) → kind ≢ 0 → kind ≢ 1 → kind ≢ 2 → i ≡ min two r → j ≡ min three l
-    → _≡_ {A = Plain} (record { asked = Go one; route = i; log = j }) (spelled kind one two three r l)
-spells-go zero one two three r l i j a b c e f = absurd (a refl)
-spells-go (suc zero) one two three r l i j a b c e f = absurd (b refl)
-spells-go (suc (suc zero)) one two three r l i j a b c e f = absurd (c refl)
-spells-go (suc (suc (suc k))) one two three r l i j a b c e f = rw (e, f)
+  pub spells-go : {kind i j : ℕ} → kind ≢ 0 → kind ≢ 1 → kind ≢ 2 → i ≡ min two r → j ≡ min three l
+      → _≡_ {A = Plain} (record { asked = Go one; route = i; log = j }) (spelled kind one two three r l)
+  spells-go {kind = zero} a b c e f = absurd (a refl)
+  spells-go {kind = suc zero} a b c e f = absurd (b refl)
+  spells-go {kind = suc (suc zero)} a b c e f = absurd (c refl)
+  spells-go {kind = suc (suc (suc k))} a b c e f = rw (e, f)
 
 -- it is lent no more entries than there are
 spelled-fits : (kind one two three r l : ℕ) → (spelled kind one two three r l .route ≤ r) × (spelled kind one two three r l .log ≤ l)
@@ -52,7 +52,7 @@ pub kind-at : (script : List ℕ) (at : ℕ) → getD script (at + 0) 0 ≡ getD
 kind-at script at = ap (λ (i : ℕ). getD script i 0) (add-zero at)
 
 -- a call ends behind its words if all of them stand there
-module _ (script : List ℕ) (at kind w : ℕ) (k : kind ≡ getD script (at + 0) 0) (e : w ≡ wordsOf kind) where
+module _ (script : List ℕ) (at : ℕ) {kind w : ℕ} (k : kind ≡ getD script (at + 0) 0) (e : w ≡ wordsOf kind) where
   is-words : wordsOf (getD script at 0) ≡ w
   is-words = sym (e ∙ ap wordsOf (k ∙ kind-at script at))
 
@@ -67,8 +67,8 @@ module _ (script : List ℕ) (at kind w : ℕ) (k : kind ≡ getD script (at + 0
       rw (is-words, lt-leb (at + w) (length script) q)
 
 -- it ends within the script
-pub ends-within : (script : List ℕ) (at end : ℕ) → at ≤ length script → end ≡ endAt script at → end ≤ length script
-ends-within script at end h e =
+pub ends-within : (script : List ℕ) (at : ℕ) {end : ℕ} → at ≤ length script → end ≡ endAt script at → end ≤ length script
+ends-within script at h e =
     subst (λ (i : ℕ). i ≤ length script) (sym e) (go (decide (leb (at + wordsOf (getD script at 0)) (length script))))
   where
     go : Tested (leb (at + wordsOf (getD script at 0)) (length script)) → endAt script at ≤ length script
@@ -76,16 +76,16 @@ ends-within script at end h e =
     go (inr q) = rw q h
 
 -- it is lent no more entries than there are
-pub call-fits : (script : List ℕ) (at r l : ℕ) (p : Plain) → p ≡ callAt script at r l → (p .route ≤ r) × (p .log ≤ l)
-call-fits script at r l p e =
+pub call-fits : (script : List ℕ) (at : ℕ) {r l : ℕ} {p : Plain} → p ≡ callAt script at r l → (p .route ≤ r) × (p .log ≤ l)
+call-fits script at {r} {l} e =
     subst (λ (q : Plain). (q .route ≤ r) × (q .log ≤ l)) (sym e)
     (spelled-fits (getD script at 0) (getD script (at + 1) 0) (getD script (at + 2) 0) (getD script (at + 3) 0) r l)
 
 -- the call there, of the words from there on
-pub call-there : (script : List ℕ) (at kind one two three r l : ℕ) (p : Plain) → kind ≡ getD script (at + 0) 0
+pub call-there : (script : List ℕ) (at r l : ℕ) {kind one two three : ℕ} {p : Plain} → kind ≡ getD script (at + 0) 0
     → one ≡ getD script (at + 1) 0 → two ≡ getD script (at + 2) 0 → three ≡ getD script (at + 3) 0
     → p ≡ spelled kind one two three r l → p ≡ callAt script at r l
-call-there script at kind one two three r l p a b c d e =
+call-there script at r l {kind} a b c d e =
     let k : kind ≡ getD script at 0 = a ∙ kind-at script at in
     e ∙ rw (k, b, c, d)
 
@@ -100,8 +100,8 @@ four-stored s k a b c d h =
     rw (e1, e2, e3) (sets-eq (a ∷ b ∷ c ∷ d ∷ []) s (4 * k) h)
 
 -- four words stored are those of an answer
-pub put-told : (out after w v : List ℕ) (k : ℕ) → after ≡ putAt out k w → w ≡ v → after ≡ putAt out k v
-put-told out after w v k e f = e ∙ ap (putAt out k) f
+pub put-told : (out : List ℕ) (k : ℕ) {after w v : List ℕ} → after ≡ putAt out k w → w ≡ v → after ≡ putAt out k v
+put-told out k e f = e ∙ ap (putAt out k) f
 
-pub estimated-words : (t u : ℕ) (x : Answer) → t ≡ u → x ≡ Estimated u → 0 ∷ t ∷ 0 ∷ 0 ∷ [] ≡ answerWords x
-estimated-words t u x et e = ap (λ (y : ℕ). 0 ∷ y ∷ 0 ∷ 0 ∷ []) et ∙ ap answerWords (sym e)
+pub estimated-words : {t u : ℕ} {x : Answer} → t ≡ u → x ≡ Estimated u → 0 ∷ t ∷ 0 ∷ 0 ∷ [] ≡ answerWords x
+estimated-words et e = ap (λ (y : ℕ). 0 ∷ y ∷ 0 ∷ 0 ∷ []) et ∙ ap answerWords (sym e)

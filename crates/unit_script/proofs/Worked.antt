@@ -1,7 +1,6 @@
 -- Scripts worked by hand, beside a route area of two entries and a log area of three. Assumes nothing.
 use mathlib.Core.Path.{_≡_, refl}
-use mathlib.Core.List.{List, [], _∷_}
-use Prim.Native.Nat.{ℕ}
+use mathlib.Core.List.{[], _∷_}
 use Rattle.model.specs.State.{Lent}
 use Rattle.model.specs.Calls.{Aim, Asked, Estimate, Go, Plain, Set}
 use Rattle.unit_script.specs.Script.{scripted}

@@ -30,8 +30,8 @@ module _ (card : List ℕ) (a : Areas) where
 
     fits : lengthsFit (mapOn card .vertices) (mapOn card .base .arcs) 0 (lengths a) ≡ b
     fits =
-        let r = read-facts in
-        sym (f ∙ ap (lengthsFit n m 0) k ∙ ap₂ (λ (x : ℕ) (y : ℕ). lengthsFit x y 0 (lengths a)) (r .1) (r .2))
+        let (_, n-is, m-is) = read-facts in
+        sym (f ∙ ap (lengthsFit n m 0) k ∙ ap₂ (λ (x : ℕ) (y : ℕ). lengthsFit x y 0 (lengths a)) n-is m-is)
 
     pub asked-7 : b ≡ false → areasRefusal card a ≡ some AreaLengths
     unfolding areasRefusal
@@ -39,7 +39,7 @@ module _ (card : List ℕ) (a : Areas) where
 
     pub asked-passes : b ≡ true → Accepts card (record { n = n; m = m; pairs = 0 }) a
     unfolding areasRefusal
-    asked-passes h = let r = read-facts in record { passes = rw (r .0, fits, h); n-is = r .1; m-is = r .2 }
+    asked-passes h = let (accepted, n-is, m-is) = read-facts in record { passes = rw (accepted, fits, h); n-is = n-is; m-is = m-is }
 
 -- ---- what is handed back
 

@@ -1,15 +1,14 @@
--- Each turn writes one word more.
-use Rattle.areas.proofs.Fills.{fill-end, fill-turn}
-use lib.ListN.{getD, length, length-set}
-use mathlib.Core.Path.{_≡_}
-use Prim.Native.Nat.{_-_, _<_, _≤_, ℕ}
-use native.Mathlib.Omega.{arith}
+-- The loop keeps that the first i entries are w (`Filled`): each turn writes one more (`fill-turn`), and at the end all are (`fill-end`).
+use Prim.Native.Nat.{_-_}
 use borrow.Author.Needs.{needs}
+use native.Mathlib.Omega.{arith}
+use lib.ListN.{length, length-set}
+use Rattle.areas.proofs.Fills.{Filled, fill-end, fill-start, fill-turn}
 use Rattle.areas.proofs.fill.Statement.{statement}
 use Rattle.areas.proofs.fill.Tie as tie
 
 abbrev Inv-loop : tie.InvT-loop
-Inv-loop area₀ w i₀ area i = (i ≤ length area) × (length area ≡ length area₀) × ((k : ℕ) → k < i → getD area k 0 ≡ w)
+Inv-loop area₀ w i₀ area i = Filled area₀ w i area
 
 abbrev μ-loop : tie.MeasureT-loop
 μ-loop area₀ w i₀ area i = length area - i
@@ -18,18 +17,10 @@ loop-less : tie.Need-loop-less Inv-loop μ-loop
 loop-less c = simp length-set (omega arith)
 
 loop-again : tie.Need-loop-again Inv-loop μ-loop
-loop-again c =
-    let at-loop = c .before in (
-      simp length-set (search needs),
-      simp length-set (search needs),
-      fill-turn (at-loop .loop .area) _ _ (c .loop-test .taken) (at-loop .loop .inv .2),
-    )
+loop-again c = fill-turn (c .before .loop .inv) (c .loop-test .taken)
 
 returns : tie.Need-returns Inv-loop μ-loop
-returns c =
-    let at-loop = c .before in
-    let start = at-loop .before in
-    fill-end (start .args .area .now) (at-loop .loop .area) _ _ (at-loop .loop .inv .1) (c .loop-test .left) (at-loop .loop .inv .2)
+returns c = fill-end (c .before .loop .inv) (c .loop-test .left)
 
 pub fill-spec : {M : Type 1} → statement M
 fill-spec =
@@ -37,7 +28,7 @@ fill-spec =
     (tie.spec
     Inv-loop
     μ-loop
-    (λ c. search needs)
+    (λ c. fill-start)
     (λ c. search needs)
     (λ c. search needs)
     (λ c. search needs)

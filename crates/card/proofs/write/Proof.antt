@@ -1,51 +1,44 @@
--- Rows that pass questions 4 to 6 are short and of whole roads, so no number is too large and n and m give the card's size;
--- the area is written only when it has that size.
-use mathlib.Core.Path.{_∙_, _≡_, ap, sym}
-use mathlib.Core.Option.{none}
-use native.Mathlib.Omega.{arith}
-use Rattle.model.specs.Card.{mapRefusal}
-use Rattle.network.specs.Refusals.{verdictIn}
-use Rattle.card.specs.Answers.{rowsOf}
-use Rattle.card.proofs.WriteWays.{area-is, passes, write-7, write-made, write-refused}
+-- Rows that pass questions 4 to 6 are short and of whole roads (`Passes`), so no number is too large and n and m give the card's size;
+-- the area is written only when it has that size (`write-7`, `write-made`).
+use mathlib.Core.Path.{_∙_, ap, sym}
 use borrow.Author.Needs.{needs}
+use native.Mathlib.Omega.{arith}
+use Rattle.network.specs.Refusals.{verdictIn}
+use Rattle.card.proofs.WriteWays.{Passes, area-is, passes, write-7, write-made, write-refused}
 use Rattle.card.proofs.write.Statement.{statement}
 use Rattle.card.proofs.write.Tie as tie
 
--- past questions 4 to 6
-passed : (c : tie.After-enum-told) →
-    let start = c .before .before .before .before .before .before in
-    (none ≡ mapRefusal (rowsOf (start .args .roads .now) (start .args .order .now)))
+-- ---- past questions 4 to 6
+
+abbrev start : tie.After-enum-told → tie.Start
+start c = c .before .before .before .before .before .before
+
+passed : (c : tie.After-enum-told) → Passes (start c .args .roads .now) (start c .args .order .now)
 passed c =
     let after-check = c .before .before in
-    ap verdictIn (sym (c .enum-told .given .1)) ∙ after-check .check .ensures
+    passes (start c .args .roads .now) (start c .args .order .now)
+    (ap verdictIn (sym (c .enum-told .given .1)) ∙ after-check .check .ensures)
+
+-- ---- the answers
 
 cast-n : tie.Need-cast-n
-cast-n c =
-    let start = c .before .before .before .before .before .before in
-    omega (arith, passes (start .args .roads .now) (start .args .order .now) (passed c) .short .1)
+cast-n c = omega (arith, passed c .short .1)
 
 cast-m : tie.Need-cast-m
-cast-m c =
-    let start = c .before .before .before .before .before .before in
-    omega (arith, passes (start .args .roads .now) (start .args .order .now) (passed c) .short .0)
+cast-m c = omega (arith, passed c .short .0)
 
 returns : tie.Need-returns
 returns c =
     let after-card-size = c .before in
-    let after-enum-told = after-card-size .before in
-    let start = after-enum-told .before .before .before .before .before .before in
-    write-7 (start .args .roads .now) (start .args .order .now) _ (passed after-enum-told) _ (after-card-size .card-size .ensures)
-    (c .if1 .taken)
+    write-7 (passed (after-card-size .before)) (after-card-size .card-size .ensures) (c .if1 .taken)
 
 put-card-requires : tie.Need-put-card-requires
 put-card-requires c κs =
     let else1 = c .before in
     let after-card-size = else1 .before in
-    let after-enum-told = after-card-size .before in
-    let start = after-enum-told .before .before .before .before .before .before in (
-      passes (start .args .roads .now) (start .args .order .now) (passed after-enum-told) .short,
-      area-is (start .args .roads .now) (start .args .order .now) (start .args .area .now) (passed after-enum-told)
-          _ (after-card-size .card-size .ensures) (else1 .if1 .left),
+    let after-enum-told = after-card-size .before in (
+      passed after-enum-told .short,
+      area-is (passed after-enum-told) (after-card-size .card-size .ensures) (start after-enum-told .args .area .now) (else1 .if1 .left),
     )
 
 returns-2 : tie.Need-returns-2
@@ -53,17 +46,15 @@ returns-2 c =
     let after-check = c .before .before .before in
     let start = after-check .before .before .before .before in
     write-refused (start .args .roads .now) (start .args .order .now)
-    _ _ (ap verdictIn (sym (c .before .q .given .1)) ∙ after-check .check .ensures)
+    (ap verdictIn (sym (c .before .q .given .1)) ∙ after-check .check .ensures)
 
 returns-3 : tie.Need-returns-3
 returns-3 c =
     let after-put-card = c .before .before in
     let else1 = after-put-card .before .before in
     let after-card-size = else1 .before in
-    let after-enum-told = after-card-size .before in
-    let start = after-enum-told .before .before .before .before .before .before in
-    write-made (start .args .roads .now) (start .args .order .now) (start .args .area .now) (passed after-enum-told)
-    _ (after-card-size .card-size .ensures) _ (else1 .if1 .left) (after-put-card .put-card .ensures)
+    write-made (passed (after-card-size .before)) (after-card-size .card-size .ensures) (else1 .if1 .left)
+    (after-put-card .put-card .ensures)
 
 pub write-spec : {M : Type 1} → statement M
 write-spec =

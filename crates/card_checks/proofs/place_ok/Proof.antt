@@ -1,34 +1,34 @@
--- Each return is by the first part of the question that fails; only a place that passes is marked.
+-- Each return is by the first part of the question that fails; only a place that passes is marked (`place-new`).
 use mathlib.Core.Path.{refl}
-use lib.ListN.{getD, length}
-use Rattle.card_checks.proofs.Numbers.{place-1, place-2, place-3, place-4}
 use borrow.Author.Needs.{needs}
+use Rattle.card_checks.proofs.Numbers.{no-flag, place-new, seen-before, too-high}
 use Rattle.card_checks.proofs.place_ok.Statement.{statement}
 use Rattle.card_checks.proofs.place_ok.Tie as tie
 
 returns : tie.Need-returns
 returns c =
-    let start = c .before in
-    (place-1 _ _ (length (start .args .seen .now)) (getD (start .args .seen .now) (start .args .j) 0) (c .if1 .taken), refl)
+    let args = c .before .args in
+    (too-high (args .n) (args .j) (args .seen .now) (c .if1 .taken), refl)
 
 returns-2 : tie.Need-returns-2
 returns-2 c =
-    let start = c .before .before in
-    (place-2 _ _ _ (getD (start .args .seen .now) (start .args .j) 0) (c .if2 .taken) (c .before .if1 .left), refl)
+    let else1 = c .before in
+    let args = else1 .before .args in
+    (no-flag (args .n) (args .j) (args .seen .now) (else1 .if1 .left) (c .if2 .taken), refl)
 
 returns-3 : tie.Need-returns-3
 returns-3 c =
     let else2 = c .before .before in
     let else1 = else2 .before in
-    let start = else1 .before in
-    (place-3 _ _ _ (getD (start .args .seen .now) (start .args .j) 0) (c .if3 .taken) (else1 .if1 .left) (else2 .if2 .left), refl)
+    let args = else1 .before .args in
+    (seen-before (args .n) (args .j) (args .seen .now) (else1 .if1 .left) (else2 .if2 .left) (c .if3 .taken), refl)
 
 returns-4 : tie.Need-returns-4
 returns-4 c =
     let else2 = c .before .before in
     let else1 = else2 .before in
-    let start = else1 .before in
-    (place-4 _ _ _ (getD (start .args .seen .now) (start .args .j) 0) (else1 .if1 .left) (else2 .if2 .left) (c .if3 .left), refl)
+    let args = else1 .before .args in
+    (place-new (args .n) (args .j) (args .seen .now) (else1 .if1 .left) (else2 .if2 .left) (c .if3 .left), refl)
 
 pub place-ok-spec : {M : Type 1} → statement M
 place-ok-spec =

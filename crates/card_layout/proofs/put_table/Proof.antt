@@ -1,4 +1,4 @@
--- The seven words of the table fill the first part of the area; the rest of it stays.
+-- The seven words of the table fill the first part of the area; the rest of it stays (`put-first`).
 use Rattle.card_layout.proofs.Entries.{put-first}
 use borrow.Author.Needs.{needs}
 use Rattle.card_layout.proofs.put_table.Statement.{statement}
@@ -8,7 +8,7 @@ returns : tie.Need-returns
 returns c =
     let after-put-words = c .before .before in
     let start = after-put-words .before .before .before .before in
-    put-first _ _ (start .args .area .now) (after-put-words .put-words .ensures)
+    put-first (start .args .area .now) (after-put-words .put-words .ensures)
 
 pub put-table-spec : {M : Type 1} → statement M
 put-table-spec =

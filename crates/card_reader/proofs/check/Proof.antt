@@ -1,5 +1,5 @@
--- `reader::check` meets its contract: a walk of its MIR, by hand. A reader is made in a local, asked for its body, moved on, and asked
--- again; the two bodies go to `sections::check`. All that the proof knows of the five calls is that each function meets its contract.
+-- `card_reader::check` meets its contract: a walk of its MIR, by hand. A reader is made in a local, asked for its body, moved on, and asked
+-- again; the two bodies go to `card_sections::check`. All that the proof knows of the five calls is that each function meets its contract.
 -- The first reader is Copy: what it owns is had twice, for `body` and for `moved_on`. In a local MIR erases the lifetime of a type, so each
 -- value is shown to have its type at `erased`.
 -- Assumes nothing.
@@ -82,7 +82,7 @@ walked-bodies s r r′ x y new-is moved-is ex ey = ap₂ bodiesRefusal (ex ∙ f
 abbrev Out : Slot 1
 Out = plain (λ _. S.the-row)
 
--- what the contract of `sections::check` says, and its own
+-- what the contract of `card_sections::check` says, and its own
 abbrev Asked : Fact asked.ended
 Asked κs a t = verdictIn t ≡ bodiesRefusal (now (a .0)) (now (a .1 .0))
 
@@ -103,7 +103,7 @@ module _ {M : Type 1} (𝓤 : URA M) (H : Heap 𝓤) (A : Atoms 𝓤) (W : Given
   held : (r : Reader) (u : Val) → Is R r (u ∷ []) → Holds (hasTy (T′.mir erased) u) × WT u
   held r u is = LL.lawful (T.the-type αᵉ) (T′.the-laws αᵉ) 𝓤 H A W .typed r _ is .0
 
-  -- the call of `sections::check`, at the bodies x and y with the machine values u and w
+  -- the call of `card_sections::check`, at the bodies x and y with the machine values u and w
   abbrev to-asked : (x y : RefT (List ℕ)) (u w : Val) → Bound 𝓤 H A asked.signature
   to-asked x y u w = ((κ, tt), (q, tt), tt, (x, (y, tt)), (u ∷ [], (w ∷ [], tt)))
 
@@ -174,9 +174,11 @@ pub check-spec : {M : Type 1} → stated.statement M
 unfolding code.routine
 check-spec 𝓤 H 𝓜 𝓖 𝓡 = closes 𝓤 H 𝓜 𝓖 𝓡 code.env card Out Checked #card-reader·check code.function (code.unfolded 𝓤 H 𝓜 𝓡)
     (λ fm κ q s. walk 𝓤 H (𝓖 .A) (givenOf 𝓤 H 𝓜 𝓖) κ q s (tables 𝓤 H 𝓜 𝓡 code.env .C) (tables 𝓤 H 𝓜 𝓡 code.env .Λ) fm
-    (cited 𝓤 H (Says 𝓤 new.ended New H (𝓖 .A)) 𝓜 𝓡 code.env #card-reader·new new-def.routine code.calls-card-reader·new (new-thm.met 𝓤 H 𝓜 𝓖 𝓡))
-    (cited 𝓤 H (Says 𝓤 body.ended Body H (𝓖 .A)) 𝓜 𝓡 code.env #card-reader·body body-def.routine code.calls-card-reader·body (body-thm.met 𝓤 H 𝓜 𝓖 𝓡))
-    (cited 𝓤 H (Says 𝓤 moved-on.ended MovedOn H (𝓖 .A)) 𝓜 𝓡 code.env #card-reader·moved-on moved-on-def.routine code.calls-card-reader·moved-on
-    (moved-on-thm.met 𝓤 H 𝓜 𝓖 𝓡))
-    (cited 𝓤 H (Says 𝓤 asked.ended Asked H (𝓖 .A)) 𝓜 𝓡 code.env #card-sections·check asked-def.routine code.calls-card-sections·check
-    (asked-thm.met 𝓤 H 𝓜 𝓖 𝓡)))
+    (cited 𝓤 H (Says 𝓤 new.ended New H (𝓖 .A)) 𝓜 𝓡 code.env #card-reader·new new-def.routine
+    code.calls-card-reader·new (new-thm.met 𝓤 H 𝓜 𝓖 𝓡))
+    (cited 𝓤 H (Says 𝓤 body.ended Body H (𝓖 .A)) 𝓜 𝓡 code.env #card-reader·body body-def.routine
+    code.calls-card-reader·body (body-thm.met 𝓤 H 𝓜 𝓖 𝓡))
+    (cited 𝓤 H (Says 𝓤 moved-on.ended MovedOn H (𝓖 .A)) 𝓜 𝓡 code.env #card-reader·moved-on moved-on-def.routine
+    code.calls-card-reader·moved-on (moved-on-thm.met 𝓤 H 𝓜 𝓖 𝓡))
+    (cited 𝓤 H (Says 𝓤 asked.ended Asked H (𝓖 .A)) 𝓜 𝓡 code.env #card-sections·check asked-def.routine
+    code.calls-card-sections·check (asked-thm.met 𝓤 H 𝓜 𝓖 𝓡)))

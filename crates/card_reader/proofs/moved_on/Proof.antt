@@ -1,8 +1,6 @@
--- `reader::moved_on` meets its contract: a walk of its MIR, by hand. The reader is taken apart, `card_layout::entry_after` is called on the
--- card and the place, and a reader is made anew of the card and the place that it answers.
--- What the reader owns is kept whole at the call (`Struct.antt`'s `apart`), and is had twice at the exit, for the parameter and for the
--- result.
--- Assumes nothing.
+-- `card_reader::moved_on` meets its contract: a walk of its MIR, by hand. The reader is taken apart, `card_layout::entry_after` is called
+-- on the card and the place, and a reader is made anew of the card and the place that it answers. What the reader owns is kept whole at the
+-- call (`Struct.antt`'s `apart`), and is had twice at the exit, for the parameter and for the result. Assumes nothing.
 use mathlib.Core.Path.{_≡_, refl, ap}
 use Prim.Native.Nat.{ℕ, _<_, _^_}
 use mathlib.Core.List.{[], _∷_}
@@ -66,15 +64,16 @@ module _ {M : Type 1} (𝓤 : URA M) (H : Heap 𝓤) (A : Atoms 𝓤) (W : Given
         (WpFn 𝓤 H C Λ code.function (mach d ∷ []) (Post 𝓤 H A reader (out reader) κ q MovedOn d))
     walk is-d =
         let wt = typed 𝓤 H A W κ d is-d in
+        let (_, (card-typed, (at-typed, _))) = wt in
         qed W (raw (onCall 𝓤 H A reader (out reader) κ q d) ∷ []) ∵ enter ! C Λ code.function (mach d ∷ []) _ $
         alloc1 ! (λ l₀. alloc1 ! (λ l₁. alloc1 ! (λ l₂. alloc1 ! (λ l₃. alloc1 ! (λ l₄. alloc1 ! (λ l₅. alloc0 ! $
         params1 ! $ pass1 ! (init ! 8 refl wt) $ pass0 ! $
         -- [_5; …; _4; …; _3; …; _2; …; _1; …; room for _0; …; the token and what the reader owns]
         assigns ! (of-opd ! (load ! (from ! (fld ! refl (stop !))) (look-in ! 8 (sub ! 0 refl (whole !))))) (from ! (stop !))
-        (init ! 4 refl (tt, wt .1 .0)) $
+        (init ! 4 refl (tt, card-typed)) $
         assigns ! (of-opd ! (load ! (from ! (fld ! refl (stop !))) (look-in ! 8 (sub ! 1 refl (whole !))))) (from ! (stop !))
-        (init ! 2 refl (tt, wt .1 .1 .0)) $
-        move ! (12 ∷ []) $ calls-apart ! fm (out reader) N EntryAfter known κ q d (wt .1 .1 .0 .fits)
+        (init ! 2 refl (tt, at-typed)) $
+        move ! (12 ∷ []) $ calls-apart ! fm (out reader) N EntryAfter known κ q d (at-typed .fits)
         (and-then ! (load ! (from ! (stop !)) (look ! 6 refl)) (and-then ! (load ! (from ! (stop !)) (look ! 4 refl)) (no-more !)))
         (λ u n e is.
         -- [the entry after; the token; what the reader owns; _5; …; _4; …; _3; …; room for _2; …; _1; …; room for _0; …]
@@ -82,10 +81,10 @@ module _ {M : Type 1} (𝓤 : URA M) (H : Heap 𝓤) (A : Atoms 𝓤) (W : Given
         rewrite ! 9 (λ (w : Val). ‵ (fat fullShare (tyInt w64) l₂ 0 w)) (ap only (is .0)) refl $ drop ! $
         -- [the token; what the reader owns; _5; …; _4; …; _3; …; _2; …; _1; …; room for _0; …]
         assigns ! (of-opd ! (load ! (from ! (fld ! refl (stop !))) (look-in ! 10 (sub ! 0 refl (whole !))))) (from ! (stop !))
-        (init ! 2 refl (tt, wt .1 .0)) $
+        (init ! 2 refl (tt, card-typed)) $
         assigns ! (agg ! (and-then ! (load ! (from ! (stop !)) (look ! 2 refl))
         (and-then ! (load ! (from ! (stop !)) (look ! 8 refl)) (no-more !)))) (from ! (stop !))
-        (init ! 12 refl (tt, (wt .1 .0, (record { fits = is .1 }, tt)))) $
+        (init ! 12 refl (tt, (card-typed, (record { fits = is .1 }, tt)))) $
         returns ! (look ! 12 refl) $ forget ! 2 refl $ forget ! 4 refl $ forget ! 6 refl $ forget ! 8 refl $ forget ! 10 refl $
         forget ! 12 refl $
         move ! (12 ∷ 13 ∷ []) $ free1 ! $ move ! (10 ∷ 11 ∷ []) $ free1 ! $ move ! (8 ∷ 9 ∷ []) $ free1 ! $ move ! (6 ∷ 7 ∷ []) $ free1 ! $

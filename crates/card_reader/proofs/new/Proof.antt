@@ -1,4 +1,4 @@
--- `reader::new` meets its contract: a walk of its MIR, by hand. A `Reader` is made of the card passed and 0, in the result's local.
+-- `card_reader::new` meets its contract: a walk of its MIR, by hand. A `Reader` is made of the card passed and 0, in the result's local.
 -- A `&[u8]` is Copy, so what it owns is had twice: once for the card at exit, and once inside the result, beside the facts of at.
 -- Assumes nothing.
 use mathlib.Core.Path.{refl}
@@ -51,11 +51,12 @@ module _ {M : Type 1} (𝓤 : URA M) (H : Heap 𝓤) (A : Atoms 𝓤) (W : Given
     walk : Is (Slice κ) s (v ∷ []) → ent 𝓤 (onCall 𝓤 H A card (out reader) κ q s)
         (WpFn 𝓤 H C Λ code.function (v ∷ []) (Post 𝓤 H A card (out reader) κ q New s))
     walk p =
+        let card-typed = shr-slice-lawful 𝓤 H A W (named 0) κ u8 .typed s (v ∷ []) p .0 in
         qed W (raw (onCall 𝓤 H A card (out reader) κ q s) ∷ []) ∵ enter ! C Λ code.function (v ∷ []) _ $
         alloc1 ! (λ l₀. alloc1 ! (λ l₁. alloc0 ! $
-        params1 ! $ pass1 ! (init ! 0 refl (shr-slice-lawful 𝓤 H A W (named 0) κ u8 .typed s (v ∷ []) p .0)) $ pass0 ! $
+        params1 ! $ pass1 ! (init ! 0 refl card-typed) $ pass0 ! $
         assigns ! (agg ! (and-then ! (load ! (from ! (stop !)) (look ! 0 refl)) (and-then ! (lit ! tt) (no-more !)))) (from ! (stop !))
-        (init ! 2 refl (tt, (shr-slice-lawful 𝓤 H A W (named 0) κ u8 .typed s (v ∷ []) p .0 .1, (record { fits = lit< tt }, tt)))) $
+        (init ! 2 refl (tt, (card-typed .1, (record { fits = lit< tt }, tt)))) $
         returns ! (look ! 2 refl) $ forget ! 0 refl $ forget ! 2 refl $ move ! (2 ∷ 3 ∷ []) $ free1 ! $ free1 ! $ free0 ! $ by ! ends))
 
 pub new-spec : {M : Type 1} → stated.statement M

@@ -1,66 +1,67 @@
--- The loop keeps that the roads before i pass; so the first that does not is the first of all.
-use Rattle.network.specs.Bodies.{rowsIn}
-use Rattle.card_sections.proofs.Roads.{RoadsPass, arcs, body-known, junctions, roads-end, roads-fail, roads-start, roads-turn}
-use mathlib.Core.Path.{_∙_, sym}
-use Prim.Native.Nat.{_-_, _≤_}
+-- The loop keeps that the roads before i pass (`RoadsPass`); so the first that does not is the first of all (`roads-fail`), and if none is
+-- found, none is (`roads-end`).
+use mathlib.Core.Path.{_∙_, _≡_, sym}
+use Prim.Native.Nat.{_-_}
 use borrow.Author.Needs.{needs}
 use borrow.Author.Tests.{not-false, not-true}
 use native.Mathlib.Omega.{arith}
+use Rattle.model.specs.Card.{roadOk}
+use Rattle.network.specs.Bodies.{rowsIn}
+use Rattle.card_sections.proofs.Roads.{RoadsPass, arcs, body-known, junctions, roads-end, roads-fail, roads-start, roads-turn}
 use Rattle.card_sections.proofs.failing_road.Statement.{statement}
 use Rattle.card_sections.proofs.failing_road.Tie as tie
 
 abbrev Inv-loop : tie.InvT-loop
-Inv-loop roads order n m i₀ i = (i ≤ m) × RoadsPass (rowsIn roads order) n m i
+Inv-loop roads order n m i₀ i = RoadsPass (rowsIn roads order) n m i
 
 abbrev μ-loop : tie.MeasureT-loop
 μ-loop roads order n m i₀ i = m - i
 
-loop-holds : tie.Need-loop-holds Inv-loop μ-loop
-loop-holds c =
-    let start = c .before .before in (
-      search needs,
-      roads-start (rowsIn (start .args .roads .now) (start .args .order .now))
-          _ _ (sym (junctions (start .args .roads .now) (start .args .order .now)))
-          (sym (arcs (start .args .roads .now) (start .args .order .now))),
-    )
+-- ---- in the loop
 
-returns : tie.Need-returns Inv-loop μ-loop
-returns c =
-    let after-base-of = c .before .before in
+abbrev at-loop : tie.In-loop Inv-loop μ-loop → tie.At-loop Inv-loop μ-loop
+at-loop c = c .before
+
+abbrev start : tie.In-loop Inv-loop μ-loop → tie.Start Inv-loop μ-loop
+start c = c .before .before .before .before
+
+abbrev in-loop : tie.After-road-ok Inv-loop μ-loop → tie.In-loop Inv-loop μ-loop
+in-loop c = c .before .before .before .before
+
+-- the test of road i answers what question 5 says of it
+road-tested : (c : tie.After-road-ok Inv-loop μ-loop) →
+    let start = start (in-loop c) in
+    roadOk (rowsIn (start .args .roads .now) (start .args .order .now)) (at-loop (in-loop c) .loop .i) ≡ c .road-ok .result
+road-tested c =
+    let after-base-of = c .before in
     let after-head-of = after-base-of .before in
     let after-tail-of = after-head-of .before in
     let in-loop = after-tail-of .before in
-    let at-loop = in-loop .before in
-    let start = at-loop .before .before .before in
-    roads-fail (rowsIn (start .args .roads .now) (start .args .order .now)) _ _ _ (at-loop .loop .inv .1) (in-loop .loop-test .taken)
-    (body-known (start .args .roads .now) (start .args .order .now) (at-loop .loop .i) _ _ _ _ _ (omega (
-      arith,
-      arcs (start .args .roads .now) (start .args .order .now),
-    )) (at-loop .loop .inv .1 .0) (after-tail-of .tail-of .ensures) (after-head-of .head-of .ensures) (after-base-of .base-of .ensures)
-    (c .before .road-ok .ensures) ∙ not-true _ (c .if1 .taken))
+    let inv = at-loop in-loop .loop .inv in
+    body-known (start in-loop .args .roads .now) (start in-loop .args .order .now) (at-loop in-loop .loop .i)
+    (omega (arith, inv .m-is, in-loop .loop-test .taken)) (inv .n-is)
+    (after-tail-of .tail-of .ensures) (after-head-of .head-of .ensures) (after-base-of .base-of .ensures) (c .road-ok .ensures)
+
+-- ---- the answers
+
+loop-holds : tie.Need-loop-holds Inv-loop μ-loop
+loop-holds c =
+    let start = c .before .before in
+    roads-start (sym (junctions (start .args .roads .now) (start .args .order .now)))
+    (sym (arcs (start .args .roads .now) (start .args .order .now)))
+
+returns : tie.Need-returns Inv-loop μ-loop
+returns c =
+    let in-loop = in-loop (c .before) in
+    roads-fail (at-loop in-loop .loop .inv) (in-loop .loop-test .taken) (road-tested (c .before) ∙ not-true _ (c .if1 .taken))
 
 loop-again : tie.Need-loop-again Inv-loop μ-loop
 loop-again c =
-    let after-base-of = c .before .before in
-    let after-head-of = after-base-of .before in
-    let after-tail-of = after-head-of .before in
-    let at-loop = after-tail-of .before .before in
-    let start = at-loop .before .before .before in (
-      search needs,
-      roads-turn (rowsIn (start .args .roads .now) (start .args .order .now)) _ _ _ (at-loop .loop .inv .1)
-          (body-known (start .args .roads .now) (start .args .order .now) (at-loop .loop .i) _ _ _ _ _ (omega (
-            arith,
-            arcs (start .args .roads .now) (start .args .order .now),
-          )) (at-loop .loop .inv .1 .0) (after-tail-of .tail-of .ensures) (after-head-of .head-of .ensures)
-          (after-base-of .base-of .ensures) (c .before .road-ok .ensures) ∙ not-false _ (c .if1 .left)),
-    )
+    let in-loop = in-loop (c .before) in
+    roads-turn (at-loop in-loop .loop .inv) (in-loop .loop-test .taken) (road-tested (c .before) ∙ not-false _ (c .if1 .left))
 
 returns-2 : tie.Need-returns-2 Inv-loop μ-loop
-returns-2 c =
-    let at-loop = c .before in
-    let start = at-loop .before .before .before in
-    roads-end (rowsIn (start .args .roads .now) (start .args .order .now)) _ _ _ (at-loop .loop .inv .1) (at-loop .loop .inv .0)
-    (c .loop-test .left)
+returns-2 c = roads-end (c .before .loop .inv) (c .loop-test .left)
 
 pub failing-road-spec : {M : Type 1} → statement M
 failing-road-spec =

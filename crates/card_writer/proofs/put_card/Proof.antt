@@ -1,4 +1,4 @@
--- Table, roads and order are put one after the other and fill the area.
+-- Table, roads and order are put one after the other and fill the area (`card-put`).
 use mathlib.Core.Path.{refl}
 use Rattle.card_writer.proofs.ThreeParts.{card-put}
 use borrow.Author.Needs.{needs}
@@ -11,7 +11,7 @@ returns c =
     let after-put-words = after-put-words2 .before .before .before .before in
     let after-put-table = after-put-words .before .before .before .before in
     let start = after-put-table .before .before .before .before .before in
-    card-put (start .args .roads .now) (start .args .order .now) (start .args .area .now) _ _ _ _ _ refl refl (start .pre .1)
+    card-put (start .args .roads .now) (start .args .order .now) (start .args .area .now) refl refl (start .pre .1)
     (after-put-table .put-table .ensures) (after-put-words .put-words .ensures) (after-put-words2 .put-words2 .ensures)
 
 pub put-card-spec : {M : Type 1} → statement M

@@ -1,14 +1,15 @@
--- A row that is too long in words is so in bytes; of shorter ones the product does not wrap.
+-- A row that is too long in words is so in bytes (`long-roads`, `long-order`); of shorter ones the product does not wrap.
 use Rattle.card_writer.proofs.Long.{long-order, long-roads}
+use Prim.Native.Nat.{_*_}
 use borrow.Author.Needs.{needs}
 use Rattle.card_writer.proofs.sizes_ok.Statement.{statement}
 use Rattle.card_writer.proofs.sizes_ok.Tie as tie
 
 returns : tie.Need-returns
-returns c = long-roads _ _ (c .if1 .taken)
+returns c = long-roads (c .before .args .roads) (4 * c .before .args .order) (c .if1 .taken)
 
 returns-2 : tie.Need-returns-2
-returns-2 c = long-order _ _ (c .if2 .taken)
+returns-2 c = long-order (4 * c .before .before .args .roads) (c .before .before .args .order) (c .if2 .taken)
 
 pub sizes-ok-spec : {M : Type 1} → statement M
 sizes-ok-spec =

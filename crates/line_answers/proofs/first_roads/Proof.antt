@@ -1,3 +1,4 @@
+-- The first k words are the part up to k (`first-is`); a route that has fewer is its own beginning (`take-all`).
 use Rattle.line_answers.proofs.Ways.{first-is}
 use mathlib.Core.Path.{sym}
 use native.Mathlib.Nat.{le-of-lt}

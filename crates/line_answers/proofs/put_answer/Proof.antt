@@ -1,3 +1,5 @@
+-- Each kind of answer is put by a function of its own, and the text that this puts is the text of the answer (`answer-put`). A go has the
+-- first roads of the route.
 use mathlib.Core.Path.{ap}
 use Rattle.line_texts.specs.Puts.{puts-as}
 use Rattle.line_answers.specs.Texts.{tripText}
@@ -10,26 +12,26 @@ returns : tie.Need-returns
 returns c =
     let after-put-refusal = c .before .before in
     let after-answer = after-put-refusal .before .before .before in
-    answer-put _ _ _ (after-answer .answer .given .1) (after-put-refusal .put-refusal .ensures)
+    answer-put _ (after-answer .answer .given .1) (after-put-refusal .put-refusal .ensures)
 
 returns-2 : tie.Need-returns-2
 returns-2 c =
     let after-put = c .before .before in
     let after-enum-told = after-put .before .before .before in
-    answer-put _ _ _ (after-enum-told .enum-told .given .1) (after-put .put .ensures)
+    answer-put _ (after-enum-told .enum-told .given .1) (after-put .put .ensures)
 
 returns-3 : tie.Need-returns-3
 returns-3 c =
     let after-put-estimate = c .before .before in
     let after-answer2 = after-put-estimate .before .before .before in
-    answer-put _ _ _ (after-answer2 .answer2 .given .1) (after-put-estimate .put-estimate .ensures)
+    answer-put _ (after-answer2 .answer2 .given .1) (after-put-estimate .put-estimate .ensures)
 
 returns-4 : tie.Need-returns-4
 returns-4 c =
     let after-put-trip = c .before .before in
     let after-first-roads = after-put-trip .before .before in
     let after-answer3 = after-first-roads .before .before in
-    answer-put _ _ _ (after-answer3 .answer3 .given .1)
+    answer-put _ (after-answer3 .answer3 .given .1)
     (puts-as (ap (tripText _ _) (after-first-roads .first-roads .ensures)) (after-put-trip .put-trip .ensures))
 
 pub put-answer-spec : {M : Type 1} → statement M

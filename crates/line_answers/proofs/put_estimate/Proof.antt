@@ -1,3 +1,4 @@
+-- A time that is none is put as `est none`, any other as `est` and its word (`time-none`, `time-some`).
 use Rattle.line_answers.proofs.Ways.{time-none, time-some}
 use borrow.Author.Needs.{needs}
 use Rattle.line_answers.proofs.put_estimate.Statement.{statement}
@@ -8,7 +9,7 @@ returns c =
     let after-put = c .before .before in
     let then1 = after-put .before .before .before in
     let after-is-none = then1 .before in
-    time-none _ _ (after-is-none .is-none .ensures) (then1 .if1 .taken) (after-put .put .ensures)
+    time-none _ (after-is-none .is-none .ensures) (then1 .if1 .taken) (after-put .put .ensures)
 
 returns-2 : tie.Need-returns-2
 returns-2 c =
@@ -16,7 +17,7 @@ returns-2 c =
     let after-word = after-put-named .before .before in
     let else1 = after-word .before .before in
     let after-is-none = else1 .before in
-    time-some _ _ (after-is-none .is-none .ensures) _ (after-word .word .ensures) (else1 .if1 .left) (after-put-named .put-named .ensures)
+    time-some _ (after-is-none .is-none .ensures) (after-word .word .ensures) (else1 .if1 .left) (after-put-named .put-named .ensures)
 
 pub put-estimate-spec : {M : Type 1} → statement M
 put-estimate-spec =

@@ -1,3 +1,4 @@
+-- `go` and the total, the count, and the roads are put one after the other, which is the text of the three together (`trip-put`).
 use Rattle.line_answers.proofs.Ways.{trip-put}
 use borrow.Author.Needs.{needs}
 use Rattle.line_answers.proofs.put_trip.Statement.{statement}
@@ -8,7 +9,10 @@ returns c =
     let after-put-words = c .before .before in
     let after-put-word = after-put-words .before .before .before .before in
     let after-put-named = after-put-word .before .before .before .before in
-    trip-put _ _ _ (after-put-named .put-named .ensures) (after-put-word .put-word .ensures) (after-put-words .put-words .ensures)
+    let start = after-put-named .before .before .before .before .before in
+    let args = start .args in
+    trip-put (args .total) (args .count) (args .roads .now) (after-put-named .put-named .ensures) (after-put-word .put-word .ensures)
+    (after-put-words .put-words .ensures)
 
 pub put-trip-spec : {M : Type 1} → statement M
 put-trip-spec =

@@ -1,3 +1,4 @@
+-- A number is handed to `call_of`; what is no number makes the line unreadable, by the definition of `one`.
 use mathlib.Core.Path.{_∙_, ap, sym}
 use Rattle.line_console.specs.Lines.{callOf, one}
 use borrow.Author.Needs.{needs}

@@ -1,3 +1,4 @@
+-- Two numbers are a set of the time that the second one is the word of (`set-is`); else the line is unreadable, by the definition of `two`.
 use Rattle.line_console.proofs.Calls.{set-is}
 use borrow.Author.Needs.{needs}
 use Rattle.line_console.proofs.read_set.Statement.{statement}
@@ -7,7 +8,7 @@ returns : tie.Need-returns
 returns c =
     let after-time = c .before .before in
     let after-road = after-time .before .before .before in
-    set-is _ _ _ _ _ (after-road .road .given .1) (after-time .time .given .1) (c .of-word .ensures)
+    set-is (after-road .road .given .1) (after-time .time .given .1) (c .of-word .ensures)
 
 pub read-set-spec : {M : Type 1} → statement M
 read-set-spec =

@@ -1,3 +1,4 @@
+-- The newline follows the text of the answer, which was put where nothing was written yet (`puts-then`, `puts-start`).
 use Rattle.line_texts.specs.Puts.{puts-start, puts-then}
 use borrow.Author.Needs.{needs}
 use Rattle.line_console.proofs.write_answer.Statement.{statement}

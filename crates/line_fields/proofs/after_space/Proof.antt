@@ -1,17 +1,14 @@
+-- The rest after the first space is what `afterSpace` drops to (`after-is`); where there is no space, both are nothing (`after-none`).
 use Rattle.line_fields.proofs.Parts.{after-is, after-none}
 use borrow.Author.Needs.{needs}
 use Rattle.line_fields.proofs.after_space.Statement.{statement}
 use Rattle.line_fields.proofs.after_space.Tie as tie
 
 returns : tie.Need-returns
-returns c =
-    let after-space-in = c .before .before in
-    after-is _ _ (after-space-in .space-in .ensures .0)
+returns c = after-is _ (c .before .before .space-in .ensures .0)
 
 returns-2 : tie.Need-returns-2
-returns-2 c =
-    let after-space-in = c .before .before in
-    after-none _ _ (after-space-in .space-in .ensures .0) (search needs)
+returns-2 c = after-none _ (c .before .before .space-in .ensures .0) (search needs)
 
 pub after-space-spec : {M : Type 1} → statement M
 after-space-spec =

@@ -1,19 +1,32 @@
-use mathlib.Core.Path.{_≡_, refl}
-use Prim.Native.Nat.{_-_, _≤_}
-use native.Mathlib.Omega.{arith}
-use lib.ListN.{drop, length}
+-- The digits that the loop has passed make v (`Passed`): a byte that is no digit, or a value that is too large, decides at once that s is
+-- no number (`below-digits`, `above-digits`, `overflow`), and at the end v is the number (`passed-all`).
+use Prim.Native.Nat.{_-_}
+use lib.ListN.{length}
 use borrow.Author.Needs.{needs}
-use Rattle.model.specs.Word.{noneWord}
-use Rattle.line_fields.specs.Fields.{allDigits, valueFrom}
-use Rattle.line_fields.proofs.Numbers.{above-digits, below-digits, complete, digits-next, long, overflow, short, value-next}
+use Rattle.line_fields.proofs.Numbers.{Next, Passed, passed-all, passed-more, passed-none}
+use Rattle.line_fields.proofs.Numbers.{above-digits, below-digits, long, overflow, short}
 use Rattle.line_fields.proofs.read_number.Statement.{statement}
 use Rattle.line_fields.proofs.read_number.Tie as tie
 
 abbrev Inv-loop : tie.InvT-loop
-Inv-loop s v₀ i₀ v i = (i ≤ length s) × (v ≤ noneWord) × (valueFrom 0 s ≡ valueFrom v (drop i s)) × (allDigits s ≡ allDigits (drop i s))
+Inv-loop s v₀ i₀ v i = Passed s i v
 
 abbrev μ-loop : tie.MeasureT-loop
 μ-loop s v₀ i₀ v i = length s - i
+
+-- ---- the byte of a turn
+
+abbrev at-loop : tie.After-wide Inv-loop μ-loop → tie.At-loop Inv-loop μ-loop
+at-loop c = c .before .before .before
+
+abbrev start : tie.At-loop Inv-loop μ-loop → tie.Start Inv-loop μ-loop
+start c = c .before .before .before .before
+
+byte-read : (c : tie.After-wide Inv-loop μ-loop)
+    → Next (start (at-loop c) .args .s .now) (at-loop c .loop .i) (at-loop c .loop .v) (c .wide .result)
+byte-read c = record { passed = at-loop c .loop .inv; below = c .before .before .loop-test .taken; byte-is = c .wide .ensures }
+
+-- ---- the answers
 
 returns : tie.Need-returns Inv-loop μ-loop
 returns c = short _ (c .if1 .taken)
@@ -22,45 +35,29 @@ returns-2 : tie.Need-returns-2 Inv-loop μ-loop
 returns-2 c = long _ (c .if2 .taken)
 
 loop-holds : tie.Need-loop-holds Inv-loop μ-loop
-loop-holds c = (omega arith, omega arith, refl, refl)
+loop-holds c = passed-none
 
 returns-3 : tie.Need-returns-3 Inv-loop μ-loop
-returns-3 c =
-    let at-loop = c .before .before .before .before in
-    below-digits _ (at-loop .loop .i) (at-loop .loop .v) _ (search needs) (c .before .wide .ensures) (at-loop .loop .inv .2)
-    (at-loop .loop .inv .3) (c .if3 .taken)
+returns-3 c = below-digits (byte-read (c .before)) (c .if3 .taken)
 
 returns-4 : tie.Need-returns-4 Inv-loop μ-loop
-returns-4 c =
-    let after-wide = c .before .before in
-    let at-loop = after-wide .before .before .before in
-    above-digits _ (at-loop .loop .i) (at-loop .loop .v) _ (search needs) (after-wide .wide .ensures) (at-loop .loop .inv .2)
-    (at-loop .loop .inv .3) (c .if4 .taken)
+returns-4 c = above-digits (byte-read (c .before .before)) (c .if4 .taken)
 
 returns-5 : tie.Need-returns-5 Inv-loop μ-loop
 returns-5 c =
     let after-wide = c .before .before .before .before in
-    let at-loop = after-wide .before .before .before in
-    overflow _ (at-loop .loop .i) (at-loop .loop .v) _ (search needs) (after-wide .wide .ensures) (at-loop .loop .inv .2)
-    (at-loop .loop .inv .3) (c .if5 .taken)
+    overflow (byte-read after-wide) (c .if5 .taken)
 
 loop-again : tie.Need-loop-again Inv-loop μ-loop
 loop-again c =
-    let after-wide = c .before .before .before .before in
-    let at-loop = after-wide .before .before .before in (
-      search needs,
-      c .if5 .left,
-      value-next _ (at-loop .loop .i) (at-loop .loop .v) _ (search needs) (after-wide .wide .ensures) (at-loop .loop .inv .2)
-          (at-loop .loop .inv .3),
-      digits-next _ (at-loop .loop .i) (at-loop .loop .v) _ (search needs) (after-wide .wide .ensures) (at-loop .loop .inv .2)
-          (at-loop .loop .inv .3) (search needs) (search needs),
-    )
+    let else4 = c .before .before in
+    let after-wide = else4 .before .before in
+    passed-more (byte-read after-wide) (else4 .before .if3 .left) (else4 .if4 .left) (c .if5 .left)
 
 returns-6 : tie.Need-returns-6 Inv-loop μ-loop
 returns-6 c =
-    let at-loop = c .before in
-    complete _ (at-loop .loop .i) (at-loop .loop .v) (search needs) (search needs) (search needs) (search needs) (at-loop .loop .inv .2)
-    (at-loop .loop .inv .3)
+    let else2 = c .before .before in
+    passed-all (c .loop-test .left) (else2 .before .if1 .left) (else2 .if2 .left) (c .before .loop .inv)
 
 pub read-number-spec : {M : Type 1} → statement M
 read-number-spec =

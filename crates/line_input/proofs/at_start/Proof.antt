@@ -1,4 +1,4 @@
--- `lines::at_start`. Assumes nothing.
+-- Nothing is read and no line is begun (`started`).
 use Rattle.line_input.proofs.Steps.{started}
 use Rattle.line_input.proofs.at_start.Statement.{statement}
 use Rattle.line_input.proofs.at_start.Tie as tie

@@ -1,4 +1,5 @@
--- `lines::step`. Assumes nothing.
+-- A byte that is left is taken (`step-takes`); where none is left, or the chunk is shorter than the reader says, the next chunk is read
+-- (`step-reads`).
 use mathlib.Core.Logic.{inl, inr}
 use Rattle.line_input.proofs.Steps.{either, step-reads, step-takes}
 use borrow.Author.Needs.{needs}
@@ -10,13 +11,13 @@ returns c =
     let after-take-one = c .before .before in
     let then2 = after-take-one .before .before .before in
     let then1 = then2 .before in
-    step-takes _ _ _ _ _ (then1 .if1 .taken) (then2 .if2 .taken) (after-take-one .take-one .ensures)
+    step-takes (then1 .if1 .taken) (then2 .if2 .taken) (after-take-one .take-one .ensures)
 
 returns-2 : tie.Need-returns-2
 returns-2 c =
     let after-refill = c .before .before in
     let joined1 = after-refill .before .before in
-    step-reads _ _ _ _ _ (either (joined1 .if1 .came) (λ x. inr (x .1 .left)) (λ y. inl (y .left))) (after-refill .refill .ensures)
+    step-reads (either (joined1 .if1 .came) (λ x. inr (x .1 .left)) (λ y. inl (y .left))) (after-refill .refill .ensures)
 
 pub step-spec : {M : Type 1} → statement M
 step-spec =

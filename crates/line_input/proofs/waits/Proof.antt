@@ -1,4 +1,4 @@
--- `lines::waits`: the tests as they are made. Assumes nothing.
+-- The tests are those of `waiting`, made one after the other; the last one is that of the steps that are left (`by-turns`).
 use mathlib.Core.Path.{sym}
 use Rattle.line_input.proofs.Steps.{by-turns}
 use borrow.Author.Needs.{needs}

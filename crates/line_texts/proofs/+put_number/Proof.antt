@@ -1,8 +1,10 @@
-use borrow.Author.Needs.{needs}
-use Rattle.line_texts.proofs.Areas.{digit-put, digits-put}
+-- A number below 10 is its one digit (`digit-put`); any other has the digits of its tenth, which is smaller, and then its last digit
+-- (`digits-put`).
 use Prim.Native.Nat.{ℕ, _<_}
+use borrow.Author.Needs.{needs}
 use borrow.Fn.Kinds.{In}
 use borrow.Fn.PlainCycle.{Measures, is, falls, and}
+use Rattle.line_texts.proofs.Areas.{digit-put, digits-put}
 use Rattle.line_texts.proofs.put_number.Reads as put-number
 use Rattle.line_texts.proofs.put_number.Kinds as put-number-kinds
 use Rattle.line_texts.proofs.+put_number.Lts-put_number as put-number-lts
@@ -11,43 +13,19 @@ use Rattle.line_texts.proofs.put_byte.Reads as put-byte-reads
 use Rattle.line_texts.proofs.+put_number.{statement}
 use Rattle.line_texts.proofs.+put_number.Tie.{close}
 
+-- the number falls from call to call
 abbrev μ-put-number : Measures 1 put-number-kinds.ps ℕ
 μ-put-number κs a = a .0
 
 abbrev put-number-at : ℕ → In 1 put-number-kinds.ps
-put-number-at t =
-    and 1 put-number-kinds.ps (is 1 put-number-kinds.ps μ-put-number t) put-number.Pre
+put-number-at t = and 1 put-number-kinds.ps (is 1 put-number-kinds.ps μ-put-number t) put-number.Pre
 
 abbrev put-number-below : ℕ → In 1 put-number-kinds.ps
-put-number-below t =
-    and 1 put-number-kinds.ps (falls 1 put-number-kinds.ps _<_ μ-put-number t) put-number.Pre
+put-number-below t = and 1 put-number-kinds.ps (falls 1 put-number-kinds.ps _<_ μ-put-number t) put-number.Pre
 
-put-number-returns : (t : ℕ) → put-number-lts.Need-returns (
-  digit-reads.Asked,
-  digit-reads.Learnt,
-  put-byte-reads.Asked,
-  put-byte-reads.Learnt,
-  put-number-below t,
-  put-number.Post,
-) (put-number-at t) put-number.Post
-put-number-returns t c =
-    digit-put (c .before .before .before .before .before .if1 .taken) (c .before .before .before .before .digit .ensures)
-    (c .before .before .put-byte .ensures)
-
-put-number-returns-2 : (t : ℕ) → put-number-lts.Need-returns-2 (
-  digit-reads.Asked,
-  digit-reads.Learnt,
-  put-byte-reads.Asked,
-  put-byte-reads.Learnt,
-  put-number-below t,
-  put-number.Post,
-) (put-number-at t) put-number.Post
-put-number-returns-2 t c =
-    digits-put (search needs) (search needs) (c .before .before .before .before .digit2 .ensures)
-    (c .before .before .before .before .before .before .before .put-number .ensures) (c .before .before .put-byte2 .ensures)
-
-pub +put-number-spec : {M : Type 1} → statement M
-+put-number-spec = close μ-put-number λ t. put-number-lts.spec (
+-- what is known of the calls
+abbrev calls : ℕ → put-number-lts.Claims
+calls t = (
   digit-reads.Asked,
   digit-reads.Learnt,
   put-byte-reads.Asked,
@@ -55,14 +33,32 @@ pub +put-number-spec : {M : Type 1} → statement M
   put-number-below t,
   put-number.Post,
 )
-    (put-number-at t)
-    put-number.Post
+
+-- ---- the answers
+
+returns : (t : ℕ) → put-number-lts.Need-returns (calls t) (put-number-at t) put-number.Post
+returns t c =
+    let after-put-byte = c .before .before in
+    let after-digit = after-put-byte .before .before in
+    digit-put (after-digit .before .if1 .taken) (after-digit .digit .ensures) (after-put-byte .put-byte .ensures)
+
+returns-2 : (t : ℕ) → put-number-lts.Need-returns-2 (calls t) (put-number-at t) put-number.Post
+returns-2 t c =
+    let after-put-byte2 = c .before .before in
+    let after-digit2 = after-put-byte2 .before .before in
+    let after-put-number = after-digit2 .before .before .before in
+    digits-put (search needs) (search needs) (after-digit2 .digit2 .ensures) (after-put-number .put-number .ensures)
+    (after-put-byte2 .put-byte2 .ensures)
+
+pub +put-number-spec : {M : Type 1} → statement M
++put-number-spec =
+    close μ-put-number λ t. put-number-lts.spec (calls t) (put-number-at t) put-number.Post
     (λ c κs. search needs)
     (λ c κs. search needs)
     (λ c. search needs)
-    (put-number-returns t)
+    (returns t)
     (λ c κs. search needs)
     (λ c κs. search needs)
     (λ c κs. search needs)
     (λ c. search needs)
-    (put-number-returns-2 t)
+    (returns-2 t)

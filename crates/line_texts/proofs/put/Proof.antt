@@ -1,32 +1,30 @@
-use mathlib.Core.Path.{_≡_}
-use Prim.Native.Nat.{_-_, _≤_}
-use lib.ListN.{length, take}
+-- Each turn puts one byte more (`PutFirst`, `put-more`).
+use mathlib.Core.Path.{refl}
+use Prim.Native.Nat.{_-_}
+use lib.ListN.{length}
 use borrow.Author.Needs.{needs}
-use Rattle.line_texts.specs.Areas.{Puts}
-use Rattle.line_texts.specs.Puts.{puts-none}
-use Rattle.line_texts.proofs.Areas.{put-end, put-turn}
+use Rattle.line_texts.proofs.Areas.{PutFirst, put-all, put-more, put-none}
 use Rattle.line_texts.proofs.put.Statement.{statement}
 use Rattle.line_texts.proofs.put.Tie as tie
 
 abbrev Inv-loop : tie.InvT-loop
-Inv-loop s out₀ at end₀ i₀ out end i = (i ≤ length s) × (length out ≡ length out₀) × Puts (take i s) out₀ at out end
+Inv-loop s out₀ at end₀ i₀ out end i = PutFirst (λ l. l) s i out₀ at out end
 
 abbrev μ-loop : tie.MeasureT-loop
 μ-loop s out₀ at end₀ i₀ out end i = length s - i
 
 loop-holds : tie.Need-loop-holds Inv-loop μ-loop
-loop-holds c = (search needs, search needs, puts-none _ _)
+loop-holds c = put-none refl
 
 loop-again : tie.Need-loop-again Inv-loop μ-loop
 loop-again c =
     let after-put-byte = c .before .before in
-    let at-loop = after-put-byte .before .before .before .before in
-    (search needs, search needs, put-turn _ (at-loop .loop .i) (search needs) (at-loop .loop .inv .2) (after-put-byte .put-byte .ensures))
+    let in-loop = after-put-byte .before .before .before in
+    put-more (λ l r. refl) (in-loop .loop-test .taken) (in-loop .before .loop .inv) (after-put-byte .put-byte .kept .1 .0)
+    (after-put-byte .put-byte .ensures)
 
 returns : tie.Need-returns Inv-loop μ-loop
-returns c =
-    let at-loop = c .before in
-    put-end _ (at-loop .loop .i) (search needs) (at-loop .loop .inv .2)
+returns c = put-all (c .loop-test .left) (c .before .loop .inv)
 
 pub put-spec : {M : Type 1} → statement M
 put-spec =

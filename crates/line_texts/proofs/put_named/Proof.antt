@@ -1,3 +1,4 @@
+-- What is put after the name follows it (`puts-then`).
 use Rattle.line_texts.specs.Puts.{puts-then}
 use borrow.Author.Needs.{needs}
 use Rattle.line_texts.proofs.put_named.Statement.{statement}

@@ -1,3 +1,4 @@
+-- A space, and the decimal digits after it, are the text of one number (`spaced-put`).
 use Rattle.line_texts.proofs.Areas.{spaced-put}
 use borrow.Author.Needs.{needs}
 use Rattle.line_texts.proofs.put_spaced.Statement.{statement}

@@ -1,3 +1,4 @@
+-- Four stores, each of one byte, put the four bytes of the word in place of those from i on (`stored`).
 use lib.ListN.{length-set}
 use native.Mathlib.Omega.{arith}
 use Rattle.network.proofs.Bytes.{stored}

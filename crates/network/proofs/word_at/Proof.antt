@@ -1,3 +1,4 @@
+-- The four bytes from i on, shifted and summed, are the word as `wordAt` sums them.
 use native.Mathlib.Omega.{arith}
 use Rattle.model.specs.Bytes.{wordAt}
 use borrow.Author.Needs.{needs}

@@ -1,59 +1,93 @@
--- The order has every junction once, so the place that is written at a junction is its rank (`Filled`).
-use borrow.Author.Needs.{needs}
+-- The order has every junction once, so the place that is written at a junction is its rank (`Filled`, `filled-turn`).
+use Prim.Native.Nat.{_-_, _<_, _≤_, ℕ}
+use mathlib.Core.Path.{_∙_, _≡_}
+use mathlib.Core.List.{List}
 use native.Mathlib.Omega.{arith}
-use Prim.Native.Nat.{_-_, _≤_}
-use mathlib.Core.Path.{_≡_}
 use lib.ListN.{length, length-set}
-use Rattle.network.specs.Bodies.{map-facts}
+use borrow.Author.Needs.{needs}
+use Rattle.network.specs.Bodies.{Sound, map-facts, mapIn}
 use Rattle.pairs_contraction.proofs.Places.{Filled, filled-end, filled-turn, junction-below}
 use Rattle.pairs_contraction.proofs.fill_ranks.Statement.{statement}
 use Rattle.pairs_contraction.proofs.fill_ranks.Tie as tie
 
+record Filling (order ranks₀ : List ℕ) (k : ℕ) (ranks : List ℕ) : Type 0 where
+  to-go : k ≤ length ranks₀
+  length-kept : length ranks ≡ length ranks₀
+  filled : Filled order k ranks
+
 abbrev Inv-loop : tie.InvT-loop
-Inv-loop order ranks₀ k₀ ranks k = (k ≤ length ranks₀) × (length ranks ≡ length ranks₀) × Filled order k ranks
+Inv-loop order ranks₀ k₀ ranks k = Filling order ranks₀ k ranks
 
 abbrev μ-loop : tie.MeasureT-loop
 μ-loop order ranks₀ k₀ ranks k = length ranks₀ - k
 
+-- ---- at the head of the loop
+
+abbrev start : tie.At-loop Inv-loop μ-loop → tie.Start Inv-loop μ-loop
+start c = c .before .before .before
+
+-- the order is that of a map
+abbrev roads : tie.At-loop Inv-loop μ-loop → List ℕ
+roads c = start c .pre .0 .0
+
+abbrev vertices : tie.At-loop Inv-loop μ-loop → ℕ
+vertices c = mapIn (roads c) (start c .args .order .now) .vertices
+
+sound : (c : tie.At-loop Inv-loop μ-loop) → Sound (roads c) (start c .args .order .now)
+sound c = start c .pre .0 .1
+
+number : (c : tie.At-loop Inv-loop μ-loop) → length (start c .args .ranks .now) ≡ vertices c
+number c = omega (arith, map-facts (sound c) .order-is, start c .pre .1)
+
+place-in : (c : tie.In-loop Inv-loop μ-loop) → c .before .loop .k < vertices (c .before)
+place-in c = omega (arith, c .loop-test .taken, c .before .loop .inv .length-kept, number (c .before))
+
+-- ---- the answers
+
 loop-holds : tie.Need-loop-holds Inv-loop μ-loop
-loop-holds c = (search needs, search needs, record { at = λ i h. absurd (omega arith) })
+loop-holds c = record { to-go = search needs; length-kept = search needs; filled = record { at = λ i h. absurd (omega arith) } }
 
 slice-write-ranks : tie.Need-slice-write-ranks Inv-loop μ-loop
 slice-write-ranks c =
-    let at-loop = c .before .before .before in
-    let start = at-loop .before .before .before in
+    let after-junction-of = c .before in
+    let in-loop = after-junction-of .before in
+    let at-loop = in-loop .before in
     omega (
       arith,
-      map-facts (start .pre .0 .1) .order-is,
-      start .pre .1,
-      c .before .junction-of .ensures,
-      junction-below (start .pre .0 .1) (at-loop .loop .k) (omega (arith, map-facts (start .pre .0 .1) .order-is, start .pre .1)),
+      after-junction-of .junction-of .ensures,
+      junction-below (sound at-loop) (place-in in-loop),
+      number at-loop,
+      at-loop .loop .inv .length-kept,
     )
 
 add-k : tie.Need-add-k Inv-loop μ-loop
 add-k c =
-    let start = c .before .before .before .before .before .before in
-    omega (arith, map-facts (start .pre .0 .1) .order-is, map-facts (start .pre .0 .1) .vertices-high, start .pre .1)
+    let in-loop = c .before .before in
+    omega (arith, place-in in-loop, map-facts (sound (in-loop .before)) .vertices-high)
 
 loop-again : tie.Need-loop-again Inv-loop μ-loop
 loop-again c =
-    let at-loop = c .before .before .before in
-    let start = at-loop .before .before .before in (
-      search needs,
-      simp length-set (search needs),
-      filled-turn (start .pre .0 .1) _ _ _ (omega (arith, map-facts (start .pre .0 .1) .order-is, start .pre .1)) (omega (
-        arith,
-        map-facts (start .pre .0 .1) .order-is,
-        start .pre .1,
-      )) (c .before .junction-of .ensures) (at-loop .loop .inv .2),
-    )
+    let after-junction-of = c .before in
+    let in-loop = after-junction-of .before in
+    let at-loop = in-loop .before in
+    let inv = at-loop .loop .inv in record {
+      to-go = search needs;
+      length-kept = simp length-set (inv .length-kept);
+      filled = filled-turn (sound at-loop) (inv .length-kept ∙ number at-loop) (place-in in-loop) (after-junction-of .junction-of .ensures)
+          (inv .filled);
+    }
 
 returns : tie.Need-returns Inv-loop μ-loop
 returns c =
     let at-loop = c .before in
-    let start = at-loop .before .before .before in
-    λ roads. filled-end (start .pre .0 .1) (at-loop .loop .k) _ (omega (arith, map-facts (start .pre .0 .1) .order-is, start .pre .1))
-    (omega (arith, map-facts (start .pre .0 .1) .order-is, start .pre .1)) (at-loop .loop .inv .2)
+    let inv = at-loop .loop .inv in
+    λ roads. filled-end (sound at-loop) (inv .length-kept ∙ number at-loop) (omega (
+      arith,
+      c .loop-test .left,
+      inv .to-go,
+      inv .length-kept,
+      number at-loop,
+    )) (inv .filled)
 
 pub fill-ranks-spec : {M : Type 1} → statement M
 fill-ranks-spec =

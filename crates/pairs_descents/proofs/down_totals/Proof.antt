@@ -1,45 +1,54 @@
--- The pass begins with the total 0 at the target alone. Each turn hands down by one record more (`Descending`), and after all of them the
--- totals are the least ones.
-use Rattle.pairs_descents.proofs.Descends.{descend-end, descend-start, descend-turn}
-use Rattle.pairs_descents.specs.Downs.{Descending}
-use lib.ListN.{length, length-set}
+-- The pass begins with the total 0 at the target alone (`descend-start`). Each turn hands down by one record more (`Descending`,
+-- `descend-turn`), and after all of them the totals are the least ones (`descend-end`).
+use Prim.Native.Nat.{_-_, _≤_, ℕ}
 use mathlib.Core.Path.{_∙_, _≡_}
-use Prim.Native.Nat.{_-_, _≤_}
+use mathlib.Core.List.{List}
+use lib.ListN.{length, length-set}
 use borrow.Author.Needs.{needs}
+use Rattle.pairs_descents.specs.Downs.{Descending}
+use Rattle.pairs_descents.proofs.Descends.{descend-end, descend-start, descend-turn}
 use Rattle.pairs_descents.proofs.down_totals.Statement.{statement}
 use Rattle.pairs_descents.proofs.down_totals.Tie as tie
 
+record Passing (n count : ℕ) (order pairs : List ℕ) (t i : ℕ) (down : List ℕ) : Type 0 where
+  to-go : i ≤ count
+  down-is : length down ≡ n
+  descending : Descending n order pairs count t i down
+
 abbrev Inv-loop : tie.InvT-loop
-Inv-loop n count order pairs down₀ t i₀ down i = (i ≤ count) × (length down ≡ n) × Descending n order pairs count t i down
+Inv-loop n count order pairs down₀ t i₀ down i = Passing n count order pairs t i down
 
 abbrev μ-loop : tie.MeasureT-loop
 μ-loop n count order pairs down₀ t i₀ down i = count - i
 
+abbrev start : tie.After-word Inv-loop μ-loop → tie.Start Inv-loop μ-loop
+start c = c .before .before .before .before .before .before .before .before .before .before
+
 loop-holds : tie.Need-loop-holds Inv-loop μ-loop
 loop-holds c =
     let after-fill = c .before .before .before .before .before in
-    let start = after-fill .before .before .before .before .before in (
-      search needs,
-      simp length-set (search needs),
-      descend-start _ _ _ _ _ (search needs) _ _ _ (start .pre .3)
-          (after-fill .fill .ensures) (c .word .ensures ∙ c .before .of-word .ensures),
-    )
+    let asked = start c .pre in record {
+      to-go = search needs;
+      down-is = simp length-set (search needs);
+      descending = descend-start (asked .target-in) (asked .down-is) (after-fill .fill .ensures)
+          (c .word .ensures ∙ c .before .of-word .ensures);
+    }
 
 loop-again : tie.Need-loop-again Inv-loop μ-loop
 loop-again c =
     let after-hand-down = c .before .before in
     let in-loop = after-hand-down .before .before in
-    let at-loop = in-loop .before in (
-      search needs,
-      search needs,
-      descend-turn _ _ _ _ _ _ _ _ (in-loop .loop-test .taken) (at-loop .loop .inv .1)
-          (at-loop .loop .inv .2) (after-hand-down .hand-down .ensures),
-    )
+    let inv = in-loop .before .loop .inv in record {
+      to-go = search needs;
+      down-is = search needs;
+      descending = descend-turn (in-loop .loop-test .taken) (inv .down-is) (inv .descending) (after-hand-down .hand-down .ensures);
+    }
 
 returns : tie.Need-returns Inv-loop μ-loop
 returns c =
     let at-loop = c .before in
-    descend-end _ _ _ _ _ _ _ (c .loop-test .left) (at-loop .loop .inv .1) (search needs) (at-loop .loop .inv .2)
+    let inv = at-loop .loop .inv in
+    descend-end (c .loop-test .left) (inv .down-is) (start (at-loop .before) .pre .order-is) (inv .descending)
 
 pub down-totals-spec : {M : Type 1} → statement M
 down-totals-spec =

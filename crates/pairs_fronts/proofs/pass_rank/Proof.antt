@@ -1,114 +1,99 @@
--- The high ahead of v is r, so v's cursor stands at its pair with r. The records after it relax the row of r over v, and the front moves
--- on by one record.
-use mathlib.Core.Path.{refl, sym}
-use lib.ListN.{getD, length-set}
+-- The high ahead of v is r, so v's cursor stands at its pair with r (`meeting`). The records after it relax the row of r over v, and the
+-- front moves on by one record (`stage-pass`).
+use Prim.Native.Nat.{_+_, _<_}
+use mathlib.Core.Path.{sym}
+use lib.ListN.{getD, length, length-set}
 use lib.Seq.{getD-set-same}
-use Rattle.pairs_rows.specs.Steps.{in-fronts, le-same, next-fits}
-use Rattle.pairs_fronts.proofs.Passes.{meeting, reached, stage-pass}
 use borrow.Author.Needs.{needs}
+use Rattle.pairs_rows.specs.Steps.{in-fronts, next-fits}
+use Rattle.pairs_fronts.proofs.Passes.{Meeting, meeting, reached, stage-pass}
 use Rattle.pairs_fronts.proofs.pass_rank.Statement.{statement}
 use Rattle.pairs_fronts.proofs.pass_rank.Tie as tie
+
+-- ---- at the start: v has a front, and its row from the pair with r on
+
+cursor-in : (c : tie.Start) → c .args .v .0 < length (c .args .cursor .now)
+cursor-in c = let ((_, stage), below, _) = c .pre in in-fronts below (stage .inside) (stage .wide .cursors)
+
+ahead-in : (c : tie.Start) → c .args .v .0 < length (c .args .ahead .now)
+ahead-in c = let ((_, stage), below, _) = c .pre in in-fronts below (stage .inside) (stage .wide .aheads)
+
+end-in : (c : tie.Start) → c .args .v .0 < length (c .args .ends .now)
+end-in c = let ((_, stage), below, _) = c .pre in in-fronts below (stage .inside) (stage .wide .ends-too)
+
+met : (c : tie.Start) → Meeting (c .pre .0 .0) (c .args .n) (c .args .r .0) (c .args .v .0)
+    (getD (c .args .cursor .now) (c .args .v .0) 0) (getD (c .args .ends .now) (c .args .v .0) 0) (c .args .pairs .now)
+met c = let ((_, stage), below, at-r) = c .pre in meeting stage below at-r
+
+next-high : (c : tie.Start) → getD (c .args .cursor .now) (c .args .v .0) 0 + 1 < 4294967296
+next-high c = next-fits (met c .next-in) (met c .end-in) (c .pre .0 .1 .area)
+
+-- ---- the places after
+
+abbrev start : tie.After-relax-over → tie.Start
+start c = c .before .before .before .before .before .before .before .before .before .before .before .before .before .before
+
+abbrev after-relax-over : tie.After-ahead-at → tie.After-relax-over
+after-relax-over c = c .before .before .before .before .before .before .before
+
+-- ---- the answers
 
 slice-read-i : tie.Need-slice-read-i
 slice-read-i c =
     let start = c .before .before .before .before .before .before .before .before .before in
-    in-fronts _ _ _ _ (start .pre .1) (start .pre .0 .1 .inside) (start .pre .0 .1 .wide .cursors)
+    cursor-in start
 
 shared-slice-read-end : tie.Need-shared-slice-read-end
 shared-slice-read-end c =
     let start = c .before .before .before .before .before .before .before .before .before .before in
-    in-fronts _ _ _ _ (start .pre .1) (start .pre .0 .1 .inside) (start .pre .0 .1 .wide .ends-too)
+    end-in start
 
 relax-over-requires : tie.Need-relax-over-requires
 relax-over-requires c κs =
-    let after-shared-slice-known = c .before .before .before .before .before .before .before .before .before .before .before .before in
-    let start = after-shared-slice-known .before in
-    let m = (meeting (start .pre .0 .1) (start .args .v .0) (le-same (start .args .v .0)) (start .pre .1) (start .pre .2)
-    (getD (start .args .cursor .now) (start .args .v .0) 0) (getD (start .args .ends .now) (start .args .v .0) 0) refl refl) in (
-      m .next-in,
-      m .end-in,
-      reached (start .pre .0 .1) (start .args .v .0) (le-same (start .args .v .0)) (start .pre .1) (start .pre .2)
-          (getD (start .args .cursor .now) (start .args .v .0) 0) (getD (start .args .ends .now) (start .args .v .0) 0) refl refl,
-    )
+    let start = c .before .before .before .before .before .before .before .before .before .before .before .before .before in
+    let ((_, stage), below, at-r) = start .pre in
+    (met start .next-in, met start .end-in, reached stage below at-r)
 
 add-ahead-at : tie.Need-add-ahead-at
 add-ahead-at c =
     let after-relax-over = c .before .before .before .before .before .before in
-    let after-slice-known2 = after-relax-over .before .before .before .before .before .before .before .before .before .before .before in
-    let start = after-slice-known2 .before .before .before in
-    let m = (meeting (start .pre .0 .1) (start .args .v .0) (le-same (start .args .v .0)) (start .pre .1) (start .pre .2)
-    (getD (start .args .cursor .now) (start .args .v .0) 0) (getD (start .args .ends .now) (start .args .v .0) 0) refl refl) in
-    record { fits = next-fits _ _ _ (m .next-in) (m .end-in) (start .pre .0 .1 .area) }
+    record { fits = next-high (start after-relax-over) }
 
 ahead-at-requires : tie.Need-ahead-at-requires
 ahead-at-requires c κs =
     let after-relax-over = c .before .before .before .before .before .before in
-    let after-slice-known2 = after-relax-over .before .before .before .before .before .before .before .before .before .before .before in
-    let start = after-slice-known2 .before .before .before in
-    (meeting (start .pre .0 .1) (start .args .v .0) (le-same (start .args .v .0)) (start .pre .1) (start .pre .2)
-    (getD (start .args .cursor .now) (start .args .v .0) 0) (getD (start .args .ends .now) (start .args .v .0) 0) refl refl) .end-in
+    met (start after-relax-over) .end-in
 
 add-cursor : tie.Need-add-cursor
-add-cursor c =
-    let after-relax-over = c .before .before .before .before .before .before .before in
-    let after-slice-known2 = after-relax-over .before .before .before .before .before .before .before .before .before .before .before in
-    let start = after-slice-known2 .before .before .before in
-    let m = (meeting (start .pre .0 .1) (start .args .v .0) (le-same (start .args .v .0)) (start .pre .1) (start .pre .2)
-    (getD (start .args .cursor .now) (start .args .v .0) 0) (getD (start .args .ends .now) (start .args .v .0) 0) refl refl) in
-    record { fits = next-fits _ _ _ (m .next-in) (m .end-in) (start .pre .0 .1 .area) }
+add-cursor c = record { fits = next-high (start (after-relax-over c)) }
 
 slice-write-cursor : tie.Need-slice-write-cursor
-slice-write-cursor c =
-    let after-relax-over = c .before .before .before .before .before .before .before in
-    let after-slice-known2 = after-relax-over .before .before .before .before .before .before .before .before .before .before .before in
-    let start = after-slice-known2 .before .before .before in
-    in-fronts _ _ _ _ (start .pre .1) (start .pre .0 .1 .inside) (start .pre .0 .1 .wide .cursors)
+slice-write-cursor c = cursor-in (start (after-relax-over c))
 
 slice-write-ahead : tie.Need-slice-write-ahead
-slice-write-ahead c =
-    let after-relax-over = c .before .before .before .before .before .before .before in
-    let after-slice-known2 = after-relax-over .before .before .before .before .before .before .before .before .before .before .before in
-    let start = after-slice-known2 .before .before .before in
-    in-fronts _ _ _ _ (start .pre .1) (start .pre .0 .1 .inside) (start .pre .0 .1 .wide .aheads)
+slice-write-ahead c = ahead-in (start (after-relax-over c))
 
 same-length : tie.Need-same-length
-same-length c =
-    let after-relax-over = c .before .before .before .before .before .before .before in
-    let after-slice-known2 = after-relax-over .before .before .before .before .before .before .before .before .before .before .before in
-    let start = after-slice-known2 .before .before .before in
-    length-set (start .args .cursor .now) _ _
+same-length c = length-set (start (after-relax-over c) .args .cursor .now) _ _
 
 same-length-2 : tie.Need-same-length-2
-same-length-2 c =
-    let after-relax-over = c .before .before .before .before .before .before .before in
-    let after-slice-known2 = after-relax-over .before .before .before .before .before .before .before .before .before .before .before in
-    let start = after-slice-known2 .before .before .before in
-    length-set (start .args .ahead .now) _ _
+same-length-2 c = length-set (start (after-relax-over c) .args .ahead .now) _ _
 
 same-length-3 : tie.Need-same-length-3
-same-length-3 c =
-    let after-relax-over = c .before .before .before .before .before .before .before in
-    after-relax-over .relax-over .kept .1 .1 .1 .0
+same-length-3 c = let (_, (_, (_, (ups-kept, _)))) = after-relax-over c .relax-over .kept in ups-kept
 
 same-length-4 : tie.Need-same-length-4
-same-length-4 c =
-    let after-relax-over = c .before .before .before .before .before .before .before in
-    after-relax-over .relax-over .kept .1 .1 .1 .1 .0
+same-length-4 c = let (_, (_, (_, (_, (downs-kept, _))))) = after-relax-over c .relax-over .kept in downs-kept
 
 same-length-5 : tie.Need-same-length-5
-same-length-5 c =
-    let after-relax-over = c .before .before .before .before .before .before .before in
-    after-relax-over .relax-over .kept .1 .1 .1 .1 .1 .0
+same-length-5 c = let (_, (_, (_, (_, (_, (touched-kept, _)))))) = after-relax-over c .relax-over .kept in touched-kept
 
 returns : tie.Need-returns
 returns c =
-    let after-relax-over = c .before .before .before .before .before .before .before in
-    let after-slice-known2 = after-relax-over .before .before .before .before .before .before .before .before .before .before .before in
-    let start = after-slice-known2 .before .before .before in (
-      sym (getD-set-same (start .args .ahead .now) (start .args .v .0) _ 0
-          (in-fronts _ _ _ _ (start .pre .1) (start .pre .0 .1 .inside) (start .pre .0 .1 .wide .aheads))),
-      λ w s. stage-pass s (start .pre .1) _ _ _ _ _ _ (meeting s (start .args .v .0) (le-same (start .args .v .0)) (start .pre .1)
-          (start .pre .2) _ _ refl refl) (after-relax-over .relax-over .ensures) (c .ahead-at .ensures),
+    let start = start (after-relax-over c) in
+    let (_, below, at-r) = start .pre in (
+      sym (getD-set-same (start .args .ahead .now) (start .args .v .0) _ 0 (ahead-in start)),
+      λ w stage. stage-pass stage below (meeting stage below at-r) (after-relax-over c .relax-over .ensures) (c .ahead-at .ensures),
     )
 
 pub pass-rank-spec : {M : Type 1} → statement M

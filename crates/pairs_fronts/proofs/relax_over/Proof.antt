@@ -1,64 +1,101 @@
--- Each turn relaxes both rows by one more of the records after i, and marks the block.
+-- Each turn relaxes both rows by one more of the records after i, and marks the block of its high (`going-turn`).
 use mathlib.Core.Path.{_∙_, _≡_, refl}
-use Prim.Native.Nat.{_+_, _-_, _≤_}
+use mathlib.Core.List.{List}
+use Prim.Native.Nat.{_*_, _+_, _-_, _<_, _≤_, ℕ}
 use lib.ListN.{length}
 use native.Mathlib.Omega.{arith}
+use borrow.Author.Needs.{needs}
+use Rattle.pairs_rows.specs.Rows.{block}
 use Rattle.pairs_rows.specs.Steps.{by-below, in-blocks, in-length, le-more, less, lt-next}
 use Rattle.pairs_fronts.proofs.Passes.{Going, going-end, going-start, going-turn}
-use borrow.Author.Needs.{needs}
 use Rattle.pairs_fronts.proofs.relax_over.Statement.{statement}
 use Rattle.pairs_fronts.proofs.relax_over.Tie as tie
 
+-- the records after i and before j have relaxed the rows
+record RelaxingOver (pairs : List ℕ) (i end down up : ℕ) (ups₀ downs₀ touched₀ ups downs touched : List ℕ) (j : ℕ) : Type 0 where
+  after : i + 1 ≤ j
+  within : j ≤ end
+  ups-kept : length ups ≡ length ups₀
+  downs-kept : length downs ≡ length downs₀
+  touched-kept : length touched ≡ length touched₀
+  going : Going pairs (i + 1) end down up j ups₀ downs₀ touched₀ ups downs touched
+
 abbrev Inv-loop : tie.InvT-loop
-Inv-loop pairs i end ups₀ downs₀ touched₀ down up j₀ ups downs touched j = (i + 1 ≤ j) × (j ≤ end) × (length ups ≡ length ups₀)
-    × (length downs ≡ length downs₀) × (length touched ≡ length touched₀)
-    × Going pairs (i + 1) end (down .0) (up .0) j ups₀ downs₀ touched₀ ups downs touched
+Inv-loop pairs i end ups₀ downs₀ touched₀ down up j₀ ups downs touched j =
+    RelaxingOver pairs i end (down .0) (up .0) ups₀ downs₀ touched₀ ups downs touched j
 
 abbrev μ-loop : tie.MeasureT-loop
 μ-loop pairs i end ups₀ downs₀ touched₀ down up j₀ ups downs touched j = end - j
 
+-- ---- once the high of record j is read
+
+-- rank h has its two entries and its mark
+record Entries (h : ℕ) (ups downs touched : List ℕ) : Type 0 where
+  up-in : h < length ups
+  down-in : h < length downs
+  mark-in : h < block * length touched
+
+abbrev at-loop : tie.After-high-of Inv-loop μ-loop → tie.At-loop Inv-loop μ-loop
+at-loop c = c .before .before
+
+abbrev start : tie.After-high-of Inv-loop μ-loop → tie.Start Inv-loop μ-loop
+start c = c .before .before .before .before .before .before .before .before .before
+
+entries : (c : tie.After-high-of Inv-loop μ-loop)
+    → Entries (c .high-of .result .0) (at-loop c .loop .ups) (at-loop c .loop .downs) (at-loop c .loop .touched)
+entries c =
+    let j = at-loop c .loop .j in
+    let inv = at-loop c .loop .inv in
+    let in-range = c .before .loop-test .taken in
+    let (_, _, reached) = start c .pre in record {
+      up-in = in-length (by-below (c .high-of .ensures) (reached .ups-in j (inv .after) in-range)) (inv .ups-kept);
+      down-in = in-length (by-below (c .high-of .ensures) (reached .downs-in j (inv .after) in-range)) (inv .downs-kept);
+      mark-in = in-blocks (by-below (c .high-of .ensures) (reached .marks-in j (inv .after) in-range)) (inv .touched-kept);
+    }
+
+-- ---- once both times of record j are read
+
+abbrev after-high-of : tie.After-down-of2 Inv-loop μ-loop → tie.After-high-of Inv-loop μ-loop
+after-high-of c = c .before .before .before .before .before .before .before .before
+
+abbrev in-loop : tie.After-down-of2 Inv-loop μ-loop → tie.In-loop Inv-loop μ-loop
+in-loop c = c .before .before .before .before .before .before .before .before .before
+
+-- ---- the answers
+
 loop-holds : tie.Need-loop-holds Inv-loop μ-loop
-loop-holds c = (search needs, search needs, refl, refl, refl, going-start _ _ _ _ _ _ _ _)
+loop-holds c = record {
+  after = search needs;
+  within = search needs;
+  ups-kept = refl;
+  downs-kept = refl;
+  touched-kept = refl;
+  going = going-start;
+}
 
 relax-entry-requires : tie.Need-relax-entry-requires Inv-loop μ-loop
 relax-entry-requires c κs =
     let after-high-of = c .before .before .before in
-    let in-loop = after-high-of .before in
-    let at-loop = in-loop .before in
-    let start = at-loop .before .before .before .before .before .before .before in
-    in-length _ _ _ (by-below _ _ _ (after-high-of .high-of .ensures) (start .pre .2 .ups-in (at-loop .loop .j) (at-loop .loop .inv .0)
-    (in-loop .loop-test .taken))) (at-loop .loop .inv .2)
+    entries after-high-of .up-in
 
 relax-entry-requires-2 : tie.Need-relax-entry-requires-2 Inv-loop μ-loop
-relax-entry-requires-2 c κs =
-    let after-high-of = c .before .before .before .before .before .before .before .before in
-    let in-loop = after-high-of .before in
-    let at-loop = in-loop .before in
-    let start = at-loop .before .before .before .before .before .before .before in
-    in-length _ _ _ (by-below _ _ _ (after-high-of .high-of .ensures) (start .pre .2 .downs-in (at-loop .loop .j) (at-loop .loop .inv .0)
-    (in-loop .loop-test .taken))) (at-loop .loop .inv .3)
+relax-entry-requires-2 c κs = entries (after-high-of c) .down-in
 
 mark-requires : tie.Need-mark-requires Inv-loop μ-loop
 mark-requires c κs =
-    let after-high-of = c .before .before .before .before .before .before .before .before .before .before .before .before in
-    let in-loop = after-high-of .before in
-    let at-loop = in-loop .before in
-    let start = at-loop .before .before .before .before .before .before .before in
-    in-blocks _ _ _ (by-below _ _ _ (after-high-of .high-of .ensures) (start .pre .2 .marks-in (at-loop .loop .j) (at-loop .loop .inv .0)
-    (in-loop .loop-test .taken))) (at-loop .loop .inv .4)
+    let after-down-of2 = c .before .before .before .before in
+    entries (after-high-of after-down-of2) .mark-in
 
 add-j-2 : tie.Need-add-j-2 Inv-loop μ-loop
 add-j-2 c =
-    let after-up-of2 = c .before .before .before .before .before .before .before .before .before .before .before .before in
-    let in-loop = after-up-of2 .before .before .before .before in
-    let start = in-loop .before .before .before .before .before .before .before .before in
-    record { fits = omega (arith, in-loop .loop-test .taken, start .good .1 .1 .0) }
+    let after-down-of2 = c .before .before .before .before .before .before .before in
+    let (_, (_, (end-high, _))) = start (after-high-of after-down-of2) .good in
+    record { fits = omega (arith, in-loop after-down-of2 .loop-test .taken, end-high) }
 
 loop-less : tie.Need-loop-less Inv-loop μ-loop
 loop-less c =
-    let after-up-of2 = c .before .before .before .before .before .before .before .before .before .before .before .before in
-    let in-loop = after-up-of2 .before .before .before .before in
-    less _ _ (in-loop .loop-test .taken)
+    let after-down-of2 = c .before .before .before .before .before .before .before in
+    less (in-loop after-down-of2 .loop-test .taken)
 
 loop-again : tie.Need-loop-again Inv-loop μ-loop
 loop-again c =
@@ -67,40 +104,35 @@ loop-again c =
     let after-down-of2 = after-relax-entry2 .before in
     let after-relax-entry = after-down-of2 .before .before .before .before in
     let after-up-of2 = after-relax-entry .before in
-    let after-high-of = after-up-of2 .before .before .before in
-    let in-loop = after-high-of .before in
-    let at-loop = in-loop .before in
-    let start = at-loop .before .before .before .before .before .before .before in (
-      le-more _ _ (at-loop .loop .inv .0),
-      lt-next _ _ (in-loop .loop-test .taken),
-      after-relax-entry .relax-entry .kept .0 ∙ at-loop .loop .inv .2,
-      after-relax-entry2 .relax-entry2 .kept .0 ∙ at-loop .loop .inv .3,
-      after-mark .mark .kept .0 ∙ at-loop .loop .inv .4,
-      going-turn _ _ _ _ _ _ _ _ (at-loop .loop .j) _ _ _ _ _ _ _ _ _ (at-loop .loop .inv .0) (in-loop .loop-test .taken)
-          (after-high-of .high-of .ensures)
-          (after-up-of2 .up-of2 .ensures) (after-relax-entry .relax-entry .ensures) (after-down-of2 .down-of2 .ensures)
-          (after-relax-entry2 .relax-entry2 .ensures) (in-blocks
-          _ _ _ (by-below _ _ _ (after-high-of .high-of .ensures) (start .pre .2 .marks-in (at-loop .loop .j) (at-loop .loop .inv .0)
-          (in-loop .loop-test .taken))) (at-loop .loop .inv .4))
-          (after-mark .mark .ensures) (at-loop .loop .inv .5),
-    )
+    let after-high-of = after-high-of after-down-of2 in
+    let in-range = in-loop after-down-of2 .loop-test .taken in
+    let inv = at-loop after-high-of .loop .inv in record {
+      after = le-more (inv .after);
+      within = lt-next in-range;
+      ups-kept = after-relax-entry .relax-entry .kept .0 ∙ inv .ups-kept;
+      downs-kept = after-relax-entry2 .relax-entry2 .kept .0 ∙ inv .downs-kept;
+      touched-kept = after-mark .mark .kept .0 ∙ inv .touched-kept;
+      going = going-turn (inv .after) in-range (after-high-of .high-of .ensures) (after-up-of2 .up-of2 .ensures)
+          (after-relax-entry .relax-entry .ensures) (after-down-of2 .down-of2 .ensures) (after-relax-entry2 .relax-entry2 .ensures)
+          (entries after-high-of .mark-in) (after-mark .mark .ensures) (inv .going);
+    }
 
 same-length : tie.Need-same-length Inv-loop μ-loop
-same-length c = c .before .loop .inv .2
+same-length c = c .before .loop .inv .ups-kept
 
 same-length-2 : tie.Need-same-length-2 Inv-loop μ-loop
-same-length-2 c = c .before .loop .inv .3
+same-length-2 c = c .before .loop .inv .downs-kept
 
 same-length-3 : tie.Need-same-length-3 Inv-loop μ-loop
-same-length-3 c = c .before .loop .inv .4
+same-length-3 c = c .before .loop .inv .touched-kept
 
 returns : tie.Need-returns Inv-loop μ-loop
 returns c =
     let at-loop = c .before in
     let after-up-of = at-loop .before in
     let after-down-of = after-up-of .before in
-    going-end (at-loop .loop .inv .1) (c .loop-test .left) (after-down-of .down-of .ensures) (after-up-of .up-of .ensures)
-    (at-loop .loop .inv .5)
+    going-end (at-loop .loop .inv .within) (c .loop-test .left) (after-down-of .down-of .ensures) (after-up-of .up-of .ensures)
+    (at-loop .loop .inv .going)
 
 pub relax-over-spec : {M : Type 1} → statement M
 relax-over-spec =

@@ -1,262 +1,378 @@
 -- The two call each other at ever higher ranks, so the number of ranks above falls. The walk keeps the least over the records that it has
--- met, and what they lead to filled; the records of a rank stand together, so a larger low ends it. The estimate stores the walk's answer.
-use Rattle.pairs_hierarchy.proofs.Climbs.{computed, stands, unasked-entry, walk-end, walk-skip, walk-start, walk-stop, walk-take}
-use Rattle.pairs_records.specs.Tests.{leads-facts, leads-read}
-use Rattle.pairs_hierarchy.specs.Walks.{Walked}
+-- met, and what they lead to filled (`walk-take`); the records of a rank stand together, so a larger low ends it (`walk-stop`). The
+-- estimate is what stands for the rank (`stands`), or else stores the walk's answer (`computed`).
 use mathlib.Core.Path.{_∙_, _≡_, sym}
-use borrow.Author.Tests.{eqb-false, eqb-true, not-false, not-true}
-use lib.ListN.{length}
+use mathlib.Core.List.{List}
 use Prim.Native.Nat.{_+_, _-_, _<_, _≤_, ℕ}
 use native.Mathlib.Omega.{arith}
+use lib.ListN.{getD, length}
 use borrow.Author.Needs.{needs}
+use borrow.Author.Tests.{eqb-false, eqb-true, not-false, not-true}
 use borrow.Fn.Kinds.{In}
-use borrow.Fn.PlainCycle.{Measures, is, falls, and}
-use Rattle.pairs_hierarchy.proofs.estimate_rank.Reads as estimate-rank
-use Rattle.pairs_hierarchy.proofs.estimate_rank.Kinds as estimate-rank-kinds
-use Rattle.pairs_hierarchy.proofs.+estimate_rank+walk_pairs.Lts-estimate_rank as estimate-rank-lts
-use Rattle.pairs_hierarchy.proofs.walk_pairs.Reads as walk-pairs
-use Rattle.pairs_hierarchy.proofs.walk_pairs.Kinds as walk-pairs-kinds
-use Rattle.pairs_hierarchy.proofs.+estimate_rank+walk_pairs.Lts-walk_pairs as walk-pairs-lts
-use Rattle.pairs_hierarchy.proofs.known_of.Reads as known-of-reads
-use Rattle.pairs_records.proofs.answer_of.Reads as answer-of-reads
-use Rattle.pairs_records.proofs.start_of.Reads as start-of-reads
-use Rattle.pairs_records.proofs.high_of.Reads as high-of-reads
-use Rattle.pairs_records.proofs.leads_up.Reads as leads-up-reads
-use Rattle.pairs_records.proofs.low_of.Reads as low-of-reads
-use Rattle.pairs_records.proofs.up_of.Reads as up-of-reads
-use Rattle.network.proofs.Time.is_unasked.Reads as is-unasked-reads
-use Rattle.network.proofs.Time.of_word.Reads as of-word-reads
-use Rattle.network.proofs.Time.or_sum.Reads as or-sum-reads
-use Rattle.network.proofs.Time.word.Reads as word-reads
-use Rattle.network.proofs.junction_of.Reads as junction-of-reads
+use borrow.Fn.PlainCycle.{Measures, and, falls, is}
+use Rattle.model.specs.Word.{unasked}
+use Rattle.pairs_records.specs.Tests.{Leads}
+use Rattle.pairs_hierarchy.specs.Lending.{KnownAsked}
+use Rattle.pairs_hierarchy.specs.Walks.{Walked}
+use Rattle.pairs_hierarchy.proofs.Climbs.{RecordRead, computed, known-asked, leads-taken, stands, unasked-entry}
+use Rattle.pairs_hierarchy.proofs.Climbs.{walk-end, walk-skip, walk-start, walk-stop, walk-take}
+use Rattle.pairs_hierarchy.proofs.estimate_rank.Reads as rank
+use Rattle.pairs_hierarchy.proofs.estimate_rank.Kinds as rank-kinds
+use Rattle.pairs_hierarchy.proofs.+estimate_rank+walk_pairs.Lts-estimate_rank as rank-tie
+use Rattle.pairs_hierarchy.proofs.walk_pairs.Reads as walk
+use Rattle.pairs_hierarchy.proofs.walk_pairs.Kinds as walk-kinds
+use Rattle.pairs_hierarchy.proofs.+estimate_rank+walk_pairs.Lts-walk_pairs as walk-tie
+use Rattle.pairs_hierarchy.proofs.known_of.Reads as known-of
+use Rattle.pairs_records.proofs.answer_of.Reads as answer-of
+use Rattle.pairs_records.proofs.start_of.Reads as start-of
+use Rattle.pairs_records.proofs.high_of.Reads as high-of
+use Rattle.pairs_records.proofs.leads_up.Reads as leads-up
+use Rattle.pairs_records.proofs.low_of.Reads as low-of
+use Rattle.pairs_records.proofs.up_of.Reads as up-of
+use Rattle.network.proofs.Time.is_unasked.Reads as is-unasked
+use Rattle.network.proofs.Time.of_word.Reads as of-word
+use Rattle.network.proofs.Time.or_sum.Reads as or-sum
+use Rattle.network.proofs.Time.word.Reads as word
+use Rattle.network.proofs.junction_of.Reads as junction-of
 use Rattle.pairs_hierarchy.proofs.+estimate_rank+walk_pairs.{statement}
 use Rattle.pairs_hierarchy.proofs.+estimate_rank+walk_pairs.Tie.{close}
 
-abbrev μ-estimate-rank : Measures 4 estimate-rank-kinds.ps ℕ
-μ-estimate-rank κs a = (a .0 - a .1 .1 .1 .1 .1 .1 .0 .0) + (a .0 - a .1 .1 .1 .1 .1 .1 .0 .0) + 1
+-- ---- what falls: twice the number of ranks above, and one more for the estimate, which calls the walk at its own rank
 
-abbrev μ-walk-pairs : Measures 4 walk-pairs-kinds.ps ℕ
-μ-walk-pairs κs a = (a .0 - a .1 .1 .1 .1 .1 .1 .0 .0) + (a .0 - a .1 .1 .1 .1 .1 .1 .0 .0)
+abbrev μ-estimate-rank : Measures 4 rank-kinds.ps ℕ
+μ-estimate-rank κs a =
+    let (n, (_, (_, (_, (_, (_, (r, _))))))) = a in
+    (n - r .0) + (n - r .0) + 1
 
-abbrev estimate-rank-at : ℕ → In 4 estimate-rank-kinds.ps
-estimate-rank-at t =
-    and 4 estimate-rank-kinds.ps (is 4 estimate-rank-kinds.ps μ-estimate-rank t) estimate-rank.Pre
+abbrev μ-walk-pairs : Measures 4 walk-kinds.ps ℕ
+μ-walk-pairs κs a =
+    let (n, (_, (_, (_, (_, (_, (r, _))))))) = a in
+    (n - r .0) + (n - r .0)
 
-abbrev estimate-rank-below : ℕ → In 4 estimate-rank-kinds.ps
-estimate-rank-below t =
-    and
-    4
-    estimate-rank-kinds.ps
-    (falls 4 estimate-rank-kinds.ps _<_ μ-estimate-rank t)
-    estimate-rank.Pre
+-- a call at measure t, and one below it
+abbrev rank-at : ℕ → In 4 rank-kinds.ps
+rank-at t = and 4 rank-kinds.ps (is 4 rank-kinds.ps μ-estimate-rank t) rank.Pre
 
-abbrev walk-pairs-at : ℕ → In 4 walk-pairs-kinds.ps
-walk-pairs-at t =
-    and 4 walk-pairs-kinds.ps (is 4 walk-pairs-kinds.ps μ-walk-pairs t) walk-pairs.Pre
+abbrev rank-below : ℕ → In 4 rank-kinds.ps
+rank-below t = and 4 rank-kinds.ps (falls 4 rank-kinds.ps _<_ μ-estimate-rank t) rank.Pre
 
-abbrev walk-pairs-below : ℕ → In 4 walk-pairs-kinds.ps
-walk-pairs-below t =
-    and 4 walk-pairs-kinds.ps (falls 4 walk-pairs-kinds.ps _<_ μ-walk-pairs t) walk-pairs.Pre
+abbrev walk-at : ℕ → In 4 walk-kinds.ps
+walk-at t = and 4 walk-kinds.ps (is 4 walk-kinds.ps μ-walk-pairs t) walk.Pre
 
-abbrev walk-pairs-Inv-loop : walk-pairs-lts.InvT-loop
-walk-pairs-Inv-loop n count order pairs down estimates₀ r best₀ k₀ estimates best k = (k ≤ count) ×
-    (length estimates ≡ n) × Walked n order pairs count down estimates₀ estimates (r .0) (best₀ .0) k (best .0)
+abbrev walk-below : ℕ → In 4 walk-kinds.ps
+walk-below t = and 4 walk-kinds.ps (falls 4 walk-kinds.ps _<_ μ-walk-pairs t) walk.Pre
 
-abbrev walk-pairs-μ-loop : walk-pairs-lts.MeasureT-loop
-walk-pairs-μ-loop n count order pairs down estimates₀ r best₀ k₀ estimates best k = count - k
+-- ---- the estimate of a rank
 
-pub +estimate-rank+walk-pairs-spec : {M : Type 1} → statement M
-+estimate-rank+walk-pairs-spec = close μ-estimate-rank μ-walk-pairs (λ t. estimate-rank-lts.spec (
-  known-of-reads.Asked,
-  known-of-reads.Learnt,
-  is-unasked-reads.Asked,
-  is-unasked-reads.Learnt,
-  junction-of-reads.Asked,
-  junction-of-reads.Learnt,
-  of-word-reads.Asked,
-  of-word-reads.Learnt,
-  walk-pairs-below t,
-  walk-pairs.Post,
-  answer-of-reads.Asked,
-  answer-of-reads.Learnt,
-  word-reads.Asked,
-  word-reads.Learnt,
+abbrev rank-calls : ℕ → rank-tie.Claims
+rank-calls t = (
+  known-of.Asked,
+  known-of.Learnt,
+  is-unasked.Asked,
+  is-unasked.Learnt,
+  junction-of.Asked,
+  junction-of.Learnt,
+  of-word.Asked,
+  of-word.Learnt,
+  walk-below t,
+  walk.Post,
+  answer-of.Asked,
+  answer-of.Learnt,
+  word.Asked,
+  word.Learnt,
 )
-    (estimate-rank-at t)
-    estimate-rank.Post
-    (λ c κs. search needs)
-    (λ c κs. search needs)
-    (λ c. search needs)
-    (λ c.
-    let after-known-of = c .before .before in
-    stands _ _ _ _ _ _ _ (search needs) (search needs) _ (after-known-of .known-of .ensures)
-    (eqb-false _ _ (sym (c .before .is-unasked .ensures) ∙ not-true _ (c .if1 .taken))))
-    (λ c κs. search needs)
-    (λ c. search needs)
-    (λ c.
-    let u = (let else1 = c .before .before in
+
+abbrev After-known-of : ℕ → Type 0
+After-known-of t = rank-tie.After-known-of (rank-calls t) (rank-at t) rank.Post
+
+abbrev After-junction-of : ℕ → Type 0
+After-junction-of t = rank-tie.After-junction-of (rank-calls t) (rank-at t) rank.Post
+
+abbrev After-walk-pairs : ℕ → Type 0
+After-walk-pairs t = rank-tie.After-walk-pairs (rank-calls t) (rank-at t) rank.Post
+
+abbrev rank-called : {t : ℕ} → After-known-of t → rank-tie.Start (rank-calls t) (rank-at t) rank.Post
+rank-called c = c .before .before .before .before .before .before
+
+abbrev after-known-of : {t : ℕ} → After-junction-of t → After-known-of t
+after-known-of c = c .before .before .before
+
+-- nothing stands for the rank: the entry of its junction is unasked
+entry : {t : ℕ} (c : After-junction-of t) → let s = rank-called (after-known-of c) in
+    (c .junction-of .result .0 < s .args .n) × (getD (s .args .estimates .now) (c .junction-of .result .0) 0 ≡ unasked)
+entry c =
+    let else1 = c .before in
     let after-is-unasked = else1 .before in
+    let standing = after-known-of c .known-of .ensures in
+    let test = sym (after-is-unasked .is-unasked .ensures) ∙ not-false _ (else1 .if1 .left) in
+    unasked-entry (known-asked (rank-called (after-known-of c) .pre .1)) (c .junction-of .ensures) (sym standing ∙ eqb-true _ _ test)
+
+rank-returns : {t : ℕ} → rank-tie.Need-returns (rank-calls t) (rank-at t) rank.Post
+rank-returns c =
+    let after-is-unasked = c .before in
     let after-known-of = after-is-unasked .before in
-    unasked-entry _ _ _ _ _ (c .before .junction-of .ensures)
-    (sym (after-known-of .known-of .ensures) ∙ eqb-true
-    _ _ (sym (after-is-unasked .is-unasked .ensures) ∙ not-false _ (else1 .if1 .left)))) in search needs)
-    (λ c.
-    let u = (let after-junction-of = c .before .before in
-    let else1 = after-junction-of .before in
-    let after-is-unasked = else1 .before in
-    let after-known-of = after-is-unasked .before in
-    unasked-entry _ _ _ _ _ (after-junction-of .junction-of .ensures)
-    (sym (after-known-of .known-of .ensures) ∙ eqb-true
-    _ _ (sym (after-is-unasked .is-unasked .ensures) ∙ not-false _ (else1 .if1 .left)))) in search needs)
-    (λ c κs. search needs)
-    (λ c κs. search needs)
-    (λ c κs. search needs)
-    (λ c κs. search needs)
-    (λ c. search needs)
-    (λ c.
-    let after-walk-pairs = c .before .before .before .before in
-    let after-junction-of = after-walk-pairs .before .before .before .before .before in
-    let else1 = after-junction-of .before in
-    let after-is-unasked = else1 .before in
-    let after-known-of = after-is-unasked .before in
-    let start = after-known-of .before .before .before .before .before .before in
-    let u : _ < _ = unasked-entry _ _ _ _ _ (after-junction-of .junction-of .ensures)
-    (sym (after-known-of .known-of .ensures) ∙ eqb-true
-    _ _ (sym (after-is-unasked .is-unasked .ensures) ∙ not-false _ (else1 .if1 .left))) .0 in omega (
-      arith,
-      u,
-      after-walk-pairs .walk-pairs .kept .1 .1 .1 .1 .1 .0,
-      start .pre .1 .4,
-    ))
-    (λ c. search needs)
-    (λ c.
-    let after-walk-pairs = c .before .before .before .before in
+    let test = sym (after-is-unasked .is-unasked .ensures) ∙ not-true _ (c .if1 .taken) in
+    stands (known-asked (rank-called after-known-of .pre .1)) (after-known-of .known-of .ensures) (eqb-false _ _ test)
+
+mul-of-word : {t : ℕ} → rank-tie.Need-mul-of-word (rank-calls t) (rank-at t) rank.Post
+mul-of-word c = let here = entry (c .before) in search needs
+
+slice-read-of-word : {t : ℕ} → rank-tie.Need-shared-slice-read-of-word (rank-calls t) (rank-at t) rank.Post
+slice-read-of-word c = let here = entry (c .before .before) in search needs
+
+-- the walk has answered
+abbrev after-walk-pairs : {t : ℕ} → rank-tie.After-word (rank-calls t) (rank-at t) rank.Post → After-walk-pairs t
+after-walk-pairs c = c .before .before .before .before
+
+abbrev after-junction-of : {t : ℕ} → After-walk-pairs t → After-junction-of t
+after-junction-of c = c .before .before .before .before .before
+
+slice-write-estimates : {t : ℕ} → rank-tie.Need-slice-write-estimates (rank-calls t) (rank-at t) rank.Post
+slice-write-estimates c =
+    let after-junction-of = after-junction-of (after-walk-pairs c) in
+    let (_, (_, (_, (_, (_, (estimates-kept, _)))))) = after-walk-pairs c .walk-pairs .kept in
+    let start = rank-called (after-known-of after-junction-of) in
+    omega (arith, entry after-junction-of .0, estimates-kept, start .pre .1 .estimates-are)
+
+rank-returns-2 : {t : ℕ} → rank-tie.Need-returns-2 (rank-calls t) (rank-at t) rank.Post
+rank-returns-2 c =
+    let after-walk-pairs = after-walk-pairs c in
     let after-of-word = after-walk-pairs .before .before in
-    let after-junction-of = after-of-word .before .before .before in
-    let else1 = after-junction-of .before in
-    let after-is-unasked = else1 .before in
-    let after-known-of = after-is-unasked .before in
-    let start = after-known-of .before .before .before .before .before .before in
-    let u = unasked-entry _ _ _ _ _ (after-junction-of .junction-of .ensures)
-    (sym (after-known-of .known-of .ensures) ∙ eqb-true
-    _ _ (sym (after-is-unasked .is-unasked .ensures) ∙ not-false _ (else1 .if1 .left))) in
-    let p = start .pre .1 in
-    computed _ _ _ _ _ _ _ (p .0) (after-junction-of .junction-of .result .0) (after-junction-of .junction-of .ensures) _ _ _ _ _ (u .1)
-    (after-walk-pairs .walk-pairs .kept .1 .1 .1 .1 .1 .0 ∙ p .4) (after-of-word .of-word .ensures)
-    (after-walk-pairs .walk-pairs .ensures) (c .before .answer-of .ensures)
-    (c .word .ensures)))
-    λ t. walk-pairs-lts.spec (
-      start-of-reads.Asked,
-      start-of-reads.Learnt,
-      low-of-reads.Asked,
-      low-of-reads.Learnt,
-      high-of-reads.Asked,
-      high-of-reads.Learnt,
-      up-of-reads.Asked,
-      up-of-reads.Learnt,
-      leads-up-reads.Asked,
-      leads-up-reads.Learnt,
-      known-of-reads.Asked,
-      known-of-reads.Learnt,
-      is-unasked-reads.Asked,
-      is-unasked-reads.Learnt,
-      estimate-rank-below t,
-      estimate-rank.Post,
-      or-sum-reads.Asked,
-      or-sum-reads.Learnt,
-    )
-    (walk-pairs-at t)
-    walk-pairs.Post
-    walk-pairs-Inv-loop
-    walk-pairs-μ-loop
-    (λ c κs. search needs)
-    (λ c. (c .start-of .ensures .bound, search needs, walk-start _ _ _ _ _ _ _ _ (search needs) _ (c .start-of .ensures)))
-    (λ c. search needs)
-    (λ c κs. search needs)
-    (λ c. search needs)
-    (λ c.
+    let after-junction-of = after-junction-of after-walk-pairs in
+    let (_, (_, (_, (_, (_, (estimates-kept, _)))))) = after-walk-pairs .walk-pairs .kept in
+    let asked = rank-called (after-known-of after-junction-of) .pre .1 in
+    computed (asked .rank-in) (after-junction-of .junction-of .ensures) (entry after-junction-of .1)
+    (estimates-kept ∙ asked .estimates-are) (after-of-word .of-word .ensures) (after-walk-pairs .walk-pairs .ensures)
+    (c .before .answer-of .ensures) (c .word .ensures)
+
+-- ---- the walk over the records of a rank
+
+abbrev walk-calls : ℕ → walk-tie.Claims
+walk-calls t = (
+  start-of.Asked,
+  start-of.Learnt,
+  low-of.Asked,
+  low-of.Learnt,
+  high-of.Asked,
+  high-of.Learnt,
+  up-of.Asked,
+  up-of.Learnt,
+  leads-up.Asked,
+  leads-up.Learnt,
+  known-of.Asked,
+  known-of.Learnt,
+  is-unasked.Asked,
+  is-unasked.Learnt,
+  rank-below t,
+  rank.Post,
+  or-sum.Asked,
+  or-sum.Learnt,
+)
+
+-- the records below k are walked
+record Walking (n : ℕ) (order pairs : List ℕ) (count : ℕ) (down e₀ : List ℕ) (r own : ℕ) (e : List ℕ) (best k : ℕ) : Type 0 where
+  to-go : k ≤ count
+  length-kept : length e ≡ n
+  walked : Walked n order pairs count down e₀ e r own k best
+
+abbrev Inv-loop : walk-tie.InvT-loop
+Inv-loop n count order pairs down estimates₀ r best₀ k₀ estimates best k =
+    Walking n order pairs count down estimates₀ (r .0) (best₀ .0) estimates (best .0) k
+
+abbrev μ-loop : walk-tie.MeasureT-loop
+μ-loop n count order pairs down estimates₀ r best₀ k₀ estimates best k = count - k
+
+abbrev At-loop : ℕ → Type 0
+At-loop t = walk-tie.At-loop (walk-calls t) (walk-at t) walk.Post Inv-loop μ-loop
+
+abbrev After-up-of : ℕ → Type 0
+After-up-of t = walk-tie.After-up-of (walk-calls t) (walk-at t) walk.Post Inv-loop μ-loop
+
+abbrev Then2 : ℕ → Type 0
+Then2 t = walk-tie.Then2 (walk-calls t) (walk-at t) walk.Post Inv-loop μ-loop
+
+abbrev walk-called : {t : ℕ} → At-loop t → walk-tie.Start (walk-calls t) (walk-at t) walk.Post Inv-loop μ-loop
+walk-called c = c .before .before .before .before .before .before
+
+-- a record, once it is read
+abbrev after-low-of : {t : ℕ} → After-up-of t → walk-tie.After-low-of (walk-calls t) (walk-at t) walk.Post Inv-loop μ-loop
+after-low-of c = c .before .before .before .before .before
+
+abbrev in-loop : {t : ℕ} → After-up-of t → walk-tie.In-loop (walk-calls t) (walk-at t) walk.Post Inv-loop μ-loop
+in-loop c = after-low-of c .before
+
+abbrev at-loop : {t : ℕ} → After-up-of t → At-loop t
+at-loop c = in-loop c .before
+
+abbrev low : {t : ℕ} → After-up-of t → ℕ
+low c = after-low-of c .low-of .result .0
+
+abbrev high : {t : ℕ} → After-up-of t → ℕ
+high c = c .before .high-of .result .0
+
+record-read : {t : ℕ} (c : After-up-of t)
+    → RecordRead (walk-called (at-loop c) .args .pairs .now) (at-loop c .loop .k) (low c) (high c) (c .up-of .result .0)
+record-read c = record { low-is = after-low-of c .low-of .ensures; high-is = c .before .high-of .ensures; up-is = c .up-of .ensures }
+
+one-more : {t : ℕ} (c : After-up-of t) → at-loop c .loop .k + 1 ≤ walk-called (at-loop c) .args .count
+one-more c = omega (arith, in-loop c .loop-test .taken)
+
+-- if it leads up, what stands for its high may be asked
+abbrev after-up-of : {t : ℕ} → Then2 t → After-up-of t
+after-up-of c = c .before .before
+
+leads : {t : ℕ} (c : Then2 t) → let s = walk-called (at-loop (after-up-of c)) in
+    Leads (s .args .n) (s .args .r .0) (low (after-up-of c)) (high (after-up-of c)) (after-up-of c .up-of .result .0)
+leads c = leads-taken (c .before .leads-up .ensures) (c .if2 .taken)
+
+high-asked : {t : ℕ} (c : Then2 t) → let l = at-loop (after-up-of c) in
+    KnownAsked (walk-called l .args .n) (high (after-up-of c)) (walk-called l .args .order .now) (l .loop .estimates)
+high-asked c =
+    let at-loop = at-loop (after-up-of c) in
+    let asked = walk-called at-loop .pre .1 in record {
+      rank-in = leads c .below;
+      n-high = asked .n-high;
+      order-is = asked .order-is;
+      estimates-are = at-loop .loop .inv .length-kept;
+    }
+
+loop-holds : {t : ℕ} → walk-tie.Need-loop-holds (walk-calls t) (walk-at t) walk.Post Inv-loop μ-loop
+loop-holds c =
+    let start = c .before .before .before .before .before in
+    let asked = start .pre .1 in record {
+      to-go = c .start-of .ensures .bound;
+      length-kept = asked .estimates-are;
+      walked = walk-start (asked .rank-in) (c .start-of .ensures);
+    }
+
+walk-returns : {t : ℕ} → walk-tie.Need-returns (walk-calls t) (walk-at t) walk.Post Inv-loop μ-loop
+walk-returns c =
     let after-low-of = c .before .before .before in
     let in-loop = after-low-of .before in
-    walk-stop _ _ _ _ _ _ _ _ (search needs) _ _ _ (in-loop .before .loop .inv .2)
-    _ (in-loop .loop-test .taken) (after-low-of .low-of .ensures) (c .if1 .taken))
-    (λ c κs. search needs)
-    (λ c κs. search needs)
-    (λ c κs. search needs)
-    (λ c κs.
-    let after-leads-up = c .before .before in
-    let at-loop = after-leads-up .before .before .before .before .before .before .before .before in
-    let start = at-loop .before .before .before .before .before .before in
-    let f = leads-facts _ _ _ _ _ (sym (after-leads-up .leads-up .ensures) ∙ c .before .if2 .taken) in
-    let p = start .pre .1 in
-    (f .below, p .1, p .2, at-loop .loop .inv .1))
-    (λ c κs. search needs)
-    (λ c κs.
+    let at-loop = in-loop .before in
+    walk-stop (walk-called at-loop .pre .1 .rank-in) (at-loop .loop .inv .walked) (in-loop .loop-test .taken)
+    (after-low-of .low-of .ensures) (c .if1 .taken)
+
+known-of-requires : {t : ℕ} → walk-tie.Need-known-of-requires (walk-calls t) (walk-at t) walk.Post Inv-loop μ-loop
+known-of-requires c κs = high-asked (c .before)
+
+estimate-rank-requires : {t : ℕ} → walk-tie.Need-estimate-rank-requires (walk-calls t) (walk-at t) walk.Post Inv-loop μ-loop
+estimate-rank-requires c κs =
     let then2 = c .before .before .before .before .before in
-    let after-leads-up = then2 .before in
-    let at-loop = after-leads-up .before .before .before .before .before .before .before .before in
-    let start = at-loop .before .before .before .before .before .before in
-    let f = leads-facts _ _ _ _ _ (sym (after-leads-up .leads-up .ensures) ∙ then2 .if2 .taken) in
-    let p = start .pre .1 in (
-      omega (arith, f .rises, f .below, start .pre .0),
-      (f .below, p .1, p .2, p .3, at-loop .loop .inv .1, p .5, p .6),
-    ))
-    (λ c κs. search needs)
-    (λ c. search needs)
-    (λ c.
+    let at-loop = at-loop (after-up-of then2) in
+    let (measure, asked) = walk-called at-loop .pre in (
+      omega (arith, leads then2 .rises, leads then2 .below, measure),
+      record {
+        rank-in = leads then2 .below;
+        n-high = asked .n-high;
+        order-is = asked .order-is;
+        down-is = asked .down-is;
+        estimates-are = at-loop .loop .inv .length-kept;
+        records-in = asked .records-in;
+        count-high = asked .count-high;
+      },
+    )
+
+-- the estimate of the high was asked
+loop-again : {t : ℕ} → walk-tie.Need-loop-again (walk-calls t) (walk-at t) walk.Post Inv-loop μ-loop
+loop-again c =
     let after-estimate-rank = c .before .before .before in
     let then2 = after-estimate-rank .before .before .before .before .before .before in
-    let after-leads-up = then2 .before in
-    let after-up-of = after-leads-up .before in
-    let after-high-of = after-up-of .before in
-    let after-low-of = after-high-of .before .before .before .before in
-    let in-loop = after-low-of .before in
-    let at-loop = in-loop .before in
-    let start = at-loop .before .before .before .before .before .before in (
-      search needs,
-      after-estimate-rank .estimate-rank .kept .1 .1 .1 .1 .1 .0 ∙ at-loop .loop .inv .1,
-      walk-take _ _ _ _ _ _ _ _ (start .pre .1 .0) _ _ _ (at-loop .loop .inv .2) (in-loop .loop-test .taken)
-          (leads-read _ _ _ _ _ _ _ _ _ (after-leads-up .leads-up .ensures) (after-low-of .low-of .ensures)
-          (after-high-of .high-of .ensures) (after-up-of .up-of .ensures) ∙ then2 .if2 .taken) _ _ _ _ _ (after-high-of .high-of .ensures)
-          (after-up-of .up-of .ensures) (after-estimate-rank .estimate-rank .ensures) (c .or-sum .ensures),
-    ))
-    (λ c κs. search needs)
-    (λ c. search needs)
-    (λ c.
+    let after-up-of = after-up-of then2 in
+    let inv = at-loop after-up-of .loop .inv in
+    let (_, (_, (_, (_, (_, (estimates-kept, _)))))) = after-estimate-rank .estimate-rank .kept in record {
+      to-go = one-more after-up-of;
+      length-kept = estimates-kept ∙ inv .length-kept;
+      walked = walk-take (walk-called (at-loop after-up-of) .pre .1 .rank-in) (inv .walked) (in-loop after-up-of .loop-test .taken)
+          (record-read after-up-of) (leads then2) (after-estimate-rank .estimate-rank .ensures) (c .or-sum .ensures);
+    }
+
+-- it was known
+loop-again-2 : {t : ℕ} → walk-tie.Need-loop-again-2 (walk-calls t) (walk-at t) walk.Post Inv-loop μ-loop
+loop-again-2 c =
     let after-is-unasked = c .before .before in
     let after-known-of = after-is-unasked .before in
     let then2 = after-known-of .before .before in
-    let after-leads-up = then2 .before in
+    let after-up-of = after-up-of then2 in
+    let inv = at-loop after-up-of .loop .inv in
+    let test = sym (after-is-unasked .is-unasked .ensures) ∙ c .before .if3 .left in record {
+      to-go = one-more after-up-of;
+      length-kept = inv .length-kept;
+      walked = walk-take (walk-called (at-loop after-up-of) .pre .1 .rank-in) (inv .walked) (in-loop after-up-of .loop-test .taken)
+          (record-read after-up-of) (leads then2) (stands (high-asked then2) (after-known-of .known-of .ensures) (eqb-false _ _ test))
+          (c .or-sum2 .ensures);
+    }
+
+-- the record does not lead up
+loop-again-3 : {t : ℕ} → walk-tie.Need-loop-again-3 (walk-calls t) (walk-at t) walk.Post Inv-loop μ-loop
+loop-again-3 c =
+    let after-leads-up = c .before in
     let after-up-of = after-leads-up .before in
-    let after-high-of = after-up-of .before in
-    let after-low-of = after-high-of .before .before .before .before in
-    let in-loop = after-low-of .before in
-    let at-loop = in-loop .before in
-    let start = at-loop .before .before .before .before .before .before in
-    let l = at-loop .loop .inv in
-    let f = leads-facts _ _ _ _ _ (sym (after-leads-up .leads-up .ensures) ∙ then2 .if2 .taken) in (
-      search needs,
-      search needs,
-      walk-take _ _ _ _ _ _ _ _ (start .pre .1 .0) _ _ _ (l .2) (in-loop .loop-test .taken)
-          (leads-read _ _ _ _ _ _ _ _ _ (after-leads-up .leads-up .ensures) (after-low-of .low-of .ensures)
-          (after-high-of .high-of .ensures) (after-up-of .up-of .ensures) ∙ then2 .if2 .taken) _ _ _ _ _ (after-high-of .high-of .ensures)
-          (after-up-of .up-of .ensures) (stands _ _ _ _ _ _ _ (f .below) (l .1) _ (after-known-of .known-of .ensures)
-          (eqb-false _ _ (sym (after-is-unasked .is-unasked .ensures) ∙ c .before .if3 .left))) (c .or-sum2 .ensures),
-    ))
-    (λ c. search needs)
-    (λ c.
-    let after-up-of = c .before .before in
-    let after-high-of = after-up-of .before in
-    let after-low-of = after-high-of .before .before .before .before in
-    let in-loop = after-low-of .before in
-    let at-loop = in-loop .before in
-    let start = at-loop .before .before .before .before .before .before in (
-      search needs,
-      search needs,
-      walk-skip _ _ _ _ _ _ _ _ (start .pre .1 .0) _ _ _ (at-loop .loop .inv .2) (in-loop .loop-test .taken)
-          (leads-read _ _ _ _ _ _ _ _ _ (c .before .leads-up .ensures) (after-low-of .low-of .ensures) (after-high-of .high-of .ensures)
-          (after-up-of .up-of .ensures) ∙ c .if2 .left),
-    ))
-    (λ c. search needs)
-    (λ c.
+    let inv = at-loop after-up-of .loop .inv in record {
+      to-go = one-more after-up-of;
+      length-kept = inv .length-kept;
+      walked = walk-skip (walk-called (at-loop after-up-of) .pre .1 .rank-in) (inv .walked) (in-loop after-up-of .loop-test .taken)
+          (record-read after-up-of) (sym (after-leads-up .leads-up .ensures) ∙ c .if2 .left);
+    }
+
+walk-returns-2 : {t : ℕ} → walk-tie.Need-returns-2 (walk-calls t) (walk-at t) walk.Post Inv-loop μ-loop
+walk-returns-2 c =
     let at-loop = c .before in
-    walk-end _ _ _ _ _ _ _ _ (search needs) _ _ _ (at-loop .loop .inv .2) (at-loop .loop .inv .0) (c .loop-test .left))
+    let inv = at-loop .loop .inv in
+    walk-end (walk-called at-loop .pre .1 .rank-in) (inv .walked) (inv .to-go) (c .loop-test .left)
+
+pub +estimate-rank+walk-pairs-spec : {M : Type 1} → statement M
++estimate-rank+walk-pairs-spec =
+    close
+    μ-estimate-rank
+    μ-walk-pairs
+    (λ t.
+    rank-tie.spec
+    (rank-calls t)
+    (rank-at t)
+    rank.Post
+    (λ c κs. search needs)
+    (λ c κs. search needs)
+    (λ c. search needs)
+    rank-returns
+    (λ c κs. search needs)
+    (λ c. search needs)
+    mul-of-word
+    slice-read-of-word
+    (λ c κs. search needs)
+    (λ c κs. search needs)
+    (λ c κs. search needs)
+    (λ c κs. search needs)
+    (λ c. search needs)
+    slice-write-estimates
+    (λ c. search needs)
+    rank-returns-2)
+    (λ t.
+    walk-tie.spec
+    (walk-calls t)
+    (walk-at t)
+    walk.Post
+    Inv-loop
+    μ-loop
+    (λ c κs. search needs)
+    loop-holds
+    (λ c. search needs)
+    (λ c κs. search needs)
+    (λ c. search needs)
+    walk-returns
+    (λ c κs. search needs)
+    (λ c κs. search needs)
+    (λ c κs. search needs)
+    known-of-requires
+    (λ c κs. search needs)
+    estimate-rank-requires
+    (λ c κs. search needs)
+    (λ c. search needs)
+    loop-again
+    (λ c κs. search needs)
+    (λ c. search needs)
+    loop-again-2
+    (λ c. search needs)
+    loop-again-3
+    (λ c. search needs)
+    walk-returns-2)

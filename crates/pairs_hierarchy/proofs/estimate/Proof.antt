@@ -1,20 +1,25 @@
--- The estimate of a junction is that of its rank; a rank that is none of the n, which only forged areas have, is answered with none.
-use Rattle.pairs_hierarchy.proofs.Prepares.{estimated, unranked}
+-- The estimate of a junction is that of its rank (`estimated`); a rank that is none of the n, which only forged areas have, is answered
+-- with none (`unranked`).
 use borrow.Author.Needs.{needs}
+use Rattle.pairs_hierarchy.proofs.Prepares.{estimated, unranked}
 use Rattle.pairs_hierarchy.proofs.estimate.Statement.{statement}
 use Rattle.pairs_hierarchy.proofs.estimate.Tie as tie
+
+abbrev start : tie.After-rank-of → tie.Start
+start c = c .before .before .before .before .before .before
 
 returns : tie.Need-returns
 returns c =
     let after-rank-of = c .before .before .before in
-    unranked _ _ _ _ _ _ _ _ _ (search needs) (search needs) (after-rank-of .rank-of .ensures) (c .if1 .taken)
+    let asked = start after-rank-of .pre in
+    unranked (asked .junction-in) (asked .order-is) (after-rank-of .rank-of .ensures) (c .if1 .taken)
 
 returns-2 : tie.Need-returns-2
 returns-2 c =
     let after-estimate-rank = c .before .before in
     let after-rank-of = after-estimate-rank .before .before .before .before .before in
-    estimated _ _ _ _ _ _ _ _ _ (search needs) (search needs) (after-rank-of .rank-of .ensures) _ _
-    (after-estimate-rank .estimate-rank .ensures)
+    let asked = start after-rank-of .pre in
+    estimated (asked .junction-in) (asked .order-is) (after-rank-of .rank-of .ensures) (after-estimate-rank .estimate-rank .ensures)
 
 pub estimate-spec : {M : Type 1} → statement M
 estimate-spec = tie.close (tie.spec (λ c κs. search needs) returns (λ c κs. search needs) (λ c. search needs) returns-2)

@@ -1,121 +1,136 @@
--- The list of a row goes back from its last road (`Walked`): each turn relaxes the row by one road more, and the place in the list falls.
-use native.Mathlib.Omega.{arith}
-use Rattle.model.specs.Limits.{mostRoads}
-use Rattle.pairs_rows.specs.Steps.{back-less, back-most, before-arc, by-none, le-blocks, le-kept, lt-le, one-less}
-use Prim.Native.Nat.{_*_, _-_, _/_, _≤_, ℕ}
+-- The list of a row goes back from its last road (`Walked`): each turn relaxes the row by one road more (`walked-turn`), and the place in
+-- the list falls, since the list was linked downwards (`lastOf-le`).
+use Prim.Native.Nat.{_*_, _-_, _<_, _≤_, ℕ}
 use mathlib.Core.Path.{_∙_, _≡_, refl}
+use mathlib.Core.List.{List}
 use mathlib.Core.Option.{none}
-use lib.ListN.{length}
+use native.Mathlib.Omega.{arith}
+use lib.ListN.{getD, length}
+use borrow.Author.Needs.{needs}
+use Rattle.graph.specs.Network.{Network}
+use Rattle.model.specs.Limits.{mostRoads}
+use Rattle.pairs_rows.specs.Steps.{back-less, back-most, before-arc, by-most, by-none, le-blocks, le-kept, lt-le, one-less}
 use Rattle.pairs_rows.specs.Links.{lastOf, netIn, rowOf}
 use Rattle.pairs_rows.specs.Rows.{Row, block}
 use Rattle.pairs_linking.proofs.Roads.{Walked, lastOf-le, walked-end, walked-start, walked-turn}
-use borrow.Author.Needs.{needs}
 use Rattle.pairs_linking.proofs.relax_roads.Statement.{statement}
 use Rattle.pairs_linking.proofs.relax_roads.Tie as tie
 
+-- the row is r's if the walk began at the last road of r
+record Walking (N : Network) (n c₀ : ℕ) (ups₀ downs₀ touched₀ : List ℕ) (c : ℕ) (ups downs touched : List ℕ) : Type 0 where
+  in-list : c ≤ mostRoads
+  ups-kept : length ups ≡ length ups₀
+  downs-kept : length downs ≡ length downs₀
+  touched-kept : length touched ≡ length touched₀
+  walked : (r : ℕ) → c₀ ≡ lastOf (rowOf N) r (N .arcs) → Row r n ups₀ (λ h. none) → Row r n downs₀ (λ h. none)
+      → n ≤ block * length touched₀ → Walked N n r c ups downs touched
+
 abbrev Inv-loop : tie.InvT-loop
-Inv-loop roads ranks first next ups₀ downs₀ touched₀ c₀ ups downs touched c = (c ≤ mostRoads) × (length ups ≡ length ups₀)
-    × (length downs ≡ length downs₀) × (length touched ≡ length touched₀)
-    × ((r : ℕ) → c₀ ≡ lastOf (rowOf (netIn roads ranks)) r (length roads / 12) → Row r (length ranks) ups₀ (λ h. none) → Row r
-    (length ranks) downs₀ (λ h. none) → length ranks ≤ block * length touched₀
-    → Walked (netIn roads ranks) (length ranks) r c ups downs touched)
+Inv-loop roads ranks first next ups₀ downs₀ touched₀ c₀ ups downs touched c =
+    Walking (netIn roads ranks) (length ranks) c₀ ups₀ downs₀ touched₀ c ups downs touched
 
 abbrev μ-loop : tie.MeasureT-loop
 μ-loop roads ranks first next ups₀ downs₀ touched₀ c₀ ups downs touched c = c
 
+-- ---- at the head of the loop
+
+abbrev start : tie.At-loop Inv-loop μ-loop → tie.Start Inv-loop μ-loop
+start c = c .before .before .before .before .before .before .before .before .before .before
+
+abbrev net : tie.At-loop Inv-loop μ-loop → Network
+net c = netIn (start c .args .roads .now) (start c .args .ranks .now)
+
+walked : (c : tie.At-loop Inv-loop μ-loop)
+    → Walked (net c) (length (start c .args .ranks .now)) (start c .args .r .0) (c .loop .c) (c .loop .ups) (c .loop .downs)
+    (c .loop .touched)
+walked c =
+    let asked = start c .pre in
+    c .loop .inv .walked (start c .args .r .0) (asked .grouped .linked .firsts (start c .args .r .0) (asked .rank-in)) (asked .ups-none)
+    (asked .downs-none) (asked .touched-long)
+
+-- the road of this turn, and the one that its link names
+road-in : (c : tie.In-loop Inv-loop μ-loop) → c .before .loop .c - 1 < net (c .before) .arcs
+road-in c = before-arc (walked (c .before) .below) (c .loop-test .taken)
+
+link-is : (c : tie.In-loop Inv-loop μ-loop) → getD (start (c .before) .args .next .now) (c .before .loop .c - 1) 0
+    ≡ lastOf (rowOf (net (c .before))) (rowOf (net (c .before)) (c .before .loop .c - 1)) (c .before .loop .c - 1)
+link-is c = start (c .before) .pre .grouped .linked .nexts (c .before .loop .c - 1) (road-in c)
+
+link-low : (c : tie.In-loop Inv-loop μ-loop)
+    → getD (start (c .before) .args .next .now) (c .before .loop .c - 1) 0 ≤ c .before .loop .c - 1
+link-low c = by-most (link-is c) (lastOf-le (rowOf (net (c .before))) _ _)
+
+-- ---- the answers
+
 shared-slice-read-c : tie.Need-shared-slice-read-c Inv-loop μ-loop
 shared-slice-read-c c =
     let start = c .before .before .before .before .before .before .before .before .before in
-    lt-le _ _ _ (start .pre .1) (start .pre .0 .firsts-in)
+    lt-le (start .pre .rank-in) (start .pre .grouped .firsts-in)
 
 loop-holds : tie.Need-loop-holds Inv-loop μ-loop
 loop-holds c =
-    let start = c .before .before .before .before .before .before .before .before .before in (
-      omega (
+    let start = c .before .before .before .before .before .before .before .before .before in
+    let N = netIn (start .args .roads .now) (start .args .ranks .now) in
+    let r = start .args .r .0 in record {
+      in-list = omega (
         arith,
-        start .pre .0 .ranked .most,
-        start .pre .0 .linked .firsts (start .args .r .0) (start .pre .1),
-        lastOf-le (rowOf (netIn (start .args .roads .now) (start .args .ranks .now))) (start .args .r .0)
-            ((netIn (start .args .roads .now) (start .args .ranks .now)) .arcs),
-      ),
-      refl,
-      refl,
-      refl,
-      λ r e u d l. walked-start _ _ r _ _ _ _ e u d l,
-    )
+        start .pre .grouped .ranked .most,
+        start .pre .grouped .linked .firsts r (start .pre .rank-in),
+        lastOf-le (rowOf N) r (N .arcs),
+      );
+      ups-kept = refl;
+      downs-kept = refl;
+      touched-kept = refl;
+      walked = λ r e u d l. walked-start e u d l;
+    }
 
 relax-road-requires : tie.Need-relax-road-requires Inv-loop μ-loop
 relax-road-requires c κs =
     let in-loop = c .before .before .before in
     let at-loop = in-loop .before in
-    let start = at-loop .before .before .before .before .before .before .before .before .before .before in (
-      start .pre .0 .ranked,
-      (before-arc _ _ ((at-loop .loop .inv .4 (start .args .r .0) (start .pre .0 .linked .firsts (start .args .r .0) (start .pre .1))
-          (start .pre .2) (start .pre .3) (start .pre .4)) .below) (in-loop .loop-test .taken)),
-      le-kept _ _ _ (start .pre .2 .wide) (at-loop .loop .inv .1),
-      le-kept _ _ _ (start .pre .3 .wide) (at-loop .loop .inv .2),
-      le-blocks _ _ _ (start .pre .4) (at-loop .loop .inv .3),
-    )
+    let asked = start at-loop .pre in record {
+      ranked = asked .grouped .ranked;
+      road-in = road-in in-loop;
+      ups-long = le-kept (asked .ups-none .wide) (at-loop .loop .inv .ups-kept);
+      downs-long = le-kept (asked .downs-none .wide) (at-loop .loop .inv .downs-kept);
+      touched-long = le-blocks (asked .touched-long) (at-loop .loop .inv .touched-kept);
+    }
 
 shared-slice-read-c-2 : tie.Need-shared-slice-read-c-2 Inv-loop μ-loop
 shared-slice-read-c-2 c =
     let in-loop = c .before .before .before .before .before .before .before .before .before .before .before in
-    let at-loop = in-loop .before in
-    let start = at-loop .before .before .before .before .before .before .before .before .before .before in
-    lt-le _ _ _ (before-arc _ _ ((at-loop .loop .inv .4 (start .args .r .0)
-    (start .pre .0 .linked .firsts (start .args .r .0) (start .pre .1)) (start .pre .2) (start .pre .3) (start .pre .4)) .below)
-    (in-loop .loop-test .taken)) (start .pre .0 .nexts-in)
+    lt-le (road-in in-loop) (start (in-loop .before) .pre .grouped .nexts-in)
 
 loop-less : tie.Need-loop-less Inv-loop μ-loop
 loop-less c =
     let in-loop = c .before .before .before .before .before .before .before .before .before .before .before in
-    let at-loop = in-loop .before in
-    let start = at-loop .before .before .before .before .before .before .before .before .before .before in
-    back-less _ _ _ (start .pre .0 .linked .nexts (at-loop .loop .c - 1)
-    (before-arc _ _ ((at-loop .loop .inv .4 (start .args .r .0) (start .pre .0 .linked .firsts (start .args .r .0) (start .pre .1))
-    (start .pre .2) (start .pre .3) (start .pre .4)) .below) (in-loop .loop-test .taken)))
-    (lastOf-le (rowOf (netIn (start .args .roads .now) (start .args .ranks .now)))
-    (rowOf (netIn (start .args .roads .now) (start .args .ranks .now)) (at-loop .loop .c - 1)) (at-loop .loop .c - 1))
-    (in-loop .loop-test .taken)
+    back-less (link-low in-loop) (in-loop .loop-test .taken)
 
 loop-again : tie.Need-loop-again Inv-loop μ-loop
 loop-again c =
     let after-relax-road = c .before .before .before .before .before .before .before in
     let in-loop = after-relax-road .before .before .before .before in
-    let at-loop = in-loop .before in
-    let start = at-loop .before .before .before .before .before .before .before .before .before .before in (
-      back-most _ _ _ _ (start .pre .0 .linked .nexts (at-loop .loop .c - 1)
-          (before-arc _ _ ((at-loop .loop .inv .4 (start .args .r .0) (start .pre .0 .linked .firsts (start .args .r .0) (start .pre .1))
-          (start .pre .2) (start .pre .3) (start .pre .4)) .below) (in-loop .loop-test .taken)))
-          (lastOf-le (rowOf (netIn (start .args .roads .now) (start .args .ranks .now)))
-          (rowOf (netIn (start .args .roads .now) (start .args .ranks .now)) (at-loop .loop .c - 1)) (at-loop .loop .c - 1))
-          (at-loop .loop .inv .0),
-      after-relax-road .relax-road .kept .1 .1 .1 .0 ∙ at-loop .loop .inv .1,
-      after-relax-road .relax-road .kept .1 .1 .1 .1 .0 ∙ at-loop .loop .inv .2,
-      after-relax-road .relax-road .kept .1 .1 .1 .1 .1 .0 ∙ at-loop .loop .inv .3,
-      λ r e u d l. walked-turn _ _ r (at-loop .loop .c) (at-loop .loop .c - 1) _ _ _ _ _ _ _ (one-less _ (in-loop .loop-test .taken))
-          (start .pre .0 .linked .nexts (at-loop .loop .c - 1)
-          (before-arc _ _ ((at-loop .loop .inv .4 (start .args .r .0) (start .pre .0 .linked .firsts (start .args .r .0) (start .pre .1))
-          (start .pre .2) (start .pre .3) (start .pre .4)) .below) (in-loop .loop-test .taken))) (at-loop .loop .inv .4 r e u d l)
-          (after-relax-road .relax-road .ensures),
-    )
+    let inv = in-loop .before .loop .inv in
+    let (_, (_, (_, (ups-kept, (downs-kept, (touched-kept, _)))))) = after-relax-road .relax-road .kept in record {
+      in-list = back-most (link-low in-loop) (inv .in-list);
+      ups-kept = ups-kept ∙ inv .ups-kept;
+      downs-kept = downs-kept ∙ inv .downs-kept;
+      touched-kept = touched-kept ∙ inv .touched-kept;
+      walked = λ r e u d l. walked-turn (one-less (in-loop .loop-test .taken)) (link-is in-loop) (inv .walked r e u d l)
+          (after-relax-road .relax-road .ensures);
+    }
 
 same-length : tie.Need-same-length Inv-loop μ-loop
-same-length c = c .before .loop .inv .1
+same-length c = c .before .loop .inv .ups-kept
 
 same-length-2 : tie.Need-same-length-2 Inv-loop μ-loop
-same-length-2 c = c .before .loop .inv .2
+same-length-2 c = c .before .loop .inv .downs-kept
 
 same-length-3 : tie.Need-same-length-3 Inv-loop μ-loop
-same-length-3 c = c .before .loop .inv .3
+same-length-3 c = c .before .loop .inv .touched-kept
 
 returns : tie.Need-returns Inv-loop μ-loop
-returns c =
-    let at-loop = c .before in
-    let start = at-loop .before .before .before .before .before .before .before .before .before .before in
-    walked-end _ _ _ (at-loop .loop .c) _ _ _ (by-none _ (c .loop-test .left))
-    (at-loop .loop .inv .4 (start .args .r .0) (start .pre .0 .linked .firsts (start .args .r .0) (start .pre .1)) (start .pre .2)
-    (start .pre .3) (start .pre .4))
+returns c = walked-end (by-none (c .loop-test .left)) (walked (c .before))
 
 pub relax-roads-spec : {M : Type 1} → statement M
 relax-roads-spec =

@@ -1,37 +1,45 @@
--- Both ends of a road have ranks, and the lower one is answered.
-use native.Mathlib.Omega.{arith}
-use Rattle.pairs_linking.proofs.Roads.{ends, row-high, row-low}
+-- The row of a road is the lower of its two ranks, both of which have entries (`ends`): the tail's if that is below the head's, else the
+-- head's (`row-low`, `row-high`).
 use borrow.Author.Needs.{needs}
+use Rattle.pairs_rows.specs.Steps.{by-below}
+use Rattle.pairs_linking.proofs.Roads.{Ends, ends, row-high, row-low}
 use Rattle.pairs_linking.proofs.row_of.Statement.{statement}
 use Rattle.pairs_linking.proofs.row_of.Tie as tie
+
+-- ---- the road, once both ranks are read
+
+abbrev start : tie.After-rank-of2 → tie.Start
+start c = c .before .before .before .before .before .before
+
+ends-read : (c : tie.After-rank-of2) → Ends (start c .args .roads .now) (start c .args .ranks .now) (start c .args .i)
+    (c .before .before .rank-of .result .0) (c .rank-of2 .result .0)
+ends-read c =
+    let after-head-of = c .before in
+    let after-rank-of = after-head-of .before in
+    let after-tail-of = after-rank-of .before in
+    let (ranked, road-in) = start c .pre in
+    ends ranked road-in (after-tail-of .tail-of .ensures) (after-rank-of .rank-of .ensures) (after-head-of .head-of .ensures)
+    (c .rank-of2 .ensures)
+
+-- ---- the answers
 
 rank-of-requires : tie.Need-rank-of-requires
 rank-of-requires c κs =
     let start = c .before .before .before in
-    omega (arith, c .tail-of .ensures, start .pre .0 .tails (start .args .i) (start .pre .1))
+    let (ranked, road-in) = start .pre in
+    by-below (c .tail-of .ensures) (ranked .tails (start .args .i) road-in)
 
 rank-of-requires-2 : tie.Need-rank-of-requires-2
 rank-of-requires-2 c κs =
     let start = c .before .before .before .before .before in
-    omega (arith, c .head-of .ensures, start .pre .0 .heads (start .args .i) (start .pre .1))
+    let (ranked, road-in) = start .pre in
+    by-below (c .head-of .ensures) (ranked .heads (start .args .i) road-in)
 
 returns : tie.Need-returns
-returns c =
-    let after-head-of = c .before .before in
-    let after-rank-of = after-head-of .before in
-    let after-tail-of = after-rank-of .before in
-    let start = after-tail-of .before .before .before in
-    row-low (ends (start .pre .0) _ _ _ _ _ (start .pre .1) (after-tail-of .tail-of .ensures) (after-rank-of .rank-of .ensures)
-    (after-head-of .head-of .ensures) (c .before .rank-of2 .ensures)) (c .if1 .taken)
+returns c = row-low (ends-read (c .before)) (c .if1 .taken)
 
 returns-2 : tie.Need-returns-2
-returns-2 c =
-    let after-head-of = c .before .before in
-    let after-rank-of = after-head-of .before in
-    let after-tail-of = after-rank-of .before in
-    let start = after-tail-of .before .before .before in
-    row-high (ends (start .pre .0) _ _ _ _ _ (start .pre .1) (after-tail-of .tail-of .ensures) (after-rank-of .rank-of .ensures)
-    (after-head-of .head-of .ensures) (c .before .rank-of2 .ensures)) (c .if1 .left)
+returns-2 c = row-high (ends-read (c .before)) (c .if1 .left)
 
 pub row-of-spec : {M : Type 1} → statement M
 row-of-spec =

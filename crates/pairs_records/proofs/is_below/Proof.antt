@@ -1,4 +1,4 @@
--- The low that is read is the record's, so the test on it is the one of `belowIn`.
+-- The low that is read is the record's, so the two ways of the test are the two cases of `belowIn` (`below-one`, `below-zero`).
 use Rattle.pairs_records.specs.Tests.{below-one, below-zero}
 use borrow.Author.Needs.{needs}
 use native.Mathlib.Omega.{arith}
@@ -9,13 +9,13 @@ returns : tie.Need-returns
 returns c =
     let after-low-of = c .before .before .before in
     let start = after-low-of .before .before in
-    below-one (start .args .pairs .now) _ _ (omega (arith, after-low-of .low-of .ensures, c .if1 .taken))
+    below-one (start .args .pairs .now) (start .args .i) (omega (arith, after-low-of .low-of .ensures, c .if1 .taken))
 
 returns-2 : tie.Need-returns-2
 returns-2 c =
     let after-low-of = c .before .before .before in
     let start = after-low-of .before .before in
-    below-zero (start .args .pairs .now) _ _ (omega (arith, after-low-of .low-of .ensures, c .if1 .left))
+    below-zero (start .args .pairs .now) (start .args .i) (omega (arith, after-low-of .low-of .ensures, c .if1 .left))
 
 pub is-below-spec : {M : Type 1} → statement M
 is-below-spec = tie.close (tie.spec (λ c κs. search needs) returns returns-2)

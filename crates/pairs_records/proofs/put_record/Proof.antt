@@ -1,4 +1,4 @@
--- Four words that stand side by side are written, and the rest of the area stays.
+-- Four words that stand side by side are written, and the rest of the area stays (`put`).
 use native.Mathlib.Omega.{arith}
 use lib.ListN.{length-set}
 use Rattle.pairs_records.proofs.Writes.{put}
@@ -17,7 +17,9 @@ slice-write-pairs-4 : tie.Need-slice-write-pairs-4
 slice-write-pairs-4 c = simp length-set (omega arith)
 
 returns : tie.Need-returns
-returns c = put (c .args .pairs .now) (4 * c .args .i) _ _ _ _ (search needs)
+returns c =
+    let args = c .args in
+    put (args .pairs .now) (4 * args .i) (args .low .0) (args .high .0) (args .up .0) (args .down .0) (search needs)
 
 pub put-record-spec : {M : Type 1} → statement M
 put-record-spec =

@@ -1,9 +1,11 @@
 -- What is left (`Left`) holds every record that is not yet known to be below r or not below it. Three tests choose the quarter that is
--- kept, until three records or fewer are left.
-use Rattle.pairs_records.specs.Tests.{Left, below-most, left-all, left-few, left-turn}
+-- kept (`left-turn`), until three records or fewer are left (`left-few`).
+use Prim.Native.Nat.{_*_, _+_, _/_, _≤_}
 use mathlib.Core.Path.{refl}
-use borrow.Author.Needs.{needs}
 use native.Mathlib.Omega.{arith}
+use lib.ListN.{length}
+use borrow.Author.Needs.{needs}
+use Rattle.pairs_records.specs.Tests.{Left, below-most, left-all, left-few, left-turn}
 use Rattle.pairs_records.proofs.start_of.Statement.{statement}
 use Rattle.pairs_records.proofs.start_of.Tie as tie
 
@@ -13,67 +15,71 @@ Inv-loop pairs count r base₀ size₀ base size = Left pairs count (r .0) base 
 abbrev μ-loop : tie.MeasureT-loop
 μ-loop pairs count r base₀ size₀ base size = size
 
+-- ---- in the loop
+
+abbrev at-loop : tie.In-loop Inv-loop μ-loop → tie.At-loop Inv-loop μ-loop
+at-loop c = c .before
+
+abbrev start : tie.In-loop Inv-loop μ-loop → tie.Start Inv-loop μ-loop
+start c = c .before .before .before
+
+-- the last of the three records that are tested
+third-in : (c : tie.In-loop Inv-loop μ-loop)
+    → 4 * (at-loop c .loop .base + 3 * (at-loop c .loop .size / 4)) + 4 ≤ length (start c .args .pairs .now)
+third-in c = omega (arith, c .loop-test .taken, at-loop c .loop .inv .fits, start c .pre .0)
+
+-- ---- after the three tests
+
+abbrev in-loop : tie.After-is-below3 Inv-loop μ-loop → tie.In-loop Inv-loop μ-loop
+in-loop c = c .before .before .before
+
+abbrev after-is-below : tie.After-is-below3 Inv-loop μ-loop → tie.After-is-below Inv-loop μ-loop
+after-is-below c = c .before .before
+
+tests-most : (c : tie.After-is-below3 Inv-loop μ-loop)
+    → after-is-below c .is-below .result + c .before .is-below2 .result + c .is-below3 .result ≤ 3
+tests-most c =
+    let pairs = start (in-loop c) .args .pairs .now in omega (
+      arith,
+      below-most pairs _ _ (after-is-below c .is-below .ensures),
+      below-most pairs _ _ (c .before .is-below2 .ensures),
+      below-most pairs _ _ (c .is-below3 .ensures),
+    )
+
+-- ---- the answers
+
 loop-holds : tie.Need-loop-holds Inv-loop μ-loop
-loop-holds c = left-all (c .before .args .pairs .now) _ _
+loop-holds c = left-all
 
 is-below-requires : tie.Need-is-below-requires Inv-loop μ-loop
-is-below-requires c κs =
-    let start = c .before .before .before in
-    omega (arith, c .loop-test .taken, c .before .loop .inv .fits, start .pre .0)
+is-below-requires c κs = omega (arith, third-in c)
 
 is-below-requires-2 : tie.Need-is-below-requires-2 Inv-loop μ-loop
-is-below-requires-2 c κs =
-    let at-loop = c .before .before in
-    let start = at-loop .before .before in
-    omega (arith, c .before .loop-test .taken, at-loop .loop .inv .fits, start .pre .0)
+is-below-requires-2 c κs = omega (arith, third-in (c .before))
 
 is-below-requires-3 : tie.Need-is-below-requires-3 Inv-loop μ-loop
-is-below-requires-3 c κs =
-    let in-loop = c .before .before in
-    let at-loop = in-loop .before in
-    let start = at-loop .before .before in
-    omega (arith, in-loop .loop-test .taken, at-loop .loop .inv .fits, start .pre .0)
+is-below-requires-3 c κs = third-in (c .before .before)
+
+add-base : tie.Need-add-base Inv-loop μ-loop
+add-base c = omega (arith, tests-most c)
+
+add-base-2 : tie.Need-add-base-2 Inv-loop μ-loop
+add-base-2 c = omega (arith, tests-most c)
 
 loop-again : tie.Need-loop-again Inv-loop μ-loop
 loop-again c =
-    let after-is-below = c .before .before in
-    let in-loop = after-is-below .before in
-    let at-loop = in-loop .before in
-    let start = at-loop .before .before in
-    left-turn (start .args .pairs .now) _ _ _ _ (at-loop .loop .inv) (in-loop .loop-test .taken) _ refl
-    _ _ _ (after-is-below .is-below .ensures) (c .before .is-below2 .ensures) (c .is-below3 .ensures)
+    left-turn (at-loop (in-loop c) .loop .inv) (in-loop c .loop-test .taken) refl (after-is-below c .is-below .ensures)
+    (c .before .is-below2 .ensures) (c .is-below3 .ensures)
 
 -- what the turn adds stays within the records
 mul-base : tie.Need-mul-base Inv-loop μ-loop
-mul-base c =
-    let start = c .before .before .before .before .before .before in
-    omega (arith, loop-again c .fits, start .pre .1)
+mul-base c = omega (arith, loop-again c .fits, start (in-loop c) .pre .1)
 
 add-base-3 : tie.Need-add-base-3 Inv-loop μ-loop
-add-base-3 c =
-    let start = c .before .before .before .before .before .before in
-    omega (arith, loop-again c .fits, start .pre .1)
-
--- the sum of the three tests
-add-base : tie.Need-add-base Inv-loop μ-loop
-add-base c =
-    let after-is-below = c .before .before in
-    omega (arith, below-most _ _ _ _ (after-is-below .is-below .ensures), below-most _ _ _ _ (c .before .is-below2 .ensures))
-
-add-base-2 : tie.Need-add-base-2 Inv-loop μ-loop
-add-base-2 c =
-    let after-is-below = c .before .before in
-    omega (
-      arith,
-      below-most _ _ _ _ (after-is-below .is-below .ensures),
-      below-most _ _ _ _ (c .before .is-below2 .ensures),
-      below-most _ _ _ _ (c .is-below3 .ensures),
-    )
+add-base-3 c = omega (arith, loop-again c .fits, start (in-loop c) .pre .1)
 
 returns : tie.Need-returns Inv-loop μ-loop
-returns c =
-    let start = c .before .before .before in
-    left-few (start .args .pairs .now) _ _ _ _ (c .before .loop .inv) (omega (arith, c .loop-test .left))
+returns c = left-few (c .before .loop .inv) (omega (arith, c .loop-test .left))
 
 pub start-of-spec : {M : Type 1} → statement M
 start-of-spec =

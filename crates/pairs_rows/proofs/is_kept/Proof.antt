@@ -1,4 +1,5 @@
--- A pair exists where either time does: the up time is asked first, then the down time.
+-- A pair exists where either time does. The up time is asked first; if it is none the down time decides (`kept-by-down`), else the pair is
+-- kept (`kept-by-up`).
 use Rattle.pairs_rows.proofs.Stored.{kept-by-down, kept-by-up}
 use borrow.Author.Needs.{needs}
 use Rattle.pairs_rows.proofs.is_kept.Statement.{statement}
@@ -7,10 +8,14 @@ use Rattle.pairs_rows.proofs.is_kept.Tie as tie
 returns : tie.Need-returns
 returns c =
     let after-is-none = c .before .before in
-    kept-by-down _ _ _ _ (after-is-none .is-none .ensures) (c .before .if1 .taken) (c .is-none2 .ensures)
+    let args = after-is-none .before .args in
+    kept-by-down (args .up .0) (args .down .0) (after-is-none .is-none .ensures) (c .before .if1 .taken) (c .is-none2 .ensures)
 
 returns-2 : tie.Need-returns-2
-returns-2 c = kept-by-up _ _ _ (c .before .is-none .ensures) (c .if1 .left)
+returns-2 c =
+    let after-is-none = c .before in
+    let args = after-is-none .before .args in
+    kept-by-up (args .up .0) (args .down .0) (after-is-none .is-none .ensures) (c .if1 .left)
 
 pub is-kept-spec : {M : Type 1} → statement M
 is-kept-spec = tie.close (tie.spec (λ c κs. search needs) (λ c κs. search needs) returns returns-2)

@@ -1,211 +1,244 @@
--- The area begins with the records of the row up to h (`Appending`). Each turn takes in one rank, and appends its pair if that is kept; or
--- a block that is not touched, which holds none. Full is answered where the next record has no room.
-use native.Mathlib.Omega.{arith}
-use Prim.Native.Nat.{_*_, _-_, _<_, _≤_}
-use Rattle.pairs_rows.specs.Steps.{count-fits, in-kept, less, lt-more, lt-next, min-le, over-above, over-less, room-in, room-next, room-out}
+-- The area begins with the records of the row up to h (`Appending`). Each turn takes in one rank, and appends its pair if that is kept
+-- (`append-put`, `append-skip`); or a block that is not touched, which holds none (`append-over`). Full is answered where the next record
+-- has no room (`append-full`).
+use Prim.Native.Nat.{_*_, _+_, _-_, _<_, _≤_, ℕ}
 use mathlib.Core.Path.{_∙_, _≡_, refl}
+use mathlib.Core.List.{List}
+use native.Mathlib.Omega.{arith}
 use lib.ListN.{length}
-use Rattle.graph.specs.Path.{Weights}
-use Rattle.pairs_storing.specs.Storing.{RowTimes}
-use Rattle.pairs_storing.proofs.Records.{Appending, append-end, append-full, append-over, append-put, append-skip, append-start}
 use borrow.Author.Needs.{needs}
+use Rattle.graph.specs.Path.{Weights}
+use Rattle.pairs_rows.specs.Steps.{count-fits, in-kept, less, lt-more, lt-next, min-le, over-above, over-less, room-in, room-next, room-out}
+use Rattle.pairs_storing.specs.Storing.{RowTimes}
+use Rattle.pairs_storing.proofs.Records.{Appending, Taken}
+use Rattle.pairs_storing.proofs.Records.{append-end, append-full, append-over, append-put, append-skip, append-start}
 use Rattle.pairs_storing.proofs.append_row.Statement.{statement}
 use Rattle.pairs_storing.proofs.append_row.Tie as tie
 
+-- the highs below h are taken in
+record AppendingRow (touched : List ℕ) (n r count : ℕ) (ups₀ downs₀ pairs₀ ups downs pairs : List ℕ) (k h : ℕ) : Type 0 where
+  above : r < h
+  within : h ≤ n
+  records-in : 4 * k ≤ length pairs₀
+  ups-kept : length ups ≡ length ups₀
+  downs-kept : length downs ≡ length downs₀
+  pairs-kept : length pairs ≡ length pairs₀
+  appending : (w : Weights) → RowTimes w n r count touched ups₀ downs₀ pairs₀ → Appending w n r h k ups₀ downs₀ ups downs pairs
+
 abbrev Inv-loop : tie.InvT-loop
-Inv-loop touched n r count ups₀ downs₀ pairs₀ k₀ h₀ ups downs pairs k h = (r .0 < h) × (h ≤ n) × (4 * k ≤ length pairs₀)
-    × (length pairs ≡ length pairs₀) × (length ups ≡ length ups₀) × (length downs ≡ length downs₀)
-    × ((w : Weights) → RowTimes w n (r .0) count touched ups₀ downs₀ pairs₀ → Appending w n (r .0) h k ups₀ downs₀ ups downs pairs)
+Inv-loop touched n r count ups₀ downs₀ pairs₀ k₀ h₀ ups downs pairs k h =
+    AppendingRow touched n (r .0) count ups₀ downs₀ pairs₀ ups downs pairs k h
 
 abbrev μ-loop : tie.MeasureT-loop
 μ-loop touched n r count ups₀ downs₀ pairs₀ k₀ h₀ ups downs pairs k h = n - h
 
+-- ---- in the loop: h has its two entries, and a place more can be counted
+
+abbrev start : tie.In-loop Inv-loop μ-loop → tie.Start Inv-loop μ-loop
+start c = c .before .before .before .before .before .before .before
+
+up-in : (c : tie.In-loop Inv-loop μ-loop) → c .before .loop .h < length (c .before .loop .ups)
+up-in c = in-kept (c .loop-test .taken) (start c .pre .ups-long) (c .before .loop .inv .ups-kept)
+
+down-in : (c : tie.In-loop Inv-loop μ-loop) → c .before .loop .h < length (c .before .loop .downs)
+down-in c = in-kept (c .loop-test .taken) (start c .pre .downs-long) (c .before .loop .inv .downs-kept)
+
+count-high : (c : tie.In-loop Inv-loop μ-loop) → c .before .loop .k + 1 < 4294967296
+count-high c = count-fits _ (c .before .loop .inv .records-in) (start c .pre .pairs-high)
+
+-- ---- once both times of h are taken
+
+abbrev after-take-time2 : tie.After-is-kept Inv-loop μ-loop → tie.After-take-time2 Inv-loop μ-loop
+after-take-time2 c = c .before .before .before
+
+abbrev after-take-time : tie.After-is-kept Inv-loop μ-loop → tie.After-take-time Inv-loop μ-loop
+after-take-time c = c .before .before .before .before .before .before .before
+
+abbrev in-loop : tie.After-is-kept Inv-loop μ-loop → tie.In-loop Inv-loop μ-loop
+in-loop c = c .before .before .before .before .before .before .before .before .before .before .before
+
+abbrev at-loop : tie.After-is-kept Inv-loop μ-loop → tie.At-loop Inv-loop μ-loop
+at-loop c = in-loop c .before
+
+taken : (c : tie.After-is-kept Inv-loop μ-loop) → Taken (start (in-loop c) .args .n) (start (in-loop c) .args .r .0) (at-loop c .loop .h)
+    (after-take-time c .take-time .result .0) (after-take-time2 c .take-time2 .result .0) (at-loop c .loop .ups) (at-loop c .loop .downs)
+    (after-take-time c .take-time .last .0) (after-take-time2 c .take-time2 .last .0) (c .is-kept .result)
+taken c =
+    let (up-is, ups-are) = after-take-time c .take-time .ensures in
+    let (down-is, downs-are) = after-take-time2 c .take-time2 .ensures in record {
+      above = at-loop c .loop .inv .above;
+      below = in-loop c .loop-test .taken;
+      up-in = up-in (in-loop c);
+      down-in = down-in (in-loop c);
+      up-is = up-is;
+      down-is = down-is;
+      ups-are = ups-are;
+      downs-are = downs-are;
+      test-is = c .is-kept .ensures;
+    }
+
+ups-kept : (c : tie.After-is-kept Inv-loop μ-loop)
+    → length (after-take-time c .take-time .last .0) ≡ length (start (in-loop c) .args .ups .now)
+ups-kept c = after-take-time c .take-time .kept .0 ∙ at-loop c .loop .inv .ups-kept
+
+downs-kept : (c : tie.After-is-kept Inv-loop μ-loop)
+    → length (after-take-time2 c .take-time2 .last .0) ≡ length (start (in-loop c) .args .downs .now)
+downs-kept c = after-take-time2 c .take-time2 .kept .0 ∙ at-loop c .loop .inv .downs-kept
+
+-- ---- where the next record has room
+
+abbrev after-is-kept : tie.Else3 Inv-loop μ-loop → tie.After-is-kept Inv-loop μ-loop
+after-is-kept c = c .before .before .before
+
+room : (c : tie.Else3 Inv-loop μ-loop) → 4 * at-loop (after-is-kept c) .loop .k + 4 ≤ length (at-loop (after-is-kept c) .loop .pairs)
+room c = room-in _ (c .before .words-of .ensures) (c .if3 .left)
+
+-- ---- the answers
+
 loop-holds : tie.Need-loop-holds Inv-loop μ-loop
 loop-holds c =
-    let start = c .before .before .before .before .before in
-    (search needs, lt-next _ _ (start .pre .0), start .pre .5, refl, refl, refl, λ w g. append-start g)
+    let start = c .before .before .before .before .before in record {
+      above = search needs;
+      within = lt-next (start .pre .rank-in);
+      records-in = start .pre .records-in;
+      ups-kept = refl;
+      downs-kept = refl;
+      pairs-kept = refl;
+      appending = λ w g. append-start g;
+    }
 
 shared-slice-read-if1 : tie.Need-shared-slice-read-if1 Inv-loop μ-loop
 shared-slice-read-if1 c =
-    let start = c .before .before .before .before .before .before .before .before in
-    omega (arith, start .pre .2, c .before .loop-test .taken)
+    let in-loop = c .before in
+    omega (arith, start in-loop .pre .touched-long, in-loop .loop-test .taken)
 
 mul-least : tie.Need-mul-least Inv-loop μ-loop
 mul-least c =
     let in-loop = c .before .before in
-    let start = in-loop .before .before .before .before .before .before .before in
-    let p = start .pre .1 in
-    let q = in-loop .loop-test .taken in
-    search needs
+    let n-high = start in-loop .pre .n-high in
+    let in-range = in-loop .loop-test .taken in search needs
 
 add-least : tie.Need-add-least Inv-loop μ-loop
 add-least c =
     let in-loop = c .before .before in
-    let start = in-loop .before .before .before .before .before .before .before in
-    let p = start .pre .1 in
-    let q = in-loop .loop-test .taken in
-    search needs
+    let n-high = start in-loop .pre .n-high in
+    let in-range = in-loop .loop-test .taken in search needs
 
 loop-less : tie.Need-loop-less Inv-loop μ-loop
 loop-less c =
     let in-loop = c .before .before .before in
-    over-less _ _ _ (c .least .ensures) (in-loop .loop-test .taken)
+    over-less (c .least .ensures) (in-loop .loop-test .taken)
 
 loop-again : tie.Need-loop-again Inv-loop μ-loop
 loop-again c =
-    let in-loop = c .before .before .before in
-    let at-loop = in-loop .before in (
-      over-above _ _ _ _ (c .least .ensures) (at-loop .loop .inv .0) (in-loop .loop-test .taken),
-      min-le _ _ _ (c .least .ensures),
-      at-loop .loop .inv .2,
-      at-loop .loop .inv .3,
-      at-loop .loop .inv .4,
-      at-loop .loop .inv .5,
-      λ w g. append-over g (at-loop .loop .h) _ (at-loop .loop .inv .0) (in-loop .loop-test .taken) (c .least .ensures)
-          (c .before .if1 .taken) (at-loop .loop .inv .6 w g),
-    )
+    let then1 = c .before in
+    let in-loop = then1 .before .before in
+    let inv = in-loop .before .loop .inv in record {
+      above = over-above (c .least .ensures) (inv .above) (in-loop .loop-test .taken);
+      within = min-le _ (c .least .ensures);
+      records-in = inv .records-in;
+      ups-kept = inv .ups-kept;
+      downs-kept = inv .downs-kept;
+      pairs-kept = inv .pairs-kept;
+      appending = λ w g. append-over g (inv .above) (in-loop .loop-test .taken) (c .least .ensures) (then1 .if1 .taken)
+          (inv .appending w g);
+    }
 
 take-time-requires : tie.Need-take-time-requires Inv-loop μ-loop
 take-time-requires c κs =
     let in-loop = c .before .before .before in
-    let at-loop = in-loop .before in
-    let start = at-loop .before .before .before .before .before .before in
-    in-kept _ _ _ _ (in-loop .loop-test .taken) (start .pre .3) (at-loop .loop .inv .4)
+    up-in in-loop
 
 take-time-requires-2 : tie.Need-take-time-requires-2 Inv-loop μ-loop
 take-time-requires-2 c κs =
     let in-loop = c .before .before .before .before .before .before .before in
-    let at-loop = in-loop .before in
-    let start = at-loop .before .before .before .before .before .before in
-    in-kept _ _ _ _ (in-loop .loop-test .taken) (start .pre .4) (at-loop .loop .inv .5)
+    down-in in-loop
+
+add-words-of : tie.Need-add-words-of Inv-loop μ-loop
+add-words-of c = record { fits = count-high (in-loop (c .before)) }
 
 same-length : tie.Need-same-length Inv-loop μ-loop
 same-length c =
-    let after-take-time = c .before .before .before .before .before .before .before .before .before .before in
-    let at-loop = after-take-time .before .before .before .before .before in
-    after-take-time .take-time .kept .0 ∙ at-loop .loop .inv .4
+    let after-is-kept = c .before .before .before in
+    ups-kept after-is-kept
 
 same-length-2 : tie.Need-same-length-2 Inv-loop μ-loop
 same-length-2 c =
-    let after-take-time2 = c .before .before .before .before .before .before in
-    let at-loop = after-take-time2 .before .before .before .before .before .before .before .before .before in
-    after-take-time2 .take-time2 .kept .0 ∙ at-loop .loop .inv .5
+    let after-is-kept = c .before .before .before in
+    downs-kept after-is-kept
 
 same-length-3 : tie.Need-same-length-3 Inv-loop μ-loop
 same-length-3 c =
-    let else1 = c .before .before .before .before .before .before .before .before .before .before .before .before in
-    let at-loop = else1 .before .before .before in
-    at-loop .loop .inv .3
+    let after-is-kept = c .before .before .before in
+    at-loop after-is-kept .loop .inv .pairs-kept
 
 returns : tie.Need-returns Inv-loop μ-loop
 returns c =
     let then2 = c .before .before in
     let after-is-kept = then2 .before in
-    let after-take-time2 = after-is-kept .before .before .before in
-    let after-take-time = after-take-time2 .before .before .before .before in
-    let in-loop = after-take-time .before .before .before .before in
-    let at-loop = in-loop .before in
-    let start = at-loop .before .before .before .before .before .before in
-    λ w g. append-full g (at-loop .loop .h) (after-take-time .take-time .result .0) (after-take-time2 .take-time2 .result .0)
-    (at-loop .loop .k) (at-loop .loop .ups) (at-loop .loop .downs) _ _ (at-loop .loop .pairs) _ (at-loop .loop .inv .0)
-    (in-loop .loop-test .taken) (in-kept _ _ _ _ (in-loop .loop-test .taken) (start .pre .3) (at-loop .loop .inv .4))
-    (in-kept _ _ _ _ (in-loop .loop-test .taken) (start .pre .4) (at-loop .loop .inv .5)) (after-take-time .take-time .ensures .0)
-    (after-take-time .take-time .ensures .1) (after-take-time2 .take-time2 .ensures .0) (after-take-time2 .take-time2 .ensures .1)
-    (after-is-kept .is-kept .ensures) (at-loop .loop .inv .6 w g) (then2 .if2 .taken)
-    (room-out _ _ _ (c .before .words-of .ensures) (c .if3 .taken))
+    λ w g. append-full g (taken after-is-kept) (at-loop after-is-kept .loop .inv .appending w g) (then2 .if2 .taken)
+    (room-out _ (c .before .words-of .ensures) (c .if3 .taken))
 
 put-record-requires : tie.Need-put-record-requires Inv-loop μ-loop
-put-record-requires c κs =
-    let after-words-of = c .before .before in
-    room-in _ _ _ (after-words-of .words-of .ensures) (c .before .if3 .left)
+put-record-requires c κs = room (c .before)
 
 add-k : tie.Need-add-k Inv-loop μ-loop
 add-k c =
-    let after-take-time2 = c .before .before .before .before .before .before .before .before .before .before in
-    let at-loop = after-take-time2 .before .before .before .before .before .before .before .before .before in
-    let start = at-loop .before .before .before .before .before .before in
-    record { fits = count-fits _ _ (at-loop .loop .inv .2) (start .pre .6) }
-
-add-words-of : tie.Need-add-words-of Inv-loop μ-loop
-add-words-of c =
-    let in-loop = c .before .before .before .before .before .before .before .before .before .before .before .before in
-    let at-loop = in-loop .before in
-    let start = at-loop .before .before .before .before .before .before in
-    record { fits = count-fits _ _ (at-loop .loop .inv .2) (start .pre .6) }
+    let after-is-kept = c .before .before .before .before .before .before .before in
+    record { fits = count-high (in-loop after-is-kept) }
 
 loop-less-2 : tie.Need-loop-less-2 Inv-loop μ-loop
 loop-less-2 c =
-    let after-take-time2 = c .before .before .before .before .before .before .before .before .before .before in
-    let in-loop = after-take-time2 .before .before .before .before .before .before .before .before in
-    less _ _ (in-loop .loop-test .taken)
+    let after-is-kept = c .before .before .before .before .before .before .before in
+    less (in-loop after-is-kept .loop-test .taken)
 
 loop-again-2 : tie.Need-loop-again-2 Inv-loop μ-loop
 loop-again-2 c =
     let after-put-record = c .before .before in
     let else3 = after-put-record .before .before in
-    let after-words-of = else3 .before in
-    let then2 = after-words-of .before in
+    let then2 = else3 .before .before in
     let after-is-kept = then2 .before in
-    let after-take-time2 = after-is-kept .before .before .before in
-    let after-take-time = after-take-time2 .before .before .before .before in
-    let in-loop = after-take-time .before .before .before .before in
-    let at-loop = in-loop .before in
-    let start = at-loop .before .before .before .before .before .before in (
-      lt-more _ _ (at-loop .loop .inv .0),
-      lt-next _ _ (in-loop .loop-test .taken),
-      room-next _ _ _ (room-in _ _ _ (after-words-of .words-of .ensures) (else3 .if3 .left)) (at-loop .loop .inv .3),
-      after-put-record .put-record .kept .0 ∙ at-loop .loop .inv .3,
-      after-take-time .take-time .kept .0 ∙ at-loop .loop .inv .4,
-      after-take-time2 .take-time2 .kept .0 ∙ at-loop .loop .inv .5,
-      λ w g. append-put g (at-loop .loop .h) (after-take-time .take-time .result .0) (after-take-time2 .take-time2 .result .0)
-          (at-loop .loop .k) (at-loop .loop .ups) (at-loop .loop .downs) _ _ (at-loop .loop .pairs) _ (at-loop .loop .inv .0)
-          (in-loop .loop-test .taken) (in-kept _ _ _ _ (in-loop .loop-test .taken) (start .pre .3) (at-loop .loop .inv .4))
-          (in-kept _ _ _ _ (in-loop .loop-test .taken) (start .pre .4) (at-loop .loop .inv .5)) (after-take-time .take-time .ensures .0)
-          (after-take-time .take-time .ensures .1) (after-take-time2 .take-time2 .ensures .0) (after-take-time2 .take-time2 .ensures .1)
-          (after-is-kept .is-kept .ensures) (at-loop .loop .inv .6 w g) (then2 .if2 .taken) _ _ (after-put-record .put-record .ensures)
-          (after-put-record .put-record .kept .0) (room-in _ _ _ (after-words-of .words-of .ensures) (else3 .if3 .left)),
-    )
+    let inv = at-loop after-is-kept .loop .inv in
+    let pairs-kept = after-put-record .put-record .kept .0 in record {
+      above = lt-more (inv .above);
+      within = lt-next (in-loop after-is-kept .loop-test .taken);
+      records-in = room-next _ (room else3) (inv .pairs-kept);
+      ups-kept = ups-kept after-is-kept;
+      downs-kept = downs-kept after-is-kept;
+      pairs-kept = pairs-kept ∙ inv .pairs-kept;
+      appending = λ w g. append-put g (taken after-is-kept) (inv .appending w g) (then2 .if2 .taken)
+          (after-put-record .put-record .ensures) pairs-kept (room else3);
+    }
 
 loop-less-3 : tie.Need-loop-less-3 Inv-loop μ-loop
-loop-less-3 c =
-    let in-loop = c .before .before .before .before .before .before .before .before .before .before .before .before in
-    less _ _ (in-loop .loop-test .taken)
+loop-less-3 c = less (in-loop (c .before) .loop-test .taken)
 
 loop-again-3 : tie.Need-loop-again-3 Inv-loop μ-loop
 loop-again-3 c =
-    let after-take-time2 = c .before .before .before .before in
-    let after-take-time = after-take-time2 .before .before .before .before in
-    let in-loop = after-take-time .before .before .before .before in
-    let at-loop = in-loop .before in
-    let start = at-loop .before .before .before .before .before .before in (
-      lt-more _ _ (at-loop .loop .inv .0),
-      lt-next _ _ (in-loop .loop-test .taken),
-      at-loop .loop .inv .2,
-      at-loop .loop .inv .3,
-      after-take-time .take-time .kept .0 ∙ at-loop .loop .inv .4,
-      after-take-time2 .take-time2 .kept .0 ∙ at-loop .loop .inv .5,
-      λ w g. append-skip g (at-loop .loop .h) (after-take-time .take-time .result .0) (after-take-time2 .take-time2 .result .0)
-          (at-loop .loop .k) (at-loop .loop .ups) (at-loop .loop .downs) _ _ (at-loop .loop .pairs) _ (at-loop .loop .inv .0)
-          (in-loop .loop-test .taken) (in-kept _ _ _ _ (in-loop .loop-test .taken) (start .pre .3) (at-loop .loop .inv .4))
-          (in-kept _ _ _ _ (in-loop .loop-test .taken) (start .pre .4) (at-loop .loop .inv .5)) (after-take-time .take-time .ensures .0)
-          (after-take-time .take-time .ensures .1) (after-take-time2 .take-time2 .ensures .0) (after-take-time2 .take-time2 .ensures .1)
-          (c .before .is-kept .ensures) (at-loop .loop .inv .6 w g) (c .if2 .left),
-    )
+    let after-is-kept = c .before in
+    let inv = at-loop after-is-kept .loop .inv in record {
+      above = lt-more (inv .above);
+      within = lt-next (in-loop after-is-kept .loop-test .taken);
+      records-in = inv .records-in;
+      ups-kept = ups-kept after-is-kept;
+      downs-kept = downs-kept after-is-kept;
+      pairs-kept = inv .pairs-kept;
+      appending = λ w g. append-skip g (taken after-is-kept) (inv .appending w g) (c .if2 .left);
+    }
 
 same-length-4 : tie.Need-same-length-4 Inv-loop μ-loop
-same-length-4 c = c .before .loop .inv .4
+same-length-4 c = c .before .loop .inv .ups-kept
 
 same-length-5 : tie.Need-same-length-5 Inv-loop μ-loop
-same-length-5 c = c .before .loop .inv .5
+same-length-5 c = c .before .loop .inv .downs-kept
 
 same-length-6 : tie.Need-same-length-6 Inv-loop μ-loop
-same-length-6 c = c .before .loop .inv .3
+same-length-6 c = c .before .loop .inv .pairs-kept
 
 returns-2 : tie.Need-returns-2 Inv-loop μ-loop
 returns-2 c =
-    let at-loop = c .before in
-    λ w g. append-end g (at-loop .loop .h) (at-loop .loop .k) _ _ _ (omega (arith, at-loop .loop .inv .1, c .loop-test .left))
-    (at-loop .loop .inv .4) (at-loop .loop .inv .5) (at-loop .loop .inv .6 w g)
+    let inv = c .before .loop .inv in
+    λ w g. append-end g (inv .within) (c .loop-test .left) (inv .ups-kept) (inv .downs-kept) (inv .appending w g)
 
 pub append-row-spec : {M : Type 1} → statement M
 append-row-spec =

@@ -1,4 +1,4 @@
--- `scenarios::compare` is safe and ends: each turn leaves fewer. Assumes nothing.
+-- It is safe and ends: each turn leaves fewer (`compare_some`).
 use borrow.Author.Needs.{needs}
 use Rattle.program_scenarios.proofs.compare.Statement.{statement}
 use Rattle.program_scenarios.proofs.compare.Tie as tie

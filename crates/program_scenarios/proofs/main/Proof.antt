@@ -1,4 +1,4 @@
--- `scenarios::main` is safe and ends. Assumes nothing.
+-- It is safe and ends: i stays below the limit of the arguments, and grows.
 use Prim.Native.Nat.{_-_, _≤_}
 use borrow.Author.Needs.{needs}
 use Rattle.program_scenarios.proofs.main.Statement.{statement}

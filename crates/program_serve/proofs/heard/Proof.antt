@@ -1,4 +1,4 @@
--- `serve::heard`: the area has more bytes than any readable line. Assumes nothing.
+-- The area has more bytes than any readable line, so what `kept_line` says of it holds.
 use native.Mathlib.Omega.{arith}
 use borrow.Author.Needs.{needs}
 use Rattle.program_serve.proofs.heard.Statement.{statement}

@@ -1,32 +1,70 @@
--- `serve::serve`: the card is opened, and what it leaves is what the lines are answered from. Assumes nothing.
+-- The card is opened, and what that leaves is what the lines are answered from: a card that opens is attended to, one that does not is
+-- refused (`card-runs`).
 use mathlib.Core.Path.{_∙_}
-use Rattle.model.specs.Areas.{areasOf}
-use Rattle.unit_questions.specs.Lending.{lentOf}
-use Rattle.program_serve.specs.Serving.{heldIn}
+use Rattle.model.specs.Areas.{Areas, areasOf}
 use Rattle.program_serve.proofs.Cards.{card-runs}
 use Rattle.program_serve.proofs.serve.Statement.{statement}
 use Rattle.program_serve.proofs.serve.Tie as tie
 
+-- ---- the card, and then the lines
+
+abbrev after-answer-lines : tie.After-slice-known14 → tie.After-answer-lines
+after-answer-lines c = c .before .before .before .before .before .before .before .before
+
+abbrev after-begin : tie.After-answer-lines → tie.After-begin
+after-begin c = c .before .before .before .before .before .before .before .before .before .before
+
+abbrev after-open-card : tie.After-answer-lines → tie.After-open-card
+after-open-card c = after-begin c .before .before .before .before .before .before .before .before .before .before .before
+
+abbrev start : tie.After-open-card → tie.Start
+start c = c .before .before .before .before .before .before .before .before .before .before .before .before .before .before
+
+abbrev lent : tie.Start → Areas
+lent c =
+    let a = c .args in
+    areasOf (a .ranks .now) (a .pairs .now) (a .live .now) (a .down .now) (a .estimates .now) (a .elapsed .now)
+
+-- ---- the areas keep their lengths, first while the card is opened, then while lines are answered
+
+ranks-kept : tie.Need-same-length
+ranks-kept c = let (_, (ranks, _)) = after-open-card (after-answer-lines c) .open-card .kept in ranks
+
+live-kept : tie.Need-same-length-2
+live-kept c =
+    let (_, (_, (_, (first, _)))) = after-open-card (after-answer-lines c) .open-card .kept in
+    let (_, (_, (_, (_, (then, _))))) = after-answer-lines c .answer-lines .kept in
+    then ∙ first
+
+down-kept : tie.Need-same-length-3
+down-kept c =
+    let (_, (_, (_, (_, (first, _))))) = after-open-card (after-answer-lines c) .open-card .kept in
+    let (_, (_, (_, (_, (_, (then, _)))))) = after-answer-lines c .answer-lines .kept in
+    then ∙ first
+
+estimates-kept : tie.Need-same-length-4
+estimates-kept c =
+    let (_, (_, (_, (_, (_, (first, _)))))) = after-open-card (after-answer-lines c) .open-card .kept in
+    let (_, (_, (_, (_, (_, (_, (then, _))))))) = after-answer-lines c .answer-lines .kept in
+    then ∙ first
+
+elapsed-kept : tie.Need-same-length-5
+elapsed-kept c =
+    let (_, (_, (_, (_, (_, (_, (first, _))))))) = after-open-card (after-answer-lines c) .open-card .kept in
+    let (_, (_, (_, (_, (_, (_, (_, (then, _)))))))) = after-answer-lines c .answer-lines .kept in
+    then ∙ first
+
+-- ---- the answer
+
 returns : tie.Need-returns
 returns c =
-    let after-answer-lines = c .before .before .before .before .before .before .before .before in
-    let after-begin = after-answer-lines .before .before .before .before .before .before .before .before .before .before in
-    let after-open-card = after-begin .before .before .before .before .before .before .before .before .before .before .before in
-    let after-slice-known2 = after-open-card .before .before .before .before .before .before .before .before .before .before .before in
-    let start = after-slice-known2 .before .before .before in
-    let w = after-answer-lines .answer-lines in
-    let o = after-open-card .open-card in
-    let args = start .args in
+    let after-answer-lines = after-answer-lines c in
+    let after-open-card = after-open-card after-answer-lines in
+    let opened = after-open-card .open-card .ensures in
+    let (_, (_, (_, (_, (_, (_, (_, (out, _)))))))) = after-open-card .open-card .last in
     λ lends.
-    card-runs (args .file .now) (areasOf (args .ranks .now) (args .pairs .now) (args .live .now) (args .down .now) (args .estimates .now)
-    (args .elapsed .now))
-    (areasOf (o .last .1 .0) (o .last .1 .1 .0) (o .last .1 .1 .1 .0) (o .last .1 .1 .1 .1 .0) (o .last .1 .1 .1 .1 .1 .0)
-    (o .last .1 .1 .1 .1 .1 .1 .0)) lends (o .result) (o .last .1 .1 .1 .1 .1 .1 .1 .0) (lentOf (args .route .now) (args .log .now))
-    (after-begin .begin .result) (after-begin .begin .ensures)
-    (heldIn (w .result) (areasOf (o .last .1 .0) (o .last .1 .1 .0) (w .last .1 .1 .1 .1 .0) (w .last .1 .1 .1 .1 .1 .0)
-    (w .last .1 .1 .1 .1 .1 .1 .0) (w .last .1 .1 .1 .1 .1 .1 .1 .0)) (lentOf (w .last .1 .1 .1 .1 .1 .1 .1 .1 .0)
-    (w .last .1 .1 .1 .1 .1 .1 .1 .1 .1 .0)) (w .last .1 .1 .1 .1 .1 .1 .1 .1 .1 .1 .0))
-    (w .result) (w .ensures) (o .ensures .quiet) (o .ensures .right lends)
+    card-runs (lent (start after-open-card)) lends out (after-begin after-answer-lines .begin .ensures)
+    (after-answer-lines .answer-lines .ensures) (opened .quiet) (opened .right lends)
 
 pub serve-spec : {M : Type 1} → statement M
 serve-spec =
@@ -35,29 +73,9 @@ serve-spec =
     (λ c κs. tt)
     (λ c κs. tt)
     (λ c κs. tt)
-    (λ c.
-    let after-answer-lines = c .before .before .before .before .before .before .before .before in
-    let after-begin = after-answer-lines .before .before .before .before .before .before .before .before .before .before in
-    let after-open-card = after-begin .before .before .before .before .before .before .before .before .before .before .before in
-    after-open-card .open-card .kept .1 .0)
-    (λ c.
-    let after-answer-lines = c .before .before .before .before .before .before .before .before in
-    let after-begin = after-answer-lines .before .before .before .before .before .before .before .before .before .before in
-    let after-open-card = after-begin .before .before .before .before .before .before .before .before .before .before .before in
-    after-answer-lines .answer-lines .kept .1 .1 .1 .1 .0 ∙ after-open-card .open-card .kept .1 .1 .1 .0)
-    (λ c.
-    let after-answer-lines = c .before .before .before .before .before .before .before .before in
-    let after-begin = after-answer-lines .before .before .before .before .before .before .before .before .before .before in
-    let after-open-card = after-begin .before .before .before .before .before .before .before .before .before .before .before in
-    after-answer-lines .answer-lines .kept .1 .1 .1 .1 .1 .0 ∙ after-open-card .open-card .kept .1 .1 .1 .1 .0)
-    (λ c.
-    let after-answer-lines = c .before .before .before .before .before .before .before .before in
-    let after-begin = after-answer-lines .before .before .before .before .before .before .before .before .before .before in
-    let after-open-card = after-begin .before .before .before .before .before .before .before .before .before .before .before in
-    after-answer-lines .answer-lines .kept .1 .1 .1 .1 .1 .1 .0 ∙ after-open-card .open-card .kept .1 .1 .1 .1 .1 .0)
-    (λ c.
-    let after-answer-lines = c .before .before .before .before .before .before .before .before in
-    let after-begin = after-answer-lines .before .before .before .before .before .before .before .before .before .before in
-    let after-open-card = after-begin .before .before .before .before .before .before .before .before .before .before .before in
-    after-answer-lines .answer-lines .kept .1 .1 .1 .1 .1 .1 .1 .0 ∙ after-open-card .open-card .kept .1 .1 .1 .1 .1 .1 .0)
+    ranks-kept
+    live-kept
+    down-kept
+    estimates-kept
+    elapsed-kept
     returns)

@@ -1,4 +1,4 @@
--- `serve::start`: the lent parts have the lengths that the card calls for. Assumes nothing.
+-- The lent parts have the lengths that the card calls for (`part`, `lends`), so the program serves as `serve` says.
 use mathlib.Core.Path.{refl}
 use lib.ListN.{replicate}
 use Rattle.model.specs.Areas.{areasOf}
@@ -10,25 +10,48 @@ use borrow.Author.Needs.{needs}
 use Rattle.program_serve.proofs.start.Statement.{statement}
 use Rattle.program_serve.proofs.start.Tie as tie
 
+-- ---- each part has its length
+
+ranks-part : tie.Need-slice-aggregate-serve
+ranks-part c = part junctionLimit _ (c .before .room-for .ensures .0)
+
+live-part : tie.Need-slice-aggregate-serve-2
+live-part c =
+    let after-room-for = c .before .before .before in
+    part roadLimit _ (after-room-for .room-for .ensures .1)
+
+down-part : tie.Need-slice-aggregate-serve-3
+down-part c =
+    let after-room-for = c .before .before .before .before in
+    part junctionLimit _ (after-room-for .room-for .ensures .0)
+
+estimates-part : tie.Need-slice-aggregate-serve-4
+estimates-part c =
+    let after-room-for = c .before .before .before .before .before in
+    part junctionLimit _ (after-room-for .room-for .ensures .0)
+
+elapsed-part : tie.Need-slice-aggregate-serve-5
+elapsed-part c =
+    let after-room-for = c .before .before .before .before .before .before in
+    part junctionLimit _ (after-room-for .room-for .ensures .0)
+
+-- ---- the answer
+
 returns : tie.Need-returns
 returns c =
     let after-serve = c .before .before .before .before .before in
     let after-room-for = after-serve .before .before .before .before .before .before .before .before .before .before in
     let start = after-room-for .before .before in
-    let w = after-serve .serve in
+    let served = after-serve .serve in
     let size = after-room-for .room-for in
-    let file = start .args .file .now in
-    let lent = lends file (size .result .n) (size .result .m) (size .ensures .0) (size .ensures .1) in
-    record {
+    let lent = lends (start .args .file .now) (size .ensures .0) (size .ensures .1) in
+    let (_, (ranks, (pairs, (live, (down, (estimates, (elapsed, (route, (log, (out, _)))))))))) = served .last in record {
       areas = lentAreas (size .result .n) (size .result .m);
       lends = lent;
       lent = lentOf (replicate junctionLimit 0) (replicate junctionLimit 0);
-      left = heldIn (w .result) (areasOf (w .last .1 .0) (w .last .1 .1 .0) (w .last .1 .1 .1 .0) (w .last .1 .1 .1 .1 .0)
-          (w .last .1 .1 .1 .1 .1 .0) (w .last .1 .1 .1 .1 .1 .1 .0))
-          (lentOf (w .last .1 .1 .1 .1 .1 .1 .1 .0) (w .last .1 .1 .1 .1 .1 .1 .1 .1 .0))
-          (w .last .1 .1 .1 .1 .1 .1 .1 .1 .1 .0);
+      left = heldIn (served .result) (areasOf ranks pairs live down estimates elapsed) (lentOf route log) out;
       header = refl;
-      runs = w .ensures lent;
+      runs = served .ensures lent;
     }
 
 pub start-spec : {M : Type 1} → statement M
@@ -37,22 +60,14 @@ start-spec =
     (tie.spec
     (λ c κs. search needs)
     (λ c. search needs)
-    (λ c. part junctionLimit _ _ (c .before .room-for .ensures .0))
+    ranks-part
     (λ c. search needs)
-    (λ c.
-    let after-room-for = c .before .before .before in
-    part roadLimit _ _ (after-room-for .room-for .ensures .1))
+    live-part
     (λ c. search needs)
-    (λ c.
-    let after-room-for = c .before .before .before .before in
-    part junctionLimit _ _ (after-room-for .room-for .ensures .0))
+    down-part
     (λ c. search needs)
-    (λ c.
-    let after-room-for = c .before .before .before .before .before in
-    part junctionLimit _ _ (after-room-for .room-for .ensures .0))
+    estimates-part
     (λ c. search needs)
-    (λ c.
-    let after-room-for = c .before .before .before .before .before .before in
-    part junctionLimit _ _ (after-room-for .room-for .ensures .0))
+    elapsed-part
     (λ c κs. search needs)
     returns)

@@ -1,4 +1,4 @@
--- `serve::text_of`: an area that has fewer bytes is its own beginning. Assumes nothing.
+-- The first k bytes are the part up to k (`first-bytes`); an area that has fewer is its own beginning (`whole-area`).
 use Rattle.program_serve.proofs.Talks.{first-bytes, whole-area}
 use borrow.Author.Needs.{needs}
 use Rattle.program_serve.proofs.text_of.Statement.{statement}

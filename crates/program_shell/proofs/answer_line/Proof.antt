@@ -1,60 +1,80 @@
--- An unreadable line is answered by `no 0`, with nothing altered; a readable one by what its call answers, and the call leaves what it
--- left. Each text fits in `out`. Assumes nothing.
+-- An unreadable line is answered by `no 0`, with nothing altered (`unreadable-way`); a readable one by what its call answers, and the call
+-- leaves what it left (`call-way`). Each text fits in `out`.
 use mathlib.Core.Path.{_∙_}
 use Rattle.model.specs.Areas.{areasOf}
+use Rattle.model.specs.State.{Lent, State}
 use Rattle.model.specs.Contracts.{before}
 use Rattle.unit_questions.specs.Lending.{lentOf}
-use Rattle.unit_answers.specs.Shape.{answerIn}
 use Rattle.unit.specs.Shape.{headerIn}
-use Rattle.program_shell.specs.Limits.{junctionLimit, outRoom}
-use Rattle.program_shell.proofs.Lines.{call-way, counted, unreadable-way}
+use Rattle.program_shell.specs.Answering.{Roomy}
 use Rattle.program_shell.proofs.Bounds.{at-most, room}
+use Rattle.program_shell.proofs.Lines.{call-way, counted, unreadable-way}
 use borrow.Author.Needs.{needs}
 use Rattle.program_shell.proofs.answer_line.Statement.{statement}
 use Rattle.program_shell.proofs.answer_line.Tie as tie
+
+-- ---- what is at hand when the line is read
+
+abbrev start : tie.After-read-line → tie.Start
+start c = c .before .before .before .before .before .before .before .before
+
+abbrev state : tie.Start → State
+state c =
+    let a = c .args in
+    let areas = areasOf (a .ranks .now) (a .pairs .now) (a .live .now) (a .down .now) (a .estimates .now) (a .elapsed .now) in
+    before (headerIn (a .header)) areas
+
+abbrev lent : tie.Start → Lent
+lent c = lentOf (c .args .route .now) (c .args .log .now)
+
+-- ---- the call of a readable line
+
+abbrev after-call : tie.After-write-answer → tie.After-call
+after-call c = c .before .before .before .before .before .before .before .before .before .before .before .before .before
+
+abbrev after-c : tie.After-call → tie.After-c
+after-c c = c .before .before .before .before .before .before .before .before .before
+
+roomy : (c : tie.After-call) → Roomy (lent (start (after-c c .before .before)))
+roomy c = (c .before .before .call-arg6 .given .0 .1, c .before .call-arg7 .given .0 .1)
+
+live-kept : tie.Need-same-length
+live-kept c = let (_, (_, (_, (_, (live, _))))) = after-call c .call .kept in live
+
+down-kept : tie.Need-same-length-2
+down-kept c = let (_, (_, (_, (_, (_, (down, _)))))) = after-call c .call .kept in down
+
+estimates-kept : tie.Need-same-length-3
+estimates-kept c = let (_, (_, (_, (_, (_, (_, (estimates, _))))))) = after-call c .call .kept in estimates
+
+elapsed-kept : tie.Need-same-length-4
+elapsed-kept c = let (_, (_, (_, (_, (_, (_, (_, (elapsed, _)))))))) = after-call c .call .kept in elapsed
+
+-- ---- the answers
 
 returns : tie.Need-returns
 returns c =
     let after-enum-told = c .before .before in
     let after-read-line = after-enum-told .before .before in
-    let start = after-read-line .before .before .before .before .before .before .before .before in
-    let a = start .args in
-    let line = after-read-line .read-line in
-    let w = c .write-unreadable in
-    let areas = areasOf (a .ranks .now) (a .pairs .now) (a .live .now) (a .down .now) (a .estimates .now) (a .elapsed .now) in (
-      unreadable-way (a .card .now) (a .line .now) (before (headerIn (a .header)) areas) (lentOf (a .route .now) (a .log .now))
-          (line .result) (line .ensures) (a .out .now) (w .last .0) (w .result)
-          (room outRoom (a .out .now) (c .before .write-unreadable-arg .given .0 .1)) (after-enum-told .enum-told .given .1) (w .ensures),
-      counted _ (w .result) (a .out .now) (w .last .0) (w .ensures) (w .kept .0),
+    let start = start after-read-line in
+    let written = c .write-unreadable in (
+      unreadable-way (start .args .line .now) (after-read-line .read-line .ensures) (room (c .before .write-unreadable-arg .given .0 .1))
+          (start .args .card .now) (state start) (lent start) (after-enum-told .enum-told .given .1) (written .ensures),
+      counted (written .ensures) (written .kept .0),
     )
 
 returns-2 : tie.Need-returns-2
 returns-2 c =
-    let after-live = c .before .before .before .before .before .before .before .before .before .before .before .before in
-    let after-call = after-live .before in
-    let after-call-arg7 = after-call .before in
-    let after-call-arg6 = after-call-arg7 .before in
-    let after-c = after-call-arg6 .before .before .before .before .before .before .before in
+    let after-call = after-call c in
+    let after-c = after-c after-call in
     let after-read-line = after-c .before .before in
-    let start = after-read-line .before .before .before .before .before .before .before .before in
-    let a = start .args in
-    let line = after-read-line .read-line in
-    let g = after-call .call in
-    let w = c .write-answer in
-    let entry = areasOf (a .ranks .now) (a .pairs .now) (a .live .now) (a .down .now) (a .estimates .now) (a .elapsed .now) in
-    let exit = areasOf (a .ranks .now) (a .pairs .now) (g .last .1 .1 .1 .1 .0) (g .last .1 .1 .1 .1 .1 .0) (g .last .1 .1 .1 .1 .1 .1 .0)
-    (g .last .1 .1 .1 .1 .1 .1 .1 .0) in
-    let route = g .last .1 .1 .1 .1 .1 .1 .1 .1 .0 in
-    let routes = after-call-arg6 .call-arg6 .given .0 .1 in (
-      call-way (a .card .now) (a .line .now) (before (headerIn (a .header)) entry) (lentOf (a .route .now) (a .log .now))
-          (line .result) (line .ensures) (a .out .now) (w .last .1 .1 .0) (w .result)
-          (room outRoom (a .out .now) (c .before .write-answer-arg3 .given .0 .1))
-          _ (answerIn (g .result .answer)) (before (headerIn (g .result .header)) exit)
-          (lentOf route (g .last .1 .1 .1 .1 .1 .1 .1 .1 .1 .0))
-          (routes, after-call-arg7 .call-arg7 .given .0 .1)
-          (at-most junctionLimit route (g .kept .1 .1 .1 .1 .1 .1 .1 .1 .0 ∙ routes))
-          (after-c .c .given .1) (g .ensures) (w .ensures),
-      counted _ (w .result) (a .out .now) (w .last .1 .1 .0) (w .ensures) (w .kept .1 .1 .0),
+    let start = start after-read-line in
+    let roomy = roomy after-call in
+    let (_, (_, (_, (_, (_, (_, (_, (_, (route-kept, _))))))))) = after-call .call .kept in
+    let (_, (_, (out-kept, _))) = c .write-answer .kept in (
+      call-way (start .args .line .now) (after-read-line .read-line .ensures) (room (c .before .write-answer-arg3 .given .0 .1))
+          (after-c .c .given .1) roomy (at-most (route-kept ∙ roomy .0)) (after-call .call .ensures) (c .write-answer .ensures),
+      counted (c .write-answer .ensures) out-kept,
     )
 
 pub answer-line-spec : {M : Type 1} → statement M
@@ -68,20 +88,8 @@ answer-line-spec =
     (λ c κs. tt)
     (λ c κs. tt)
     returns
-    (λ c.
-    let after-live = c .before .before .before .before .before .before .before .before .before .before .before .before in
-    let after-call = after-live .before in
-    after-call .call .kept .1 .1 .1 .1 .0)
-    (λ c.
-    let after-live = c .before .before .before .before .before .before .before .before .before .before .before .before in
-    let after-call = after-live .before in
-    after-call .call .kept .1 .1 .1 .1 .1 .0)
-    (λ c.
-    let after-live = c .before .before .before .before .before .before .before .before .before .before .before .before in
-    let after-call = after-live .before in
-    after-call .call .kept .1 .1 .1 .1 .1 .1 .0)
-    (λ c.
-    let after-live = c .before .before .before .before .before .before .before .before .before .before .before .before in
-    let after-call = after-live .before in
-    after-call .call .kept .1 .1 .1 .1 .1 .1 .1 .0)
+    live-kept
+    down-kept
+    estimates-kept
+    elapsed-kept
     returns-2)

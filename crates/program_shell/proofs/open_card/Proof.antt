@@ -1,51 +1,62 @@
--- What preparing answers and leaves is judged, for any areas; with those of `Lends` it is what document 01 says. Assumes nothing.
+-- What preparing answers and leaves is judged, for any areas (`prepared-way`); with those of `Lends` that is what document 01 says
+-- (`prepared-opens`).
 use mathlib.Core.Path.{_∙_}
-use Rattle.program_shell.proofs.Cards.{prepared-opens, prepared-way}
-use Rattle.model.specs.Areas.{areasOf}
-use Rattle.program_shell.specs.Opening.{openedIn}
-use Rattle.unit.specs.Shape.{answeredIn}
-use Rattle.program_shell.specs.Limits.{outRoom}
+use Rattle.model.specs.Areas.{Areas, areasOf}
 use Rattle.program_shell.proofs.Bounds.{room}
+use Rattle.program_shell.proofs.Cards.{prepared-opens, prepared-way}
 use Rattle.program_shell.proofs.open_card.Statement.{statement}
 use Rattle.program_shell.proofs.open_card.Tie as tie
 
+-- ---- the preparing, and the areas that it was lent
+
+abbrev after-prepare : tie.After-judge → tie.After-prepare
+after-prepare c = c .before .before .before .before .before .before .before .before .before .before .before .before
+
+abbrev start : tie.After-prepare → tie.Start
+start c = c .before .before .before .before .before .before .before .before .before .before .before .before .before
+
+abbrev lent : tie.Start → Areas
+lent c =
+    let a = c .args in
+    areasOf (a .ranks .now) (a .pairs .now) (a .live .now) (a .down .now) (a .estimates .now) (a .elapsed .now)
+
+-- ---- the answers
+
+judge-requires : tie.Need-judge-requires
+judge-requires c κs = room (c .judge-arg .given .0 .1)
+
+ranks-kept : tie.Need-same-length
+ranks-kept c = let (_, (ranks, _)) = after-prepare c .prepare .kept in ranks
+
+live-kept : tie.Need-same-length-2
+live-kept c = let (_, (_, (_, (live, _)))) = after-prepare c .prepare .kept in live
+
+down-kept : tie.Need-same-length-3
+down-kept c = let (_, (_, (_, (_, (down, _))))) = after-prepare c .prepare .kept in down
+
+estimates-kept : tie.Need-same-length-4
+estimates-kept c = let (_, (_, (_, (_, (_, (estimates, _)))))) = after-prepare c .prepare .kept in estimates
+
+elapsed-kept : tie.Need-same-length-5
+elapsed-kept c = let (_, (_, (_, (_, (_, (_, (elapsed, _))))))) = after-prepare c .prepare .kept in elapsed
+
 returns : tie.Need-returns
 returns c =
-    let after-prepare = c .before .before .before .before .before .before .before .before .before .before .before .before in
-    let after-slice-known = after-prepare .before .before .before .before .before .before .before .before .before .before .before in
-    let start = after-slice-known .before .before in
-    let a = start .args in
-    let p = after-prepare .prepare in
-    let j = c .judge in
-    let lent = areasOf (a .ranks .now) (a .pairs .now) (a .live .now) (a .down .now) (a .estimates .now) (a .elapsed .now) in
-    let is = prepared-way (a .file .now) lent (answeredIn (p .result))
-    (areasOf (p .last .1 .0) (p .last .1 .1 .0) (p .last .1 .1 .1 .0) (p .last .1 .1 .1 .1 .0) (p .last .1 .1 .1 .1 .1 .0)
-    (p .last .1 .1 .1 .1 .1 .1 .0)) (openedIn (j .result) (j .last .1 .1 .0)) (p .ensures) (j .ensures .0) in
-    record { always = is; right = λ l. is ∙ prepared-opens (a .file .now) lent l; quiet = j .ensures .1 }
+    let after-prepare = after-prepare c in
+    let start = start after-prepare in
+    let (opens, quiet) = c .judge .ensures in
+    let is = prepared-way (start .args .file .now) (lent start) (after-prepare .prepare .ensures) opens in
+    record { always = is; right = λ lends. is ∙ prepared-opens (start .args .file .now) (lent start) lends; quiet = quiet }
 
 pub open-card-spec : {M : Type 1} → statement M
 open-card-spec =
     tie.close
     (tie.spec
     (λ c κs. tt)
-    (λ c κs.
-    let after-prepare = c .before .before .before .before .before .before .before .before .before .before .before in
-    let after-slice-known = after-prepare .before .before .before .before .before .before .before .before .before .before .before in
-    let start = after-slice-known .before .before in
-    room outRoom (start .args .out .now) (c .judge-arg .given .0 .1))
-    (λ c.
-    let after-prepare = c .before .before .before .before .before .before .before .before .before .before .before .before in
-    after-prepare .prepare .kept .1 .0)
-    (λ c.
-    let after-prepare = c .before .before .before .before .before .before .before .before .before .before .before .before in
-    after-prepare .prepare .kept .1 .1 .1 .0)
-    (λ c.
-    let after-prepare = c .before .before .before .before .before .before .before .before .before .before .before .before in
-    after-prepare .prepare .kept .1 .1 .1 .1 .0)
-    (λ c.
-    let after-prepare = c .before .before .before .before .before .before .before .before .before .before .before .before in
-    after-prepare .prepare .kept .1 .1 .1 .1 .1 .0)
-    (λ c.
-    let after-prepare = c .before .before .before .before .before .before .before .before .before .before .before .before in
-    after-prepare .prepare .kept .1 .1 .1 .1 .1 .1 .0)
+    judge-requires
+    ranks-kept
+    live-kept
+    down-kept
+    estimates-kept
+    elapsed-kept
     returns)

@@ -1,4 +1,4 @@
--- Each length is that of the entry that the table of contents has. Assumes nothing.
+-- Each length is counted from the entry that the table of contents has, which `section_at` answers.
 use mathlib.Core.Path.{_∙_, ap}
 use Rattle.model.specs.Layout.{Section, placeSize, roadSize}
 use Rattle.program_shell.specs.Limits.{junctionLimit, roadLimit}

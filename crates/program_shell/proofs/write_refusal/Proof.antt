@@ -1,4 +1,4 @@
--- By 7 the line is `no 0`, else that of the refusal. Assumes nothing.
+-- A refusal by 7 prints `no 0` (`larger-line`), any other its own line (`refused-line`).
 use Rattle.program_shell.proofs.Cards.{larger-line, refused-line}
 use borrow.Author.Needs.{needs}
 use Rattle.program_shell.proofs.write_refusal.Statement.{statement}
@@ -8,13 +8,13 @@ returns : tie.Need-returns
 returns c =
     let after-write-unreadable = c .before .before in
     let then1 = after-write-unreadable .before .before in
-    larger-line _ _ _ _ (then1 .if1 .taken) (after-write-unreadable .write-unreadable .ensures)
+    larger-line _ (then1 .if1 .taken) (after-write-unreadable .write-unreadable .ensures)
 
 returns-2 : tie.Need-returns-2
 returns-2 c =
     let after-write-answer = c .before .before in
     let else1 = after-write-answer .before .before .before in
-    refused-line _ _ _ _ (else1 .if1 .left) (after-write-answer .write-answer .ensures)
+    refused-line _ (else1 .if1 .left) (after-write-answer .write-answer .ensures)
 
 pub write-refusal-spec : {M : Type 1} → statement M
 write-refusal-spec =

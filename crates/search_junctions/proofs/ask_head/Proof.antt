@@ -1,11 +1,37 @@
 -- A closed road asks no one, and a head that is no junction does not occur in a map; else the head's estimate is known, or it is asked
--- (head-closed, head-far, head-known, head-open).
+-- (`head-closed`, `head-far`, `head-known`, `head-open`).
 use native.Mathlib.Omega.{arith}
 use mathlib.Core.Path.{_∙_, sym}
 use borrow.Author.Needs.{needs}
+use Rattle.search_junctions.proofs.Opens.{OpenRoad}
 use Rattle.search_junctions.proofs.Heads.{head-closed, head-far, head-known, head-open, known-word}
 use Rattle.search_junctions.proofs.ask_head.Statement.{statement}
 use Rattle.search_junctions.proofs.ask_head.Tie as tie
+
+-- ---- the road, once its words are read
+
+abbrev start : tie.After-cost-of → tie.Start
+start c = c .before .before .before .before .before .before .before .before
+
+abbrev after-head-of : tie.Else2 → tie.After-head-of
+after-head-of c = c .before .before .before
+
+abbrev after-cost-of : tie.Else2 → tie.After-cost-of
+after-cost-of c = after-head-of c .before .before .before
+
+open-road : (c : tie.Else2) → let args = start (after-cost-of c) .args in
+    OpenRoad (args .sizes) (args .roads .now) (args .live .now) (args .i) (after-cost-of c .cost-of .result .0)
+    (after-head-of c .head-of .result .0)
+open-road c =
+    let else1 = after-head-of c .before in record {
+      road-in = start (after-cost-of c) .pre .0;
+      time-is = after-cost-of c .cost-of .ensures;
+      open-is = sym (else1 .before .is-closed .ensures) ∙ else1 .if1 .left;
+      head-is = after-head-of c .head-of .ensures;
+      head-in = omega (arith, c .if2 .left);
+    }
+
+-- ---- the answers
 
 cost-of-requires : tie.Need-cost-of-requires
 cost-of-requires c κs =
@@ -15,59 +41,40 @@ cost-of-requires c κs =
 returns : tie.Need-returns
 returns c =
     let after-cost-of = c .before .before in
-    let start = after-cost-of .before .before .before .before .before .before .before .before in
-    head-closed _ _ (start .pre .0) _ (after-cost-of .cost-of .ensures) _ (sym (c .before .is-closed .ensures) ∙ c .if1 .taken)
-
-head-of-requires : tie.Need-head-of-requires
-head-of-requires c κs = search needs
+    head-closed (after-cost-of .cost-of .ensures) (sym (c .before .is-closed .ensures) ∙ c .if1 .taken)
 
 returns-2 : tie.Need-returns-2
 returns-2 c =
     let after-head-of = c .before .before .before in
     let after-cost-of = after-head-of .before .before .before in
-    let start = after-cost-of .before .before .before .before .before .before .before .before in
-    head-far _ _ (start .pre .0) _ (after-cost-of .cost-of .ensures) _ (after-head-of .head-of .ensures) _ (c .if2 .taken)
+    head-far (start after-cost-of .pre .0) (after-head-of .head-of .ensures) (c .if2 .taken)
 
 returns-3 : tie.Need-returns-3
 returns-3 c =
-    let after-of-word = c .before .before in
+    let after-is-unasked = c .before in
+    let after-of-word = after-is-unasked .before in
     let else2 = after-of-word .before .before .before in
-    let after-head-of = else2 .before .before .before in
-    let else1 = after-head-of .before in
-    let after-is-closed = else1 .before in
-    let after-cost-of = after-is-closed .before in
-    let start = after-cost-of .before .before .before .before .before .before .before .before in
-    head-known _ _ (start .pre .0) _ (after-cost-of .cost-of .ensures) _ (after-head-of .head-of .ensures) _
-    (sym (after-is-closed .is-closed .ensures) ∙ else1 .if1 .left) (omega (arith, else2 .if2 .left))
-    (known-word (after-of-word .of-word .ensures) (c .before .is-unasked .ensures) (c .if3 .taken))
+    head-known (open-road else2) (known-word (after-of-word .of-word .ensures) (after-is-unasked .is-unasked .ensures) (c .if3 .taken))
 
 estimate-requires : tie.Need-estimate-requires
 estimate-requires c κs =
     let else2 = c .before .before .before .before .before .before in
-    let after-cost-of = else2 .before .before .before .before .before .before in
-    let start = after-cost-of .before .before .before .before .before .before .before .before in
-    let lent = start .pre .1 in (
-      omega (arith, else2 .if2 .left),
-      lent .over .n-high,
-      lent .over .order-is,
-      lent .over .ranks-are,
-      lent .over .down-is,
-      lent .over .estimates-are,
-      lent .over .pairs-are,
-      lent .over .count-high,
-    )
+    let lent = start (after-cost-of else2) .pre .1 .over in record {
+      junction-in = open-road else2 .head-in;
+      n-high = lent .n-high;
+      order-is = lent .order-is;
+      ranks-are = lent .ranks-are;
+      down-is = lent .down-is;
+      estimates-are = lent .estimates-are;
+      records-in = lent .pairs-are;
+      count-high = lent .count-high;
+    }
 
 returns-4 : tie.Need-returns-4
 returns-4 c =
     let after-estimate = c .before .before in
     let else2 = after-estimate .before .before .before .before .before .before .before in
-    let after-head-of = else2 .before .before .before in
-    let else1 = after-head-of .before in
-    let after-is-closed = else1 .before in
-    let after-cost-of = after-is-closed .before in
-    let start = after-cost-of .before .before .before .before .before .before .before .before in
-    head-open _ _ (start .pre .0) _ (after-cost-of .cost-of .ensures) _ (after-head-of .head-of .ensures) _ _ _
-    (sym (after-is-closed .is-closed .ensures) ∙ else1 .if1 .left) (omega (arith, else2 .if2 .left)) (after-estimate .estimate .ensures)
+    head-open (open-road else2) (after-estimate .estimate .ensures)
 
 pub ask-head-spec : {M : Type 1} → statement M
 ask-head-spec =
@@ -76,7 +83,7 @@ ask-head-spec =
     cost-of-requires
     (λ c κs. search needs)
     returns
-    head-of-requires
+    (λ c κs. search needs)
     returns-2
     (λ c. search needs)
     (λ c. search needs)

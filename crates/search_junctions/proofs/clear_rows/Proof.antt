@@ -1,4 +1,4 @@
--- The part of the junctions is filled with m, which ends a row.
+-- The part of the junctions is filled with m, which ends a row (`rows-cleared`).
 use borrow.Author.Needs.{needs}
 use mathlib.Core.Path.{sym}
 use lib.Seq.{length-take-le}
@@ -10,7 +10,7 @@ returns : tie.Need-returns
 returns c =
     let after-fill = c .before .before in
     let start = after-fill .before .before .before in
-    rows-cleared _ _ (start .args .rows .now) _ _ (start .pre) (after-fill .fill .ensures)
+    rows-cleared (start .args .rows .now) _ (start .pre) (after-fill .fill .ensures)
 
 slice-aggregate-fill : tie.Need-slice-aggregate-fill
 slice-aggregate-fill c =

@@ -1,25 +1,51 @@
 -- A closed road offers nothing, and a head that is no junction does not occur in a map; else the head takes the offer, its estimate being
--- known (road-closed, road-far, road-open).
+-- known (`road-closed`, `road-far`, `road-open`).
 use native.Mathlib.Omega.{arith}
 use mathlib.Core.Path.{_∙_, sym}
 use borrow.Author.Needs.{needs}
+use Rattle.search_junctions.proofs.Opens.{OpenRoad}
 use Rattle.search_junctions.proofs.Roads.{road-closed, road-far, road-open}
 use Rattle.search_junctions.proofs.relax_road.Statement.{statement}
 use Rattle.search_junctions.proofs.relax_road.Tie as tie
 
+-- ---- the road, once its words are read
+
+abbrev start : tie.After-cost-of → tie.Start
+start c = c .before .before .before .before .before .before .before .before
+
+abbrev after-head-of : tie.Else2 → tie.After-head-of
+after-head-of c = c .before .before .before
+
+abbrev after-cost-of : tie.Else2 → tie.After-cost-of
+after-cost-of c = after-head-of c .before .before .before
+
+open-road : (c : tie.Else2) → let args = start (after-cost-of c) .args in
+    OpenRoad (args .sizes) (args .roads .now) (args .live .now) (args .i) (after-cost-of c .cost-of .result .0)
+    (after-head-of c .head-of .result .0)
+open-road c =
+    let else1 = after-head-of c .before in record {
+      road-in = start (after-cost-of c) .pre .0;
+      time-is = after-cost-of c .cost-of .ensures;
+      open-is = sym (else1 .before .is-closed .ensures) ∙ else1 .if1 .left;
+      head-is = after-head-of c .head-of .ensures;
+      head-in = omega (arith, c .if2 .left);
+    }
+
+-- ---- the answers
+
 returns : tie.Need-returns
 returns c =
-    let after-cost-of = c .before .before in
-    let start = after-cost-of .before .before .before .before .before .before .before .before in
-    road-closed _ _ _ (start .pre .0) _ (after-cost-of .cost-of .ensures) _ (start .pre .2)
-    (sym (c .before .is-closed .ensures) ∙ c .if1 .taken)
+    let after-is-closed = c .before in
+    let after-cost-of = after-is-closed .before in
+    let (road-in, _, room) = start after-cost-of .pre in
+    road-closed road-in (after-cost-of .cost-of .ensures) (sym (after-is-closed .is-closed .ensures) ∙ c .if1 .taken) room
 
 returns-2 : tie.Need-returns-2
 returns-2 c =
     let after-head-of = c .before .before .before in
     let after-cost-of = after-head-of .before .before .before in
-    let start = after-cost-of .before .before .before .before .before .before .before .before in
-    road-far _ _ _ (start .pre .0) _ (after-cost-of .cost-of .ensures) _ (after-head-of .head-of .ensures) _ (start .pre .2) (c .if2 .taken)
+    let (road-in, _, room) = start after-cost-of .pre in
+    road-far road-in (after-head-of .head-of .ensures) (c .if2 .taken) room
 
 returns-3 : tie.Need-returns-3
 returns-3 c =
@@ -27,14 +53,8 @@ returns-3 c =
     let after-or-sum = after-take .before .before .before .before .before in
     let after-of-word = after-or-sum .before in
     let else2 = after-of-word .before .before .before in
-    let after-head-of = else2 .before .before .before in
-    let else1 = after-head-of .before in
-    let after-is-closed = else1 .before in
-    let after-cost-of = after-is-closed .before in
-    let start = after-cost-of .before .before .before .before .before .before .before .before in
-    road-open _ _ _ (start .pre .0) _ (after-cost-of .cost-of .ensures) _ (after-head-of .head-of .ensures) _ _ _ _ (start .pre .2)
-    (sym (after-is-closed .is-closed .ensures) ∙ else1 .if1 .left) (omega (arith, else2 .if2 .left)) (after-of-word .of-word .ensures)
-    (after-or-sum .or-sum .ensures) (after-take .take .ensures)
+    let (_, _, room) = start (after-cost-of else2) .pre in
+    road-open (open-road else2) (after-of-word .of-word .ensures) (after-or-sum .or-sum .ensures) room (after-take .take .ensures)
 
 pub relax-road-spec : {M : Type 1} → statement M
 relax-road-spec =

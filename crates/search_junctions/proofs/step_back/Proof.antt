@@ -1,5 +1,5 @@
--- A node without a road, and one whose road has no junction for a tail, stay where they are; else it is the tail (step-none,
--- step-far, step-to).
+-- A node without a road, and one whose road has no junction for a tail, stay where they are; else it is the tail (`step-none`,
+-- `step-far`, `step-to`).
 use native.Mathlib.Omega.{arith}
 use Rattle.search_junctions.proofs.Steps.{step-far, step-none, step-to}
 use borrow.Author.Needs.{needs}
@@ -9,21 +9,20 @@ use Rattle.search_junctions.proofs.step_back.Tie as tie
 returns : tie.Need-returns
 returns c =
     let start = c .before .before .before .before in
-    (step-none (start .args .roads .now) (start .args .vias .now) _ _ _ (c .if1 .taken), search needs)
+    let a = start .args in
+    (step-none (a .roads .now) (a .vias .now) (a .n) (a .v) (c .if1 .taken), search needs)
 
 returns-2 : tie.Need-returns-2
 returns-2 c =
-    let start = c .before .before .before .before .before .before in (
-      step-far (start .args .roads .now) (start .args .vias .now) _ _ _ _ (omega arith) (c .before .tail-of .ensures) (c .if2 .taken),
-      search needs,
-    )
+    let start = c .before .before .before .before .before .before in
+    let a = start .args in
+    (step-far (a .roads .now) (a .vias .now) (a .n) (a .v) (omega arith) (c .before .tail-of .ensures) (c .if2 .taken), search needs)
 
 returns-3 : tie.Need-returns-3
 returns-3 c =
-    let start = c .before .before .before .before .before .before in (
-      step-to (start .args .roads .now) (start .args .vias .now) _ _ _ _ (omega arith) (c .before .tail-of .ensures) (omega arith),
-      search needs,
-    )
+    let start = c .before .before .before .before .before .before in
+    let a = start .args in
+    (step-to (a .roads .now) (a .vias .now) (a .n) (a .v) (omega arith) (c .before .tail-of .ensures) (omega arith), search needs)
 
 pub step-back-spec : {M : Type 1} → statement M
 step-back-spec =

@@ -2,7 +2,8 @@
 -- (`takes-over`).
 use borrow.Author.Tests.{eqb-false, eqb-true}
 use native.Mathlib.Omega.{arith}
-use mathlib.Core.Path.{_∙_, sym}
+use mathlib.Core.Path.{_∙_, _≡_, sym}
+use Rattle.model.specs.Word.{noneWord}
 use Rattle.search_labels.specs.Labelling.{behind, later, lost, settled, tied}
 use Rattle.search_labels.proofs.Improves.{takes-over}
 use borrow.Author.Needs.{needs}
@@ -15,34 +16,40 @@ returns c = lost (eqb-true _ _ (sym (c .before .is-none .ensures) ∙ c .if1 .ta
 returns-2 : tie.Need-returns-2
 returns-2 c = settled (c .if2 .taken)
 
+-- ---- past these: the node has an estimate, and is not logged
+
+abbrev start : tie.Else2 → tie.Start
+start c = c .before .before .before
+
+estimated : (c : tie.Else2) → start c .args .estimate .0 ≡ noneWord → ⊥
+estimated c =
+    let else1 = c .before in
+    eqb-false _ _ (sym (else1 .before .is-none .ensures) ∙ else1 .if1 .left)
+
+abbrev else2 : tie.After-word2 → tie.Else2
+else2 c = c .before .before .before
+
 returns-3 : tie.Need-returns-3
 returns-3 c =
-    let else2 = c .before .before .before .before .before in
-    let else1 = else2 .before in
-    let after-is-none = else1 .before in
-    takes-over _ _ _ _ _ _ _ (c .key-of .ensures) (eqb-false _ _ (sym (after-is-none .is-none .ensures) ∙ else1 .if1 .left))
-    (else2 .if2 .left) (omega arith)
+    let else2 = else2 (c .before .before) in
+    takes-over (c .key-of .ensures) (estimated else2) (else2 .if2 .left) (omega arith)
 
 returns-4 : tie.Need-returns-4
 returns-4 c =
-    let else2 = c .before .before .before .before .before in
-    let else1 = else2 .before in
-    let after-is-none = else1 .before in
-    later (eqb-false _ _ (sym (after-is-none .is-none .ensures) ∙ else1 .if1 .left)) (else2 .if2 .left) (omega arith)
+    let else2 = else2 (c .before .before) in
+    later (estimated else2) (else2 .if2 .left) (omega arith)
 
 returns-5 : tie.Need-returns-5
 returns-5 c =
-    let else2 = c .before .before .before .before .before .before .before in
-    let else1 = else2 .before in
-    let after-is-none = else1 .before in
-    tied (eqb-false _ _ (sym (after-is-none .is-none .ensures) ∙ else1 .if1 .left)) (else2 .if2 .left) (omega arith) (c .if5 .taken)
+    let after-word2 = c .before .before .before .before in
+    let else2 = else2 after-word2 in
+    tied (estimated else2) (else2 .if2 .left) (omega arith) (c .if5 .taken)
 
 returns-6 : tie.Need-returns-6
 returns-6 c =
-    let else2 = c .before .before .before .before .before .before .before in
-    let else1 = else2 .before in
-    let after-is-none = else1 .before in
-    behind (eqb-false _ _ (sym (after-is-none .is-none .ensures) ∙ else1 .if1 .left)) (else2 .if2 .left) (omega arith) (c .if5 .left)
+    let after-word2 = c .before .before .before .before in
+    let else2 = else2 after-word2 in
+    behind (estimated else2) (else2 .if2 .left) (omega arith) (c .if5 .left)
 
 pub improved-spec : {M : Type 1} → statement M
 improved-spec =

@@ -12,8 +12,9 @@ returns c =
     let after-improved = after-word .before .before in
     let after-of-word = after-improved .before .before .before in
     let start = after-of-word .before .before .before .before .before .before in
-    taken-at _ _ _ _ _ _ _ _ _ _ _ _ _ _ _ _ (start .pre .1) (after-of-word .of-word .ensures) (after-word .word .ensures)
-    (after-improved .improved .ensures) (after-put .put .ensures .0) (after-put .put .ensures .1) (search needs)
+    let (keys-are, right) = after-put .put .ensures in
+    taken-at (start .pre .1) (after-of-word .of-word .ensures) (after-word .word .ensures)
+    (after-improved .improved .ensures) keys-are right (search needs)
 
 pub take-spec : {M : Type 1} → statement M
 take-spec =

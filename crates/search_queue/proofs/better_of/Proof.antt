@@ -4,10 +4,10 @@ use Rattle.search_queue.proofs.better_of.Statement.{statement}
 use Rattle.search_queue.proofs.better_of.Tie as tie
 
 returns : tie.Need-returns
-returns c = smaller-first _ _ (c .if1 .taken)
+returns c = smaller-first (c .if1 .taken)
 
 returns-2 : tie.Need-returns-2
-returns-2 c = smaller-second _ _ (c .if1 .left)
+returns-2 c = smaller-second (c .if1 .left)
 
 pub better-of-spec : {M : Type 1} → statement M
 better-of-spec = tie.close (tie.spec returns returns-2)

@@ -5,14 +5,10 @@ use Rattle.search_queue.proofs.choose.Statement.{statement}
 use Rattle.search_queue.proofs.choose.Tie as tie
 
 returns : tie.Need-returns
-returns c =
-    let start = c .before .before in
-    root-nobody _ (start .args .tree .now) (c .if1 .taken)
+returns c = root-nobody (c .before .before .args .tree .now) (c .if1 .taken)
 
 returns-2 : tie.Need-returns-2
-returns-2 c =
-    let start = c .before .before in
-    root-number _ (start .args .tree .now) (c .if1 .left)
+returns-2 c = root-number (c .before .before .args .tree .now) (c .if1 .left)
 
 pub choose-spec : {M : Type 1} → statement M
 choose-spec = tie.close (tie.spec (λ c. search needs) (λ c. search needs) returns returns-2)

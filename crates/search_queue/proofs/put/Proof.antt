@@ -9,17 +9,20 @@ use Rattle.search_queue.proofs.put.Tie as tie
 returns : tie.Need-returns
 returns c =
     let start = c .before .before .before .before in
-    (written-again (start .args .keys .now) _ _ (c .if1 .taken), start .pre .4)
+    (written-again (start .args .keys .now) _ (c .if1 .taken), start .pre .1)
 
 renew-requires : tie.Need-renew-requires
 renew-requires c κs =
     let start = c .before .before .before .before .before .before in
+    let (node, right) = start .pre in
     let keys = start .args .keys .now in (
-      start .pre .0,
-      start .pre .1,
-      simp length-set (start .pre .2),
-      start .pre .3,
-      record { old = byKey keys; same = same-but keys _ _; right = start .pre .4 },
+      record {
+        inside = node .inside;
+        n-high = node .n-high;
+        keys-room = simp length-set (node .keys-room);
+        tree-room = node .tree-room;
+      },
+      record { old = byKey keys; same = same-but keys _; right = right },
     )
 
 pub put-spec : {M : Type 1} → statement M

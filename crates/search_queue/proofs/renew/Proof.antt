@@ -17,14 +17,14 @@ abbrev μ-loop : tie.MeasureT-loop
 loop-holds : tie.Need-loop-holds Inv-loop μ-loop
 loop-holds c =
     let start = c .before .before .before in
-    climb-start _ _ _ (start .args .tree .now) _ _ (start .pre .0) (start .pre .3) refl (c .word-of .ensures) (start .pre .4)
+    climb-start (start .pre .0) refl (c .word-of .ensures) (start .pre .1)
 
 loop-again : tie.Need-loop-again Inv-loop μ-loop
 loop-again c =
     let in-loop = c .before .before in
     let at-loop = in-loop .before in
     let start = at-loop .before .before .before .before in
-    climb-turn _ _ _ _ _ _ _ _ (start .pre .1) (in-loop .loop-test .taken) refl refl (at-loop .loop .inv) _ (c .better-of .ensures)
+    climb-turn (start .pre .0 .n-high) (in-loop .loop-test .taken) refl refl (at-loop .loop .inv) (c .better-of .ensures)
 
 same-length : tie.Need-same-length Inv-loop μ-loop
 same-length c = simp length-set at (c .before .loop .inv .long)

@@ -7,14 +7,10 @@ use Rattle.search_queue.proofs.word_of.Statement.{statement}
 use Rattle.search_queue.proofs.word_of.Tie as tie
 
 returns : tie.Need-returns
-returns c =
-    let start = c .before .before in
-    sym (word-waits (byKey (start .args .keys .now)) _ (c .if1 .taken))
+returns c = sym (word-waits (byKey (c .before .before .args .keys .now)) _ (c .if1 .taken))
 
 returns-2 : tie.Need-returns-2
-returns-2 c =
-    let start = c .before .before in
-    sym (word-rests (byKey (start .args .keys .now)) _ (c .if1 .left))
+returns-2 c = sym (word-rests (byKey (c .before .before .args .keys .now)) _ (c .if1 .left))
 
 pub word-of-spec : {M : Type 1} → statement M
 word-of-spec =

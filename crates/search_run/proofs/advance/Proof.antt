@@ -1,338 +1,330 @@
 -- At each turn the first candidate is logged, which is the one that the definition logs next, and gone on from unless it is the goal; so c
--- turns make a history of c entries (running-goal, running-on). The loop is left with the log complete or the budget used up (advances).
+-- turns make a history of c entries (`running-goal`, `running-on`). The loop is left with the log complete or the budget used up
+-- (`advances`).
 use borrow.Author.Needs.{needs}
 use native.Mathlib.Omega.{arith}
-use mathlib.Core.Path.{_∙_, refl, sym}
-use Prim.Native.Nat.{_*_, _+_, _-_}
-use lib.ListN.{length-replicate}
+use mathlib.Core.Path.{_∙_, _≡_, refl, sym}
+use mathlib.Core.List.{List}
+use Prim.Native.Nat.{_*_, _+_, _-_, _<_, ℕ}
+use lib.ListN.{length, length-replicate}
 use Rattle.model.specs.Limits.{mostJunctions, mostRoads}
 use Rattle.model.specs.Word.{noneWord}
+use Rattle.network.specs.declared.Sizes.{Sizes}
 use Rattle.network.specs.Locals.{counted}
 use Rattle.search_queue.specs.Order.{noKey}
 use Rattle.search_queue.specs.Tree.{nobodyWord}
-use Rattle.search_labels.specs.Labelling.{labellingOf}
+use Rattle.search_labels.specs.Labelling.{Labelling, labellingOf}
 use Rattle.search_junctions.specs.State.{givenOf}
+use Rattle.search_junctions.specs.Grouped.{Links}
 use Rattle.search_junctions.specs.Firsts.{begins-first}
-use Rattle.search_run.proofs.Wholes.{Running, advances, asking, blank, first-inside, linked, pairs-in, reading, room-blank}
-use Rattle.search_run.proofs.Wholes.{room-settled, running-goal, running-on, running-start, turn-taken}
+use Rattle.search_run.proofs.Turns.{Settled, standOf, withKeys}
+use Rattle.search_run.proofs.Wholes.{Locals, Running, Turn, advances, asking, blank, first-inside, linked, locals-kept}
+use Rattle.search_run.proofs.Wholes.{long-settled, pairs-in, reading, room-blank, room-settled, running-goal}
+use Rattle.search_run.proofs.Wholes.{running-on, running-start, turn-taken}
 use Rattle.search_run.proofs.advance.Statement.{statement}
 use Rattle.search_run.proofs.advance.Tie as tie
 
 abbrev Inv-loop : tie.InvT-loop
 Inv-loop trip budget roads order ranks pairs live down estimates₀ elapsed₀ vias₀ log₀ n m times₀ keys₀ tree₀ rows most c₀ v₀ estimates
-    elapsed
-    vias log times keys tree c v =
+    elapsed vias log times keys tree c v =
     Running (givenOf (trip .sizes) roads order ranks pairs live down) (trip .start .0) (trip .target .0) most
-    estimates₀ elapsed₀ log₀ (labellingOf times₀ keys₀ vias₀ tree₀) c₀ v₀ estimates elapsed log (labellingOf times keys vias tree) c v
+    (standOf estimates₀ elapsed₀ log₀ (labellingOf times₀ keys₀ vias₀ tree₀) c₀ v₀)
+    (standOf estimates elapsed log (labellingOf times keys vias tree) c v)
 
 abbrev μ-loop : tie.MeasureT-loop
 μ-loop trip budget roads order ranks pairs live down estimates₀ elapsed₀ vias₀ log₀ n m times₀ keys₀ tree₀ rows most c₀ v₀ estimates elapsed
     vias log times keys tree c v = most - c
 
+-- ---- before the loop
+
+abbrev start-of : tie.After-group Inv-loop μ-loop → tie.Start Inv-loop μ-loop
+start-of c = c .before .before .before .before .before .before .before .before .before .before .before .before
+
+-- from where the first candidate is chosen
+abbrev begun : tie.After-tree3 Inv-loop μ-loop → tie.After-begin Inv-loop μ-loop
+begun c = c .before .before .before .before .before .before .before .before .before .before .before
+
+-- ---- at the head of the loop
+
+abbrev after-smaller : tie.At-loop Inv-loop μ-loop → tie.After-smaller Inv-loop μ-loop
+after-smaller c = c .before .before .before
+
+abbrev after-fill : tie.At-loop Inv-loop μ-loop → tie.After-fill Inv-loop μ-loop
+after-fill c = after-smaller c .before .before .before
+
+abbrev after-begin : tie.At-loop Inv-loop μ-loop → tie.After-begin Inv-loop μ-loop
+after-begin c = begun (c .before .before)
+
+abbrev after-ask-start : tie.At-loop Inv-loop μ-loop → tie.After-ask-start Inv-loop μ-loop
+after-ask-start c = after-begin c .before .before .before .before .before .before .before
+
+abbrev after-group : tie.At-loop Inv-loop μ-loop → tie.After-group Inv-loop μ-loop
+after-group c = after-ask-start c .before .before .before
+
+abbrev start : tie.At-loop Inv-loop μ-loop → tie.Start Inv-loop μ-loop
+start c = start-of (after-group c)
+
+abbrev sizes : tie.At-loop Inv-loop μ-loop → Sizes
+sizes c = start c .args .trip .sizes
+
+abbrev labels : tie.At-loop Inv-loop μ-loop → Labelling
+labels c = labellingOf (c .loop .times) (c .loop .keys) (c .loop .vias) (c .loop .tree)
+
+-- the local areas are as long as they were made
+locals : (c : tie.At-loop Inv-loop μ-loop) → Locals (labels c)
+locals c =
+    let (_, (times-kept, (keys-kept, (_, (tree-kept, _))))) = after-begin c .begin .kept in
+    locals-kept (c .loop .inv .long) (record {
+      times-are = counted mostJunctions noneWord times-kept;
+      keys-are = counted mostJunctions noKey keys-kept;
+      tree-are = counted (2 * mostJunctions) nobodyWord tree-kept;
+    })
+
+-- the rows of the roads, once they are grouped
+abbrev rows : tie.At-loop Inv-loop μ-loop → List ℕ
+rows c = let (_, (_, (_, (rows, _)))) = after-group c .group .last in rows
+
+rows-are : (c : tie.At-loop Inv-loop μ-loop) → mostJunctions + mostRoads ≡ length (rows c)
+rows-are c =
+    let (_, (_, (_, (rows-kept, _)))) = after-group c .group .kept in
+    counted (mostJunctions + mostRoads) 0 rows-kept
+
+-- those of the caller are as long as they came
+estimates-long : (c : tie.At-loop Inv-loop μ-loop) → length (c .loop .estimates) ≡ length (start c .args .estimates .now)
+estimates-long c =
+    let (_, (_, (_, (_, (_, (estimates-kept, _)))))) = after-ask-start c .ask-start .kept in
+    c .loop .inv .estimates-long ∙ estimates-kept
+
+elapsed-long : (c : tie.At-loop Inv-loop μ-loop) → length (c .loop .elapsed) ≡ length (start c .args .elapsed .now)
+elapsed-long c = c .loop .inv .elapsed-long ∙ after-fill c .fill .kept .0
+
+vias-long : (c : tie.At-loop Inv-loop μ-loop) → length (c .loop .vias) ≡ length (start c .args .vias .now)
+vias-long c =
+    let (_, (_, (_, (vias-kept, _)))) = after-begin c .begin .kept in
+    c .loop .inv .long .vias-long ∙ vias-kept
+
+-- ---- in the loop
+
+turn : (c : tie.In-loop Inv-loop μ-loop)
+    → Turn (c .before .loop .v) (sizes (c .before) .n) (c .before .loop .c) (after-smaller (c .before) .smaller .result)
+turn c = turn-taken (c .loop-test .taken)
+
+node-small : (c : tie.In-loop Inv-loop μ-loop) → c .before .loop .v < mostJunctions
+node-small c = omega (arith, turn c .node-in, start (c .before) .pre .sized .n-high)
+
+count-inside : (c : tie.In-loop Inv-loop μ-loop) → c .before .loop .c < sizes (c .before) .n
+count-inside c = omega (arith, turn c .count-in, after-smaller (c .before) .smaller .ensures)
+
+-- the roads of the node are linked
+links : (c : tie.In-loop Inv-loop μ-loop) → let at-loop = c .before in
+    Links (start at-loop .args .roads .now) (sizes at-loop .n) (sizes at-loop .m) (rows at-loop) (at-loop .loop .v)
+links c =
+    let sized = start (c .before) .pre .sized in
+    linked (turn c .node-in) (sized .n-high) (sized .m-high) (after-group (c .before) .group .ensures) (rows-are (c .before))
+
+-- ---- once the node is settled
+
+abbrev in-loop : tie.After-put Inv-loop μ-loop → tie.In-loop Inv-loop μ-loop
+in-loop c = c .before .before .before
+
+settled : (c : tie.After-put Inv-loop μ-loop) → let at-loop = in-loop c .before in
+    Settled (sizes at-loop .n) (at-loop .loop .v) (labels at-loop) (c .put .last .0) (c .put .last .1 .0)
+settled c =
+    let (keys-are, right) = c .put .ensures in
+    record { keys-are = keys-are; right = right; tree-long = c .put .kept .1 .0 }
+
+locals-settled : (c : tie.After-put Inv-loop μ-loop) → Locals (withKeys (labels (in-loop c .before)) (c .put .last .0) (c .put .last .1 .0))
+locals-settled c = locals-kept (long-settled (settled c)) (locals (in-loop c .before))
+
+abbrev after-put : tie.After-ask Inv-loop μ-loop → tie.After-put Inv-loop μ-loop
+after-put c = c .before .before .before .before .before .before .before
+
+abbrev after-ask : tie.After-relax Inv-loop μ-loop → tie.After-ask Inv-loop μ-loop
+after-ask c = c .before .before .before .before .before .before .before .before .before
+
+-- from where the next candidate is chosen
+abbrev after-relax : tie.After-tree8 Inv-loop μ-loop → tie.After-relax Inv-loop μ-loop
+after-relax c = c .before .before .before .before .before .before
+
+-- ---- the answers
+
 group-requires : tie.Need-group-requires Inv-loop μ-loop
 group-requires c κs =
-    let z = (let start = c .before .before .before .before .before .before .before .before .before .before .before in
-    start .pre .4) in (
-      omega (arith, z .roads-are),
-      simp length-replicate (omega (arith, z .n-high, z .m-high)),
-    )
+    let start = c .before .before .before .before .before .before .before .before .before .before .before in
+    let sized = start .pre .sized in
+    (omega (arith, sized .roads-are), simp length-replicate (omega (arith, sized .n-high, sized .m-high)))
 
 ask-start-requires : tie.Need-ask-start-requires Inv-loop μ-loop
 ask-start-requires c κs =
-    let after-rows = c .before .before .before in
-    let start = after-rows .before .before .before .before .before .before .before .before .before .before .before in
-    (start .pre .0, pairs-in (start .pre .4) refl)
+    let after-group = c .before .before in
+    let start = start-of after-group in
+    (start .pre .start-in, pairs-in (start .pre .sized) refl)
 
 begin-requires : tie.Need-begin-requires Inv-loop μ-loop
 begin-requires c κs =
-    let after-rows = c .before .before .before .before .before .before .before .before .before .before in
-    let start = after-rows .before .before .before .before .before .before .before .before .before .before .before in
-    (start .pre .0, room-blank (start .pre .4 .n-high) (start .pre .2))
+    let after-group = c .before .before .before .before .before .before .before .before .before in
+    let start = start-of after-group in
+    (start .pre .start-in, room-blank (start .pre .sized .n-high) (start .pre .ways-long))
+
+slice-aggregate-choose : tie.Need-slice-aggregate-choose Inv-loop μ-loop
+slice-aggregate-choose c =
+    let (_, (_, (_, (_, (tree-kept, _))))) = begun c .begin .kept in
+    counted (2 * mostJunctions) nobodyWord tree-kept
 
 choose-requires : tie.Need-choose-requires Inv-loop μ-loop
 choose-requires c κs =
-    let after-begin = c .before .before .before .before .before .before .before .before .before .before .before in
-    omega (arith, after-begin .begin .kept .1 .1 .1 .1 .0)
+    let (_, (_, (_, (_, (tree-kept, _))))) = begun c .begin .kept in
+    omega (arith, tree-kept)
 
 loop-holds : tie.Need-loop-holds Inv-loop μ-loop
 loop-holds c =
-    let after-begin = c .before .before .before .before .before .before .before .before .before .before .before .before in
-    let after-rows = after-begin .before .before .before .before .before .before .before .before .before .before .before in
-    let start = after-rows .before .before .before .before .before .before .before .before .before .before .before in
+    let after-begin = begun (c .before) in
+    let after-group = after-begin .before .before .before .before .before .before .before .before .before .before in
+    let start = start-of after-group in
     let room = after-begin .begin .ensures .room in
-    running-start _ _ _ _ (first-inside room (omega (arith, start .pre .0)) (c .choose .ensures)) room
+    running-start (first-inside room (omega (arith, start .pre .start-in)) (c .choose .ensures)) room
 
 slice-write-log : tie.Need-slice-write-log Inv-loop μ-loop
-slice-write-log c =
-    let at-loop = c .before in
-    let after-smaller = at-loop .before .before .before in
-    let after-tree = after-smaller .before .before .before .before .before .before .before .before .before .before .before in
-    let after-rows = after-tree .before .before .before .before .before .before .before .before .before .before in
-    let start = after-rows .before .before .before .before .before .before .before .before .before .before .before in
-    omega (
-      arith,
-      turn-taken (at-loop .loop .v) (start .args .trip .sizes .n) (at-loop .loop .c) (after-smaller .smaller .result)
-          (c .loop-test .taken) .1,
-      at-loop .loop .inv .log-long,
-      after-smaller .smaller .ensures,
-      start .pre .3,
-    )
+slice-write-log c = omega (arith, count-inside c, c .before .loop .inv .log-long, start (c .before) .pre .log-long)
 
 add-c : tie.Need-add-c Inv-loop μ-loop
-add-c c =
-    let at-loop = c .before in
-    let after-smaller = at-loop .before .before .before in
-    let after-tree = after-smaller .before .before .before .before .before .before .before .before .before .before .before in
-    let after-rows = after-tree .before .before .before .before .before .before .before .before .before .before in
-    let start = after-rows .before .before .before .before .before .before .before .before .before .before .before in
-    omega (
-      arith,
-      turn-taken (at-loop .loop .v) (start .args .trip .sizes .n) (at-loop .loop .c) (after-smaller .smaller .result)
-          (c .loop-test .taken) .1,
-      after-smaller .smaller .ensures,
-      start .pre .4 .n-high,
-    )
+add-c c = omega (arith, count-inside c, start (c .before) .pre .sized .n-high)
 
 cast-elapsed : tie.Need-cast-elapsed Inv-loop μ-loop
-cast-elapsed c =
-    let at-loop = c .before in
-    let after-smaller = at-loop .before .before .before in
-    let after-tree = after-smaller .before .before .before .before .before .before .before .before .before .before .before in
-    let after-rows = after-tree .before .before .before .before .before .before .before .before .before .before in
-    let start = after-rows .before .before .before .before .before .before .before .before .before .before .before in
-    omega (
-      arith,
-      turn-taken (at-loop .loop .v) (start .args .trip .sizes .n) (at-loop .loop .c) (after-smaller .smaller .result)
-          (c .loop-test .taken) .0,
-      start .pre .4 .n-high,
-    )
+cast-elapsed c = omega (arith, node-small c)
 
 mul-elapsed : tie.Need-mul-elapsed Inv-loop μ-loop
-mul-elapsed c =
-    let at-loop = c .before in
-    let after-smaller = at-loop .before .before .before in
-    let after-tree = after-smaller .before .before .before .before .before .before .before .before .before .before .before in
-    let after-rows = after-tree .before .before .before .before .before .before .before .before .before .before in
-    let start = after-rows .before .before .before .before .before .before .before .before .before .before .before in
-    omega (
-      arith,
-      turn-taken (at-loop .loop .v) (start .args .trip .sizes .n) (at-loop .loop .c) (after-smaller .smaller .result)
-          (c .loop-test .taken) .0,
-      start .pre .4 .n-high,
-    )
+mul-elapsed c = omega (arith, node-small c)
 
 array-read-elapsed : tie.Need-array-read-elapsed Inv-loop μ-loop
-array-read-elapsed c =
-    let at-loop = c .before in
-    let after-smaller = at-loop .before .before .before in
-    let after-tree = after-smaller .before .before .before .before .before .before .before .before .before .before .before in
-    let after-rows = after-tree .before .before .before .before .before .before .before .before .before .before in
-    let start = after-rows .before .before .before .before .before .before .before .before .before .before .before in
-    omega (
-      arith,
-      turn-taken (at-loop .loop .v) (start .args .trip .sizes .n) (at-loop .loop .c) (after-smaller .smaller .result)
-          (c .loop-test .taken) .0,
-      at-loop .loop .inv .room .times-room,
-    )
+array-read-elapsed c = omega (arith, turn c .node-in, c .before .loop .inv .room .times-room)
 
 cast-elapsed-2 : tie.Need-cast-elapsed-2 Inv-loop μ-loop
-cast-elapsed-2 c =
-    let at-loop = c .before in
-    let after-smaller = at-loop .before .before .before in
-    let after-tree = after-smaller .before .before .before .before .before .before .before .before .before .before .before in
-    let after-rows = after-tree .before .before .before .before .before .before .before .before .before .before in
-    let start = after-rows .before .before .before .before .before .before .before .before .before .before .before in
-    omega (
-      arith,
-      turn-taken (at-loop .loop .v) (start .args .trip .sizes .n) (at-loop .loop .c) (after-smaller .smaller .result)
-          (c .loop-test .taken) .0,
-      start .pre .4 .n-high,
-    )
+cast-elapsed-2 c = omega (arith, node-small c)
 
 mul-elapsed-2 : tie.Need-mul-elapsed-2 Inv-loop μ-loop
-mul-elapsed-2 c =
-    let at-loop = c .before in
-    let after-smaller = at-loop .before .before .before in
-    let after-tree = after-smaller .before .before .before .before .before .before .before .before .before .before .before in
-    let after-rows = after-tree .before .before .before .before .before .before .before .before .before .before in
-    let start = after-rows .before .before .before .before .before .before .before .before .before .before .before in
-    omega (
-      arith,
-      turn-taken (at-loop .loop .v) (start .args .trip .sizes .n) (at-loop .loop .c) (after-smaller .smaller .result)
-          (c .loop-test .taken) .0,
-      start .pre .4 .n-high,
-    )
+mul-elapsed-2 c = omega (arith, node-small c)
 
 slice-write-elapsed : tie.Need-slice-write-elapsed Inv-loop μ-loop
-slice-write-elapsed c =
-    let at-loop = c .before in
-    let after-smaller = at-loop .before .before .before in
-    let after-fill = after-smaller .before .before .before in
-    let after-times = after-fill .before .before .before .before .before .before .before .before .before .before .before in
-    let after-rows = after-times .before .before .before .before .before .before .before in
-    let start = after-rows .before .before .before .before .before .before .before .before .before .before .before in
-    omega (
-      arith,
-      turn-taken (at-loop .loop .v) (start .args .trip .sizes .n) (at-loop .loop .c) (after-smaller .smaller .result)
-          (c .loop-test .taken) .0,
-      at-loop .loop .inv .elapsed-long,
-      after-fill .fill .kept .0,
-      start .pre .4 .elapsed-is,
-    )
+slice-write-elapsed c = omega (arith, turn c .node-in, elapsed-long (c .before), start (c .before) .pre .sized .elapsed-is)
+
+slice-aggregate-put : tie.Need-slice-aggregate-put Inv-loop μ-loop
+slice-aggregate-put c =
+    let at-loop = c .before .before in
+    locals at-loop .keys-are
+
+slice-aggregate-put-2 : tie.Need-slice-aggregate-put-2 Inv-loop μ-loop
+slice-aggregate-put-2 c =
+    let at-loop = c .before .before .before in
+    locals at-loop .tree-are
 
 put-requires : tie.Need-put-requires Inv-loop μ-loop
 put-requires c κs =
     let in-loop = c .before .before in
-    let at-loop = in-loop .before in
-    let after-smaller = at-loop .before .before .before in
-    let after-tree = after-smaller .before .before .before .before .before .before .before .before .before .before .before in
-    let after-rows = after-tree .before .before .before .before .before .before .before .before .before .before in
-    let start = after-rows .before .before .before .before .before .before .before .before .before .before .before in
-    let room = at-loop .loop .inv .room in (
-      turn-taken (at-loop .loop .v) (start .args .trip .sizes .n) (at-loop .loop .c) (after-smaller .smaller .result)
-          (in-loop .loop-test .taken) .0,
-      room .n-high,
-      room .keys-room,
-      room .tree-room,
+    let room = in-loop .before .loop .inv .room in (
+      record {
+        inside = turn in-loop .node-in;
+        n-high = room .n-high;
+        keys-room = room .keys-room;
+        tree-room = room .tree-room;
+      },
       room .right,
     )
 
 loop-less : tie.Need-loop-less Inv-loop μ-loop
 loop-less c =
     let in-loop = c .before .before .before .before .before .before .before in
-    let at-loop = in-loop .before in
-    let after-smaller = at-loop .before .before .before in
-    let after-tree = after-smaller .before .before .before .before .before .before .before .before .before .before .before in
-    let after-rows = after-tree .before .before .before .before .before .before .before .before .before .before in
-    let start = after-rows .before .before .before .before .before .before .before .before .before .before .before in
-    omega (
-      arith,
-      turn-taken (at-loop .loop .v) (start .args .trip .sizes .n) (at-loop .loop .c) (after-smaller .smaller .result)
-          (in-loop .loop-test .taken) .1,
-    )
-
-loop-less-2 : tie.Need-loop-less-2 Inv-loop μ-loop
-loop-less-2 c =
-    let after-times3 = c .before .before .before .before .before .before .before .before .before .before .before .before in
-    let after-tree4 = after-times3 .before .before .before .before .before .before .before .before .before .before .before .before in
-    let in-loop = after-tree4 .before .before in
-    let at-loop = in-loop .before in
-    let after-smaller = at-loop .before .before .before in
-    let after-tree = after-smaller .before .before .before .before .before .before .before .before .before .before .before in
-    let after-rows = after-tree .before .before .before .before .before .before .before .before .before .before in
-    let start = after-rows .before .before .before .before .before .before .before .before .before .before .before in
-    omega (
-      arith,
-      turn-taken (at-loop .loop .v) (start .args .trip .sizes .n) (at-loop .loop .c) (after-smaller .smaller .result)
-          (in-loop .loop-test .taken) .1,
-    )
+    omega (arith, turn in-loop .count-in)
 
 loop-again : tie.Need-loop-again Inv-loop μ-loop
 loop-again c =
     let after-put = c .before .before .before .before in
-    let in-loop = after-put .before .before .before in
-    let at-loop = in-loop .before in
-    let after-smaller = at-loop .before .before .before in
-    let after-tree = after-smaller .before .before .before .before .before .before .before .before .before .before .before in
-    let after-rows = after-tree .before .before .before .before .before .before .before .before .before .before in
-    let start = after-rows .before .before .before .before .before .before .before .before .before .before .before in
-    let taken = turn-taken (at-loop .loop .v) (start .args .trip .sizes .n) (at-loop .loop .c) (after-smaller .smaller .result)
-    (in-loop .loop-test .taken) in
-    running-goal _ _ _ _ (at-loop .loop .inv) (taken .0) (taken .1) (after-put .put .ensures .0) (after-put .put .ensures .1)
-    (after-put .put .kept .1 .0) (sym (c .before .is-goal .ensures) ∙ c .if1 .taken)
+    let in-loop = in-loop after-put in
+    running-goal (in-loop .before .loop .inv) (turn in-loop) (settled after-put) (sym (c .before .is-goal .ensures) ∙ c .if1 .taken)
+
+slice-aggregate-ask : tie.Need-slice-aggregate-ask Inv-loop μ-loop
+slice-aggregate-ask c =
+    let at-loop = c .before .before .before .before .before .before .before .before .before .before in
+    rows-are at-loop
 
 ask-requires : tie.Need-ask-requires Inv-loop μ-loop
 ask-requires c κs =
     let in-loop = c .before .before .before .before .before .before .before .before .before in
     let at-loop = in-loop .before in
-    let after-smaller = at-loop .before .before .before in
-    let after-tree = after-smaller .before .before .before .before .before .before .before .before .before .before .before in
-    let after-ask-start = after-tree .before .before .before .before .before .before in
-    let after-group = after-ask-start .before .before .before in
-    let start = after-group .before .before .before .before .before .before .before .before .before .before .before .before in
-    let z = start .pre .4 in (
-      asking z (at-loop .loop .inv .estimates-long ∙ after-ask-start .ask-start .kept .1 .1 .1 .1 .1 .0),
-      linked (turn-taken (at-loop .loop .v) (start .args .trip .sizes .n) (at-loop .loop .c) (after-smaller .smaller .result)
-          (in-loop .loop-test .taken) .0) (z .n-high) (z .m-high) (after-group .group .ensures)
-          (sym (counted (mostJunctions + mostRoads) 0 (after-group .group .kept .1 .1 .1 .0))),
-    )
+    (asking (start at-loop .pre .sized) (estimates-long at-loop), links in-loop)
+
+slice-aggregate-relax : tie.Need-slice-aggregate-relax Inv-loop μ-loop
+slice-aggregate-relax c =
+    let after-ask = c .before .before .before .before in
+    locals-settled (after-put after-ask) .times-are
+
+slice-aggregate-relax-2 : tie.Need-slice-aggregate-relax-2 Inv-loop μ-loop
+slice-aggregate-relax-2 c =
+    let after-ask = c .before .before .before .before .before in
+    locals-settled (after-put after-ask) .keys-are
+
+slice-aggregate-relax-3 : tie.Need-slice-aggregate-relax-3 Inv-loop μ-loop
+slice-aggregate-relax-3 c =
+    let after-ask = c .before .before .before .before .before .before .before in
+    locals-settled (after-put after-ask) .tree-are
+
+slice-aggregate-relax-4 : tie.Need-slice-aggregate-relax-4 Inv-loop μ-loop
+slice-aggregate-relax-4 c =
+    let after-ask = c .before .before .before .before .before .before .before .before in
+    let in-loop = in-loop (after-put after-ask) in
+    rows-are (in-loop .before)
 
 relax-requires : tie.Need-relax-requires Inv-loop μ-loop
 relax-requires c κs =
     let after-ask = c .before .before .before .before .before .before .before .before in
-    let after-put = after-ask .before .before .before .before .before .before .before in
-    let in-loop = after-put .before .before .before in
+    let after-put = after-put after-ask in
+    let in-loop = in-loop after-put in
     let at-loop = in-loop .before in
-    let after-smaller = at-loop .before .before .before in
-    let after-tree = after-smaller .before .before .before .before .before .before .before .before .before .before .before in
-    let after-ask-start = after-tree .before .before .before .before .before .before in
-    let after-group = after-ask-start .before .before .before in
-    let start = after-group .before .before .before .before .before .before .before .before .before .before .before .before in
-    let z = start .pre .4 in
-    let taken = turn-taken (at-loop .loop .v) (start .args .trip .sizes .n) (at-loop .loop .c) (after-smaller .smaller .result)
-    (in-loop .loop-test .taken) in (
-      reading z (after-ask .ask .kept .1 .1 .1 .1 .1 .1 .1 .0 ∙ at-loop .loop .inv .estimates-long ∙
-          after-ask-start .ask-start .kept .1 .1 .1 .1 .1 .0),
-      room-settled _ _ _ _ (at-loop .loop .inv) (taken .0) (taken .1) (after-put .put .ensures .0) (after-put .put .ensures .1)
-          (after-put .put .kept .1 .0),
-      linked (taken .0) (z .n-high) (z .m-high) (after-group .group .ensures)
-          (sym (counted (mostJunctions + mostRoads) 0 (after-group .group .kept .1 .1 .1 .0))),
+    let (_, (_, (_, (_, (_, (_, (_, (estimates-kept, _)))))))) = after-ask .ask .kept in (
+      reading (start at-loop .pre .sized) (estimates-kept ∙ estimates-long at-loop),
+      room-settled (settled after-put) (at-loop .loop .inv .room),
+      links in-loop,
     )
+
+slice-aggregate-choose-2 : tie.Need-slice-aggregate-choose-2 Inv-loop μ-loop
+slice-aggregate-choose-2 c =
+    let after-relax = after-relax c in
+    let (_, (_, (_, (_, (_, (_, (_, (tree-kept, _)))))))) = after-relax .relax .kept in
+    locals-settled (after-put (after-ask after-relax)) .tree-are ∙ sym tree-kept
 
 choose-requires-2 : tie.Need-choose-requires-2 Inv-loop μ-loop
 choose-requires-2 c κs =
-    let after-relax = c .before .before .before .before .before .before in
-    let else1 = after-relax .before .before .before .before .before .before .before .before .before .before .before .before in
-    let after-put = else1 .before .before .before .before in
-    let at-loop = after-put .before .before .before .before in
-    let after-times2 = at-loop .before .before .before .before .before .before .before .before .before .before .before .before in
-    let after-begin = after-times2 .before in
-    omega (
-      arith,
-      after-relax .relax .kept .1 .1 .1 .1 .1 .1 .1 .0,
-      after-put .put .kept .1 .0,
-      at-loop .loop .inv .long .tree-long,
-      after-begin .begin .kept .1 .1 .1 .1 .0,
-    )
+    let after-relax = after-relax c in
+    let (_, (_, (_, (_, (_, (_, (_, (tree-kept, _)))))))) = after-relax .relax .kept in
+    omega (arith, tree-kept, locals-settled (after-put (after-ask after-relax)) .tree-are)
+
+loop-less-2 : tie.Need-loop-less-2 Inv-loop μ-loop
+loop-less-2 c =
+    let after-ask = after-ask (after-relax (c .before)) in
+    omega (arith, turn (in-loop (after-put after-ask)) .count-in)
 
 loop-again-2 : tie.Need-loop-again-2 Inv-loop μ-loop
 loop-again-2 c =
-    let after-relax = c .before .before .before .before .before .before .before in
-    let after-ask = after-relax .before .before .before .before .before .before .before .before .before in
+    let after-relax = after-relax (c .before) in
+    let after-ask = after-ask after-relax in
     let else1 = after-ask .before .before .before in
     let after-is-goal = else1 .before in
-    let after-put = after-is-goal .before .before .before in
-    let in-loop = after-put .before .before .before in
-    let at-loop = in-loop .before in
-    let after-smaller = at-loop .before .before .before in
-    let after-tree = after-smaller .before .before .before .before .before .before .before .before .before .before .before in
-    let after-rows = after-tree .before .before .before .before .before .before .before .before .before .before in
-    let start = after-rows .before .before .before .before .before .before .before .before .before .before .before in
-    let taken = turn-taken (at-loop .loop .v) (start .args .trip .sizes .n) (at-loop .loop .c) (after-smaller .smaller .result)
-    (in-loop .loop-test .taken) in
-    running-on _ _ _ _ (at-loop .loop .inv) (taken .0) (taken .1) (after-put .put .ensures .0) (after-put .put .ensures .1)
-    (after-put .put .kept .1 .0) (sym (after-is-goal .is-goal .ensures) ∙ else1 .if1 .left) (after-ask .ask .kept .1 .1 .1 .1 .1 .1 .1 .0)
-    (record {
-      times-long = after-relax .relax .kept .1 .1 .1 .1 .0;
-      keys-long = after-relax .relax .kept .1 .1 .1 .1 .1 .0;
-      vias-long = after-relax .relax .kept .1 .1 .1 .1 .1 .1 .0;
-      tree-long = after-relax .relax .kept .1 .1 .1 .1 .1 .1 .1 .0;
-    }) (after-ask .ask .ensures) (after-relax .relax .ensures) (c .choose2 .ensures)
+    let after-put = after-put after-ask in
+    let in-loop = in-loop after-put in
+    let (_, (_, (_, (_, (_, (_, (_, (estimates-kept, _)))))))) = after-ask .ask .kept in
+    let (_, (_, (_, (_, (times-kept, (keys-kept, (vias-kept, (tree-kept, _)))))))) = after-relax .relax .kept in
+    running-on (in-loop .before .loop .inv) (turn in-loop) (settled after-put) (sym (after-is-goal .is-goal .ensures) ∙ else1 .if1 .left)
+    estimates-kept (record { times-long = times-kept; keys-long = keys-kept; vias-long = vias-kept; tree-long = tree-kept })
+    (after-ask .ask .ensures) (after-relax .relax .ensures) (c .choose2 .ensures)
 
 returns : tie.Need-returns Inv-loop μ-loop
 returns c =
-    let after-choose = c .before .before in
-    let after-smaller = after-choose .before .before in
-    let after-fill = after-smaller .before .before .before in
-    let after-begin = after-fill .before .before .before .before .before .before .before in
-    let after-ask-start = after-begin .before .before .before .before .before .before .before in
-    let after-rows = after-ask-start .before .before .before .before in
-    let start = after-rows .before .before .before .before .before .before .before .before .before .before .before in
-    let lends = start .pre in
-    advances lends (begins-first (lends .0) (blank (lends .4) (lends .2)) (after-ask-start .ask-start .ensures)
-    (after-begin .begin .ensures))
-    (after-fill .fill .ensures) (after-choose .choose .ensures) (after-smaller .smaller .ensures) (c .before .loop .inv)
-    (c .loop-test .left)
+    let at-loop = c .before in
+    let lends = start at-loop .pre in
+    let begins = begins-first (lends .start-in) (blank (lends .sized) (lends .ways-long)) (after-ask-start at-loop .ask-start .ensures)
+    (after-begin at-loop .begin .ensures) in
+    advances lends begins (after-fill at-loop .fill .ensures) (at-loop .before .choose .ensures) (after-smaller at-loop .smaller .ensures)
+    (at-loop .loop .inv) (c .loop-test .left)
 
 pub advance-spec : {M : Type 1} → statement M
 advance-spec =
@@ -349,9 +341,7 @@ advance-spec =
     begin-requires
     (λ c κs. search needs)
     (λ c κs. search needs)
-    (λ c.
-    let after-begin = c .before .before .before .before .before .before .before .before .before .before .before in
-    counted (2 * mostJunctions) nobodyWord (after-begin .begin .kept .1 .1 .1 .1 .0))
+    slice-aggregate-choose
     choose-requires
     loop-holds
     (λ c. search needs)
@@ -364,75 +354,25 @@ advance-spec =
     cast-elapsed-2
     mul-elapsed-2
     slice-write-elapsed
-    (λ c.
-    let at-loop = c .before .before in
-    let after-times2 = at-loop .before .before .before .before .before .before .before .before .before .before .before .before in
-    let after-begin = after-times2 .before in
-    counted mostJunctions noKey (at-loop .loop .inv .long .keys-long ∙ after-begin .begin .kept .1 .1 .0))
-    (λ c.
-    let at-loop = c .before .before .before in
-    let after-times2 = at-loop .before .before .before .before .before .before .before .before .before .before .before .before in
-    let after-begin = after-times2 .before in
-    counted (2 * mostJunctions) nobodyWord (at-loop .loop .inv .long .tree-long ∙ after-begin .begin .kept .1 .1 .1 .1 .0))
+    slice-aggregate-put
+    slice-aggregate-put-2
     put-requires
     (λ c κs. search needs)
     loop-less
     loop-again
-    (λ c.
-    let after-tree3 = c .before .before .before .before .before .before .before .before .before .before .before .before in
-    let after-tree = after-tree3 .before .before .before .before .before .before .before .before .before .before .before .before in
-    let after-group = after-tree .before .before .before .before .before .before .before .before .before in
-    counted (mostJunctions + mostRoads) 0 (after-group .group .kept .1 .1 .1 .0))
+    slice-aggregate-ask
     ask-requires
-    (λ c.
-    let after-tree4 = c .before .before .before .before .before .before .before .before .before .before .before .before in
-    let at-loop = after-tree4 .before .before .before in
-    let after-times2 = at-loop .before .before .before .before .before .before .before .before .before .before .before .before in
-    let after-begin = after-times2 .before in
-    counted mostJunctions noneWord (at-loop .loop .inv .long .times-long ∙ after-begin .begin .kept .1 .0))
-    (λ c.
-    let after-put = c .before .before .before .before .before .before .before .before .before .before .before .before in
-    let at-loop = after-put .before .before .before .before in
-    let after-times2 = at-loop .before .before .before .before .before .before .before .before .before .before .before .before in
-    let after-begin = after-times2 .before in
-    counted mostJunctions noKey (after-put .put .kept .0 ∙ at-loop .loop .inv .long .keys-long ∙ after-begin .begin .kept .1 .1 .0))
-    (λ c.
-    let after-tree5 = c .before .before .before .before .before .before .before .before .before .before .before .before in
-    let after-put = after-tree5 .before .before in
-    let at-loop = after-put .before .before .before .before in
-    let after-times2 = at-loop .before .before .before .before .before .before .before .before .before .before .before .before in
-    let after-begin = after-times2 .before in
-    counted (2 * mostJunctions) nobodyWord (after-put .put .kept .1 .0 ∙ at-loop .loop .inv .long .tree-long ∙
-    after-begin .begin .kept .1 .1 .1 .1 .0))
-    (λ c.
-    let after-is-goal = c .before .before .before .before .before .before .before .before .before .before .before .before in
-    let after-elapsed = after-is-goal .before .before .before .before .before .before .before .before .before .before .before .before in
-    let after-times = after-elapsed .before .before .before .before .before .before .before .before .before .before .before .before in
-    let after-group = after-times .before .before .before .before .before .before in
-    counted (mostJunctions + mostRoads) 0 (after-group .group .kept .1 .1 .1 .0))
+    slice-aggregate-relax
+    slice-aggregate-relax-2
+    slice-aggregate-relax-3
+    slice-aggregate-relax-4
     relax-requires
-    (λ c.
-    let after-relax = c .before .before .before .before .before .before in
-    let else1 = after-relax .before .before .before .before .before .before .before .before .before .before .before .before in
-    let after-put = else1 .before .before .before .before in
-    let at-loop = after-put .before .before .before .before in
-    let after-times2 = at-loop .before .before .before .before .before .before .before .before .before .before .before .before in
-    let after-begin = after-times2 .before in
-    counted (2 * mostJunctions) nobodyWord (after-relax .relax .kept .1 .1 .1 .1 .1 .1 .1 .0 ∙ after-put .put .kept .1 .0
-    ∙ at-loop .loop .inv .long .tree-long ∙ after-begin .begin .kept .1 .1 .1 .1 .0))
+    slice-aggregate-choose-2
     choose-requires-2
     loop-less-2
     loop-again-2
-    (λ c.
-    let after-keys2 = c .before .before .before .before .before .before .before .before .before .before .before .before in
-    let after-ask-start = after-keys2 .before .before .before .before .before .before .before .before .before in
-    c .before .loop .inv .estimates-long ∙ after-ask-start .ask-start .kept .1 .1 .1 .1 .1 .0)
-    (λ c.
-    let after-fill = c .before .before .before .before .before .before .before in
-    c .before .loop .inv .elapsed-long ∙ after-fill .fill .kept .0)
-    (λ c.
-    let after-keys2 = c .before .before .before .before .before .before .before .before .before .before .before .before in
-    let after-begin = after-keys2 .before .before in
-    c .before .loop .inv .long .vias-long ∙ after-begin .begin .kept .1 .1 .1 .0)
+    (λ c. estimates-long (c .before))
+    (λ c. elapsed-long (c .before))
+    (λ c. vias-long (c .before))
     (λ c. c .before .loop .inv .log-long)
     returns)

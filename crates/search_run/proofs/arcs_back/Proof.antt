@@ -1,5 +1,5 @@
--- One step back at a turn, until the way begins (count-there) or n steps are made (count-end); what is left to count falls by one
--- (`Counting`).
+-- One step back at a turn, until the way begins (`count-there`) or n steps are made (`count-end`); what is left to count falls by one
+-- (`count-turn`).
 use borrow.Author.Needs.{needs}
 use Prim.Native.Nat.{_-_}
 use borrow.Author.Tests.{eq-eqb, ne-eqb}
@@ -26,9 +26,8 @@ returns c =
 loop-again : tie.Need-loop-again Inv-loop μ-loop
 loop-again c =
     let in-loop = c .before .before in
-    let at-loop = in-loop .before in
-    count-turn (at-loop .loop .inv) (in-loop .loop-test .taken) (ne-eqb _ _ (c .before .if1 .left)) (c .step-back .ensures .0)
-    (c .step-back .ensures .1)
+    let (back, inside) = c .step-back .ensures in
+    count-turn (in-loop .before .loop .inv) (in-loop .loop-test .taken) (ne-eqb _ _ (c .before .if1 .left)) back inside
 
 returns-2 : tie.Need-returns-2 Inv-loop μ-loop
 returns-2 c = (count-end (c .before .loop .inv) (c .loop-test .left), search needs)

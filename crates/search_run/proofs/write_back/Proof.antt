@@ -1,7 +1,7 @@
--- Back to front: each turn writes the last arc of what is still to be written, and steps back over it (`Writing`, write-turn).
+-- Back to front: each turn writes the last arc of what is still to be written, and steps back over it (`Writing`, `write-turn`).
 use borrow.Author.Needs.{needs}
 use native.Mathlib.Omega.{arith}
-use lib.ListN.{getD, length-set}
+use lib.ListN.{getD}
 use mathlib.Core.Path.{refl}
 use Rattle.search_junctions.specs.Ways.{stepBack}
 use Rattle.search_run.proofs.Backs.{Writing, write-end, write-turn}
@@ -21,16 +21,11 @@ loop-holds c = record { low = search needs; inside = search needs; long = refl; 
 loop-again : tie.Need-loop-again Inv-loop μ-loop
 loop-again c =
     let at-loop = c .before .before .before in
-    record {
-      low = search needs;
-      inside = search needs;
-      long = simp length-set (search needs);
-      writes = write-turn _ _ _ _ _ (at-loop .loop .j) _ _ _ _ _ (omega arith) (omega arith) refl (c .step-back .ensures .0)
-          (at-loop .loop .inv .writes);
-    }
+    let (back, inside) = c .step-back .ensures in
+    write-turn (at-loop .loop .inv) (omega arith) (omega arith) refl back inside
 
 returns : tie.Need-returns Inv-loop μ-loop
-returns c = write-end _ _ _ _ _ _ _ _ (c .loop-test .left) (c .before .loop .inv .writes)
+returns c = write-end (c .before .loop .inv) (c .loop-test .left)
 
 pub write-back-spec : {M : Type 1} → statement M
 write-back-spec =

@@ -1,4 +1,4 @@
--- Each arm spells the answer of its case, beside the words of the header.
+-- Each arm spells the answer of its case, beside the words of the header (`answer-told`).
 use mathlib.Core.Path.{_∙_}
 use borrow.Author.Needs.{needs}
 use Rattle.unit_c.proofs.Told.{answer-told}
@@ -12,9 +12,8 @@ returns c =
 
 returns-2 : tie.Need-returns-2
 returns-2 c =
-    let after-enum-told = c .before in
-    let after-words-of = after-enum-told .before .before in
-    c .accepted .ensures ∙ answer-told (after-words-of .words-of .ensures) (after-enum-told .enum-told .given .1)
+    let after-words-of = c .before .before .before in
+    c .accepted .ensures ∙ answer-told (after-words-of .words-of .ensures) (c .before .enum-told .given .1)
 
 returns-3 : tie.Need-returns-3
 returns-3 c =

@@ -1,4 +1,4 @@
--- The header that C's words stand for meets the contract of aim; C is told the words of what that hands back.
+-- The header that C's words stand for meets the contract of aim; C is told the words of what that hands back (`alone-told`).
 use borrow.Author.Needs.{needs}
 use Rattle.unit_c.proofs.Told.{alone-told}
 use Rattle.unit_c.proofs.unit_aim.Statement.{statement}

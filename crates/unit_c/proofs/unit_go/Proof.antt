@@ -1,4 +1,4 @@
--- The header that C's words stand for meets the contract of go; C is told the words of what that hands back.
+-- The header that C's words stand for meets the contract of go; C is told the words of what that hands back (`call-told`).
 use borrow.Author.Needs.{needs}
 use Rattle.unit_c.proofs.Told.{call-told}
 use Rattle.unit_c.proofs.unit_go.Statement.{statement}

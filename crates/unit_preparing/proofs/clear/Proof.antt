@@ -1,4 +1,4 @@
--- Each area is filled by its own call, and no call touches another.
+-- Each area is filled by its own call, and no call touches another, so all are zeros (`alike-same`).
 use Rattle.unit_preparing.proofs.Areas.{alike-same}
 use borrow.Author.Needs.{needs}
 use Rattle.unit_preparing.proofs.clear.Statement.{statement}

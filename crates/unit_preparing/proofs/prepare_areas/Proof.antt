@@ -1,5 +1,5 @@
--- The two bodies are sound and have the card's map, so ranks and contraction are that map's. Where its pairs do not fit, all areas have
--- their lengths still and become zeros; where they fit, each of the others is filled by its own call.
+-- The two bodies are sound and have the card's map (`bodies`), so ranks and contraction are that map's. Where its pairs do not fit, all
+-- areas have their lengths still and become zeros (`no-room`); where they fit, each of the others is filled by its own call (`with-room`).
 use mathlib.Core.Path.{refl}
 use native.Mathlib.Omega.{arith}
 use Rattle.model.specs.Areas.{Areas}
@@ -11,21 +11,18 @@ use borrow.Author.Needs.{needs}
 use Rattle.unit_preparing.proofs.prepare_areas.Statement.{statement}
 use Rattle.unit_preparing.proofs.prepare_areas.Tie as tie
 
--- ---- the call, the areas that it was lent, and the bodies once both were handed on
-
-abbrev start : tie.After-slice-known6 → tie.Start
-start c =
-    let entry = c .before .before .before .before .before .before .before in
-    entry
+-- ---- the areas that were lent, and the two bodies of the card
 
 abbrev areas : tie.Start → Areas
 areas c = let a = c .args in held (a .ranks) (a .pairs) (a .live) (a .down) (a .estimates) (a .elapsed)
 
-bodies : (c : tie.After-order-of) →
-    let s = start (c .before .before) in
+abbrev start : tie.After-roads-of → tie.Start
+start c = c .before .before .before .before .before .before .before .before
+
+bodies : (c : tie.After-order-of) → let s = start (c .before) in
     Bodies (s .args .card .now) (s .args .s) (areas s) (c .before .roads-of .result .now) (c .order-of .result .now)
 bodies c = record {
-  accepts = start (c .before .before) .pre;
+  accepts = start (c .before) .pre;
   roads-here = c .before .roads-of .ensures;
   order-here = c .order-of .ensures;
 }
@@ -33,10 +30,12 @@ bodies c = record {
 -- ---- what the callees ask
 
 roads-of-requires : tie.Need-roads-of-requires
-roads-of-requires c κs = omega (arith, card-size (start c .pre))
+roads-of-requires c κs =
+    let start = c .before .before .before .before .before .before .before in
+    omega (arith, card-size (start .pre))
 
 order-of-requires : tie.Need-order-of-requires
-order-of-requires c κs = omega (arith, card-size (start (c .before) .pre))
+order-of-requires c κs = omega (arith, card-size (start c .pre))
 
 fill-ranks-requires : tie.Need-fill-ranks-requires
 fill-ranks-requires c κs = let b = bodies (c .before) in ((_, sound b), order-long b)
@@ -45,35 +44,42 @@ contract-requires : tie.Need-contract-requires
 contract-requires c κs =
     let after-fill-ranks = c .before .before .before .before in
     let after-order-of = after-fill-ranks .before .before in
-    let after-roads-of = after-order-of .before in
     let b = bodies after-order-of in
-    (sound b, after-fill-ranks .fill-ranks .ensures (after-roads-of .roads-of .result .now), sized (b .accepts) .pairs-high)
+    (sound b, after-fill-ranks .fill-ranks .ensures (after-order-of .before .roads-of .result .now), sized (b .accepts) .pairs-high)
+
+-- ---- once the pairs are contracted
+
+abbrev after-fill-ranks : tie.After-contract → tie.After-fill-ranks
+after-fill-ranks c = c .before .before .before .before .before
+
+abbrev after-order-of : tie.After-contract → tie.After-order-of
+after-order-of c = after-fill-ranks c .before .before
 
 fill-live-requires : tie.Need-fill-live-requires
 fill-live-requires c κs =
-    let after-fill-ranks = c .before .before .before .before .before .before .before .before .before .before .before in
-    let after-order-of = after-fill-ranks .before .before in
-    roads-long (bodies after-order-of)
+    let after-contract = c .before .before .before .before .before .before in
+    roads-long (bodies (after-order-of after-contract))
 
--- ---- the two ends
-
+-- they do not fit
 returns : tie.Need-returns
 returns c =
     let after-clear = c .before .before .before .before .before .before .before .before .before .before .before .before in
     let after-enum-told = after-clear .before .before .before .before .before .before .before in
     let after-contract = after-enum-told .before .before .before .before in
-    let after-fill-ranks = after-contract .before .before .before .before .before in
-    let after-order-of = after-fill-ranks .before .before in
-    no-room (bodies after-order-of) (after-contract .contract .ensures) (after-enum-told .enum-told .given .1)
-    (alike-same (record {
-      ranks = after-fill-ranks .fill-ranks .kept .1 .0;
-      pairs = after-contract .contract .kept .1 .1 .1 .0;
+    let (_, (ranks-kept, _)) = after-fill-ranks after-contract .fill-ranks .kept in
+    let (_, (_, (_, (pairs-kept, _)))) = after-contract .contract .kept in
+    let lengths-kept = alike-same (record {
+      ranks = ranks-kept;
+      pairs = pairs-kept;
       live = refl;
       down = refl;
       estimates = refl;
       elapsed = refl;
-    })) (after-clear .clear .ensures)
+    }) in
+    no-room (bodies (after-order-of after-contract)) (after-contract .contract .ensures) (after-enum-told .enum-told .given .1)
+    lengths-kept (after-clear .clear .ensures)
 
+-- they fit
 returns-2 : tie.Need-returns-2
 returns-2 c =
     let after-fill3 = c .before .before in
@@ -82,14 +88,12 @@ returns-2 c =
     let after-fill-live = after-fill .before .before .before .before in
     let after-count = after-fill-live .before .before .before in
     let after-contract = after-count .before .before .before .before in
-    let after-fill-ranks = after-contract .before .before .before .before .before in
-    let after-order-of = after-fill-ranks .before .before in
-    let after-roads-of = after-order-of .before in
-    let b = bodies after-order-of in
-    let ranks-are = after-fill-ranks .fill-ranks .ensures (after-roads-of .roads-of .result .now) in
-    let room-is = after-contract .contract .kept .1 .1 .1 .0 in
-    let made = contraction-prepared (sound b) ranks-are room-is (after-count .count .given .1) (after-contract .contract .ensures) in
-    with-room b made room-is (after-fill-live .fill-live .ensures) (after-fill .fill .ensures) (after-fill2 .fill2 .ensures)
+    let after-roads-of = after-order-of after-contract .before in
+    let b = bodies (after-order-of after-contract) in
+    let ranks-are = after-fill-ranks after-contract .fill-ranks .ensures (after-roads-of .roads-of .result .now) in
+    let (_, (_, (_, (pairs-kept, _)))) = after-contract .contract .kept in
+    let made = contraction-prepared (sound b) ranks-are pairs-kept (after-count .count .given .1) (after-contract .contract .ensures) in
+    with-room b made pairs-kept (after-fill-live .fill-live .ensures) (after-fill .fill .ensures) (after-fill2 .fill2 .ensures)
     (after-fill3 .fill3 .ensures)
 
 pub prepare-areas-spec : {M : Type 1} → statement M

@@ -1,4 +1,4 @@
--- The words from the place on spell the call.
+-- The four words from the place on spell the call (`call-there`).
 use Rattle.unit_script.proofs.Words.{call-there}
 use borrow.Author.Needs.{needs}
 use Rattle.unit_script.proofs.call_at.Statement.{statement}
@@ -10,8 +10,9 @@ returns c =
     let after-word-at2 = after-word-at3 .before in
     let after-word-at = after-word-at2 .before in
     let start = after-word-at .before .before in
-    call-there (start .args .script .now) (start .args .at) _ _ _ _ _ _ _ (after-word-at .word-at .ensures)
-    (after-word-at2 .word-at2 .ensures) (after-word-at3 .word-at3 .ensures) (c .before .word-at4 .ensures) (c .spell .ensures)
+    let a = start .args in
+    call-there (a .script .now) (a .at) (a .route) (a .log) (after-word-at .word-at .ensures) (after-word-at2 .word-at2 .ensures)
+    (after-word-at3 .word-at3 .ensures) (c .before .word-at4 .ensures) (c .spell .ensures)
 
 pub call-at-spec : {M : Type 1} → statement M
 call-at-spec =

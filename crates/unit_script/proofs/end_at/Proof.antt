@@ -1,21 +1,22 @@
--- The call stands whole if as many words as its kind has are left.
+-- The call stands whole if as many words as its kind has are left (`stands-whole`, `cut-short`).
 use Rattle.unit_script.proofs.Words.{cut-short, stands-whole}
 use borrow.Author.Needs.{needs}
 use Rattle.unit_script.proofs.end_at.Statement.{statement}
 use Rattle.unit_script.proofs.end_at.Tie as tie
 
+abbrev start : tie.After-words-of → tie.Start
+start c = c .before .before .before
+
 returns : tie.Need-returns
 returns c =
-    let after-word-at = c .before .before in
-    let start = after-word-at .before .before in
-    stands-whole (start .args .script .now) (start .args .at) _ _ (after-word-at .word-at .ensures) (c .before .words-of .ensures)
+    let start = start (c .before) in
+    stands-whole (start .args .script .now) (start .args .at) (c .before .before .word-at .ensures) (c .before .words-of .ensures)
     (start .pre) (c .if1 .taken)
 
 returns-2 : tie.Need-returns-2
 returns-2 c =
-    let after-word-at = c .before .before in
-    let start = after-word-at .before .before in
-    cut-short (start .args .script .now) (start .args .at) _ _ (after-word-at .word-at .ensures) (c .before .words-of .ensures)
+    let start = start (c .before) in
+    cut-short (start .args .script .now) (start .args .at) (c .before .before .word-at .ensures) (c .before .words-of .ensures)
     (start .pre) (c .if1 .left)
 
 pub end-at-spec : {M : Type 1} → statement M

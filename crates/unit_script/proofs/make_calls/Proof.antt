@@ -1,15 +1,14 @@
 -- Each turn makes the call that stands at a place of the script, writes its answer behind those before it, and goes on where the call ends.
--- So the calls made and those from the place on are always the calls of the script, and at the end none is left.
-use mathlib.Core.Path.{_∙_, sym}
-use Prim.Native.Nat.{_-_}
+-- So the calls made and those from the place on are always the calls of the script (`Run`), and at the end none is left (`run-end`).
+use mathlib.Core.Path.{_∙_, _≡_, sym}
+use mathlib.Core.Bool.{true}
+use Prim.Native.Nat.{_-_, _<_}
 use native.Mathlib.Omega.{arith}
 use Rattle.model.specs.Areas.{areasOf}
 use Rattle.unit_questions.specs.Lending.{lentOf}
-use Rattle.unit.specs.Shape.{answeredIn, headerIn}
-use Rattle.unit_script.specs.Words.{scriptedIn}
-use Rattle.unit_script.specs.Script.{holding}
-use Rattle.unit_script.proofs.Words.{call-fits, ends-within}
-use Rattle.unit_script.proofs.Scripts.{AtTurn, next-fits, run-end, run-turn, turn-start}
+use Rattle.unit.specs.Shape.{headerIn}
+use Rattle.unit_script.specs.Script.{holding, isNext}
+use Rattle.unit_script.proofs.Scripts.{AtTurn, run-end, run-turn, turn-ends, turn-fits, turn-room, turn-start}
 use Rattle.unit_script.proofs.make_calls.Statement.{statement}
 use Rattle.unit_script.proofs.make_calls.Tie as tie
 
@@ -23,104 +22,83 @@ abbrev μ-loop : tie.MeasureT-loop
 μ-loop card ranks pairs live₀ down₀ estimates₀ elapsed₀ route₀ log₀ script out₀ room h₀ at₀ k₀
     live down estimates elapsed route log out h at k = room - k
 
-loop-holds : tie.Need-loop-holds Inv-loop μ-loop
-loop-holds c = turn-start _
+-- ---- where a call is next
 
-is-next-requires : tie.Need-is-next-requires Inv-loop μ-loop
-is-next-requires c κs = c .loop .inv .within
+abbrev start : tie.At-loop Inv-loop μ-loop → tie.Start Inv-loop μ-loop
+start c = c .before .before .before .before .before .before .before .before .before .before .before .before .before
 
-call-at-requires : tie.Need-call-at-requires Inv-loop μ-loop
-call-at-requires c κs =
+next-is : (c : tie.Then1 Inv-loop μ-loop) →
     let at-loop = c .before .before in
-    at-loop .loop .inv .within
+    isNext (start at-loop .args .script .now) (at-loop .loop .at) (at-loop .loop .k) (at-loop .before .room-in .result) ≡ true
+next-is c = sym (c .before .is-next .ensures) ∙ c .if1 .taken
+
+room-left : (c : tie.Then1 Inv-loop μ-loop) →
+    let at-loop = c .before .before in
+    at-loop .loop .k < at-loop .before .room-in .result
+room-left c = let at-loop = c .before .before in turn-room (at-loop .loop .inv) (next-is c)
+
+-- ---- where it was made
+
+abbrev after-make-call : tie.After-put-answer-arg Inv-loop μ-loop → tie.After-make-call Inv-loop μ-loop
+after-make-call c = c .before .before .before .before .before .before .before .before .before .before .before .before .before .before
+
+abbrev after-call-at : tie.After-put-answer-arg Inv-loop μ-loop → tie.After-call-at Inv-loop μ-loop
+after-call-at c = after-make-call c .before .before .before .before .before .before .before
+
+abbrev then1 : tie.After-put-answer-arg Inv-loop μ-loop → tie.Then1 Inv-loop μ-loop
+then1 c = after-call-at c .before
+
+abbrev at-loop : tie.After-put-answer-arg Inv-loop μ-loop → tie.At-loop Inv-loop μ-loop
+at-loop c = then1 c .before .before
+
+-- ---- the answers
 
 make-call-requires : tie.Need-make-call-requires Inv-loop μ-loop
 make-call-requires c κs =
     let after-call-at = c .before .before .before .before .before .before in
     let at-loop = after-call-at .before .before .before in
-    let after-shared-slice-known2 = at-loop .before .before .before .before .before .before .before .before .before .before .before in
-    let start = after-shared-slice-known2 .before .before in
-    call-fits (start .args .script .now) (at-loop .loop .at) _ _ _ (after-call-at .call-at .ensures)
+    turn-fits (at-loop .loop .inv) (after-call-at .call-at .ensures)
 
 put-answer-requires : tie.Need-put-answer-requires Inv-loop μ-loop
 put-answer-requires c κs =
-    let after-down = c .before .before .before .before .before .before .before .before .before .before .before in
-    let then1 = after-down .before .before .before .before .before .before .before .before .before .before .before in
-    let after-is-next = then1 .before in
-    let at-loop = after-is-next .before in
-    let after-room-in = at-loop .before in
-    omega (
-      arith,
-      next-fits (at-loop .loop .k) (after-room-in .room-in .result) _ (sym (after-is-next .is-next .ensures) ∙ then1 .if1 .taken),
-      at-loop .loop .inv .words,
-      after-room-in .room-in .ensures,
-    )
+    omega (arith, room-left (then1 c), at-loop c .loop .inv .words, at-loop c .before .room-in .ensures)
 
 end-at-requires : tie.Need-end-at-requires Inv-loop μ-loop
-end-at-requires c κs =
-    let after-estimates = c .before .before .before .before .before .before .before .before .before .before .before .before in
-    let after-call-at = after-estimates .before .before .before .before .before .before .before .before .before .before .before .before in
-    let at-loop = after-call-at .before .before .before in
-    at-loop .loop .inv .within
+end-at-requires c κs = let at-put = c .before .before .before in at-loop at-put .loop .inv .within
 
 add-k : tie.Need-add-k Inv-loop μ-loop
 add-k c =
-    let after-elapsed = c .before .before .before .before .before .before .before .before .before .before .before in
-    let after-make-call = after-elapsed .before .before .before .before .before .before .before in
-    let then1 = after-make-call .before .before .before .before .before .before .before .before in
-    let after-is-next = then1 .before in
-    let at-loop = after-is-next .before in
-    let after-room-in = at-loop .before in
-    omega (
-      arith,
-      next-fits (at-loop .loop .k) (after-room-in .room-in .result) _ (sym (after-is-next .is-next .ensures) ∙ then1 .if1 .taken),
-      after-room-in .room-in .ok,
-    )
+    let at-put = c .before .before .before .before in
+    omega (arith, room-left (then1 at-put), at-loop at-put .before .room-in .ok)
 
 loop-less : tie.Need-loop-less Inv-loop μ-loop
-loop-less c =
-    let after-elapsed = c .before .before .before .before .before .before .before .before .before .before .before in
-    let after-make-call = after-elapsed .before .before .before .before .before .before .before in
-    let then1 = after-make-call .before .before .before .before .before .before .before .before in
-    let after-is-next = then1 .before in
-    let at-loop = after-is-next .before in
-    let after-room-in = at-loop .before in
-    omega (
-      arith,
-      next-fits (at-loop .loop .k) (after-room-in .room-in .result) _ (sym (after-is-next .is-next .ensures) ∙ then1 .if1 .taken),
-    )
+loop-less c = let at-put = c .before .before .before .before in omega (arith, room-left (then1 at-put))
 
 loop-again : tie.Need-loop-again Inv-loop μ-loop
 loop-again c =
     let after-put-answer = c .before .before .before in
-    let after-down = after-put-answer .before .before .before .before .before .before .before .before .before .before .before .before in
-    let after-make-call = after-down .before .before .before in
-    let after-call-at = after-make-call .before .before .before .before .before .before .before in
-    let then1 = after-call-at .before in
-    let after-is-next = then1 .before in
-    let at-loop = after-is-next .before in
-    let after-shared-slice-known2 = at-loop .before .before .before .before .before .before .before .before .before .before .before in
-    let start = after-shared-slice-known2 .before .before in
+    let at-put = after-put-answer .before in
+    let make-call = after-make-call at-put .make-call in
+    let inv = at-loop at-put .loop .inv in
+    let (_, (_, (_, (_, (live-kept, (down-kept, (estimates-kept, (elapsed-kept, (route-kept, (log-kept, _)))))))))) = make-call .kept in
+    let (words-kept, _) = after-put-answer .put-answer .kept in
     record {
-      within = ends-within (start .args .script .now) (at-loop .loop .at) _ (at-loop .loop .inv .within) (c .end-at .ensures);
-      live = after-make-call .make-call .kept .1 .1 .1 .1 .0 ∙ at-loop .loop .inv .live;
-      down = after-make-call .make-call .kept .1 .1 .1 .1 .1 .0 ∙ at-loop .loop .inv .down;
-      estimates = after-make-call .make-call .kept .1 .1 .1 .1 .1 .1 .0 ∙ at-loop .loop .inv .estimates;
-      elapsed = after-make-call .make-call .kept .1 .1 .1 .1 .1 .1 .1 .0 ∙ at-loop .loop .inv .elapsed;
-      route = after-make-call .make-call .kept .1 .1 .1 .1 .1 .1 .1 .1 .0 ∙ at-loop .loop .inv .route;
-      log = after-make-call .make-call .kept .1 .1 .1 .1 .1 .1 .1 .1 .1 .0 ∙ at-loop .loop .inv .log;
-      words = after-put-answer .put-answer .kept .0 ∙ at-loop .loop .inv .words;
-      run = run-turn (at-loop .loop .inv .run) (sym (after-is-next .is-next .ensures) ∙ then1 .if1 .taken)
-          (scriptedIn (after-call-at .call-at .result)) (answeredIn (after-make-call .make-call .result))
-          (at-loop .loop .inv .route) (at-loop .loop .inv .log) (after-call-at .call-at .ensures) (c .end-at .ensures)
-          (after-make-call .make-call .ensures) (after-put-answer .put-answer .ensures);
+      within = turn-ends inv (c .end-at .ensures);
+      live = live-kept ∙ inv .live;
+      down = down-kept ∙ inv .down;
+      estimates = estimates-kept ∙ inv .estimates;
+      elapsed = elapsed-kept ∙ inv .elapsed;
+      route = route-kept ∙ inv .route;
+      log = log-kept ∙ inv .log;
+      words = words-kept ∙ inv .words;
+      run = run-turn (inv .run) (next-is (then1 at-put)) (inv .route) (inv .log) (after-call-at at-put .call-at .ensures)
+          (c .end-at .ensures) (make-call .ensures) (after-put-answer .put-answer .ensures);
     }
 
 returns : tie.Need-returns Inv-loop μ-loop
 returns c =
     let at-loop = c .before .before in
-    let after-room-in = at-loop .before in
-    run-end (at-loop .loop .inv .run) (after-room-in .room-in .ensures) (sym (c .before .is-next .ensures) ∙ c .if1 .left)
+    run-end (at-loop .loop .inv .run) (at-loop .before .room-in .ensures) (sym (c .before .is-next .ensures) ∙ c .if1 .left)
 
 pub make-calls-spec : {M : Type 1} → statement M
 make-calls-spec =
@@ -129,34 +107,20 @@ make-calls-spec =
     Inv-loop
     μ-loop
     (λ c κs. tt)
-    loop-holds
-    is-next-requires
-    call-at-requires
+    (λ c. turn-start)
+    (λ c κs. c .loop .inv .within)
+    (λ c κs. c .before .before .loop .inv .within)
     make-call-requires
     put-answer-requires
     end-at-requires
     add-k
     loop-less
     loop-again
-    (λ c.
-    let at-loop = c .before .before in
-    at-loop .loop .inv .live)
-    (λ c.
-    let at-loop = c .before .before in
-    at-loop .loop .inv .down)
-    (λ c.
-    let at-loop = c .before .before in
-    at-loop .loop .inv .estimates)
-    (λ c.
-    let at-loop = c .before .before in
-    at-loop .loop .inv .elapsed)
-    (λ c.
-    let at-loop = c .before .before in
-    at-loop .loop .inv .route)
-    (λ c.
-    let at-loop = c .before .before in
-    at-loop .loop .inv .log)
-    (λ c.
-    let at-loop = c .before .before in
-    at-loop .loop .inv .words)
+    (λ c. c .before .before .loop .inv .live)
+    (λ c. c .before .before .loop .inv .down)
+    (λ c. c .before .before .loop .inv .estimates)
+    (λ c. c .before .before .loop .inv .elapsed)
+    (λ c. c .before .before .loop .inv .route)
+    (λ c. c .before .before .loop .inv .log)
+    (λ c. c .before .before .loop .inv .words)
     returns)

@@ -1,6 +1,5 @@
--- In each case the four words are those of the answer.
+-- In each case the four words that are put are those of the answer (`put-told`).
 use mathlib.Core.Path.{ap, sym}
-use Rattle.model.specs.Types as model
 use Rattle.unit_answers.specs.Shape.{answerIn}
 use Rattle.unit_script.specs.Words.{answerWords}
 use Rattle.unit_script.proofs.Words.{estimated-words, put-told}
@@ -13,7 +12,7 @@ returns c =
     let after-put-four = c .before .before in
     let after-x = after-put-four .before .before .before .before .before in
     let start = after-x .before .before .before in
-    put-told (start .args .out .now) _ _ _ (start .args .k) (after-put-four .put-four .ensures)
+    put-told (start .args .out .now) (start .args .k) (after-put-four .put-four .ensures)
     (ap answerWords (ap answerIn (sym (after-x .x .given .1))))
 
 returns-2 : tie.Need-returns-2
@@ -21,7 +20,7 @@ returns-2 c =
     let after-put-four2 = c .before .before in
     let after-enum-told = after-put-four2 .before .before in
     let start = after-enum-told .before .before .before in
-    put-told (start .args .out .now) _ _ _ (start .args .k) (after-put-four2 .put-four2 .ensures)
+    put-told (start .args .out .now) (start .args .k) (after-put-four2 .put-four2 .ensures)
     (ap answerWords (ap answerIn (sym (after-enum-told .enum-told .given .1))))
 
 returns-3 : tie.Need-returns-3
@@ -30,15 +29,15 @@ returns-3 c =
     let after-word = after-put-four3 .before in
     let after-x2 = after-word .before .before .before in
     let start = after-x2 .before .before .before in
-    put-told (start .args .out .now) _ _ _ (start .args .k) (after-put-four3 .put-four3 .ensures)
-    (estimated-words _ _ (answerIn (start .args .x)) (after-word .word .ensures) (ap answerIn (after-x2 .x2 .given .1)))
+    put-told (start .args .out .now) (start .args .k) (after-put-four3 .put-four3 .ensures)
+    (estimated-words (after-word .word .ensures) (ap answerIn (after-x2 .x2 .given .1)))
 
 returns-4 : tie.Need-returns-4
 returns-4 c =
     let after-put-four4 = c .before .before in
     let after-x3 = after-put-four4 .before .before .before in
     let start = after-x3 .before .before .before in
-    put-told (start .args .out .now) _ _ _ (start .args .k) (after-put-four4 .put-four4 .ensures)
+    put-told (start .args .out .now) (start .args .k) (after-put-four4 .put-four4 .ensures)
     (ap answerWords (ap answerIn (sym (after-x3 .x3 .given .1))))
 
 pub put-answer-spec : {M : Type 1} → statement M

@@ -1,4 +1,4 @@
--- Four writes one behind the other are those four words in the place of what stood there.
+-- Four writes one behind the other are those four words in the place of what stood there (`four-stored`).
 use lib.ListN.{length-set}
 use native.Mathlib.Omega.{arith}
 use Rattle.unit_script.proofs.Words.{four-stored}
@@ -16,7 +16,7 @@ slice-write-out-4 : tie.Need-slice-write-out-4
 slice-write-out-4 c = simp length-set (omega arith)
 
 returns : tie.Need-returns
-returns c = four-stored (c .args .out .now) (c .args .k) _ _ _ _ (search needs)
+returns c = let a = c .args in four-stored (a .out .now) (a .k) (a .one) (a .two) (a .three) (a .four) (search needs)
 
 pub put-four-spec : {M : Type 1} → statement M
 put-four-spec =

@@ -1,4 +1,4 @@
--- The calls are made from what preparing left, so its contract and that of `make_calls` are all that is needed.
+-- The calls are made from what preparing left, so its contract and that of `make_calls` are all that is needed (`replay-made`).
 use mathlib.Core.Path.{refl}
 use Rattle.unit.specs.Shape.{answeredIn}
 use Rattle.unit_script.proofs.Scripts.{replay-made}
@@ -6,24 +6,27 @@ use borrow.Author.Needs.{needs}
 use Rattle.unit_script.proofs.replay.Statement.{statement}
 use Rattle.unit_script.proofs.replay.Tie as tie
 
+-- ---- where the calls have been made, and where the card was prepared
+
+abbrev after-make-calls : tie.After-slice-known22 → tie.After-make-calls
+after-make-calls c = c .before .before .before .before .before .before .before .before .before .before .before .before .before .before
+
+abbrev after-header : tie.After-make-calls → tie.After-header
+after-header c = c .before .before .before .before .before .before .before .before .before .before
+
+abbrev after-prepare : tie.After-header → tie.After-prepare
+after-prepare c = c .before .before .before .before .before .before .before .before .before .before .before .before .before
+
 same-length : tie.Need-same-length
 same-length c =
-    let after-down2 = c .before .before .before .before .before .before .before .before .before .before .before in
-    let after-make-calls = after-down2 .before .before .before in
-    let after-header = after-make-calls .before .before .before .before .before .before .before .before .before .before in
-    let after-ranks = after-header .before .before .before .before .before .before .before .before .before .before .before .before in
-    let after-prepare = after-ranks .before in
-    after-prepare .prepare .kept .1 .0
+    let (_, (ranks-kept, _)) = after-prepare (after-header (after-make-calls c)) .prepare .kept in
+    ranks-kept
 
 returns : tie.Need-returns
 returns c =
-    let after-down2 = c .before .before .before .before .before .before .before .before .before .before .before in
-    let after-make-calls = after-down2 .before .before .before in
-    let after-header = after-make-calls .before .before .before .before .before .before .before .before .before .before in
-    let after-ranks = after-header .before .before .before .before .before .before .before .before .before .before .before .before in
-    let after-prepare = after-ranks .before in
-    replay-made _ _ _ _ _ _ (answeredIn (after-prepare .prepare .result)) _ (after-prepare .prepare .ensures) refl
-    (after-make-calls .make-calls .ensures)
+    let made = after-make-calls c .make-calls in
+    let prepared = after-prepare (after-header (after-make-calls c)) .prepare in
+    replay-made (answeredIn (prepared .result)) (prepared .ensures) refl (made .ensures)
 
 pub replay-spec : {M : Type 1} → statement M
 replay-spec =

@@ -1,4 +1,4 @@
--- A kind that is none of the four has no words.
+-- Each of the four kinds has its words; a kind that is none of them has none (`none-of`).
 use Rattle.unit_script.proofs.Words.{none-of}
 use borrow.Author.Needs.{needs}
 use Rattle.unit_script.proofs.words_of.Statement.{statement}
@@ -8,7 +8,7 @@ returns-5 : tie.Need-returns-5
 returns-5 c =
     let else2 = c .before .before in
     let else1 = else2 .before in
-    none-of _ (else1 .if1 .left) (else2 .if2 .left) (c .before .if3 .left) (c .if4 .left)
+    none-of (else1 .if1 .left) (else2 .if2 .left) (c .before .if3 .left) (c .if4 .left)
 
 pub words-of-spec : {M : Type 1} → statement M
 words-of-spec =

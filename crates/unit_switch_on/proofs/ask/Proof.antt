@@ -1,35 +1,42 @@
--- A card that is not read is refused by its first question that says no; of one that is read the lengths are asked, by its numbers.
-use mathlib.Core.Path.{_∙_, ap, sym}
+-- A card that is not read is refused by its first question that says no (`asked-unread`); of one that is read the lengths are asked, by its
+-- numbers (`asked-passes`, `asked-7`).
+use mathlib.Core.Path.{_∙_, _≡_, ap, sym}
+use mathlib.Core.List.{List}
+use Prim.Native.Nat.{ℕ}
+use Rattle.model.specs.Card.{readCard}
 use Rattle.card.specs.Answers.{readingIn}
+use Rattle.card.specs.declared.Reading.{Reading}
 use Rattle.unit_switch_on.proofs.Prepares.{asked-7, asked-passes, asked-unread}
 use borrow.Author.Needs.{needs}
 use Rattle.unit_switch_on.proofs.ask.Statement.{statement}
 use Rattle.unit_switch_on.proofs.ask.Tie as tie
 
+-- ---- what the reader said of the card
+
+abbrev card : tie.After-read → List ℕ
+card c = let start = c .before .before in start .args .card .now
+
+said : (c : tie.After-read) {x : Reading} → c .read .result ≡ x → readingIn x ≡ readCard (card c)
+said c e = ap readingIn (sym e) ∙ c .read .ensures
+
+-- ---- the answers
+
 returns : tie.Need-returns
-returns c =
-    let after-q = c .before in
-    let after-read = after-q .before .before in
-    let start = after-read .before .before in
-    λ a e. asked-unread (start .args .card .now) a (ap readingIn (sym (after-q .q .given .1)) ∙ after-read .read .ensures)
+returns c a e =
+    let after-read = c .before .before .before in
+    asked-unread (card after-read) a (said after-read (c .before .q .given .1))
 
 returns-2 : tie.Need-returns-2
-returns-2 c =
-    let after-lengths-fit = c .before in
-    let after-n = after-lengths-fit .before .before in
+returns-2 c a e =
+    let after-n = c .before .before .before in
     let after-read = after-n .before .before in
-    let start = after-read .before .before in
-    λ a e. asked-passes (start .args .card .now) a (ap readingIn (sym (after-n .n .given .1)) ∙ after-read .read .ensures) e
-    (after-lengths-fit .lengths-fit .ensures) (c .if1 .taken)
+    asked-passes (card after-read) a (said after-read (after-n .n .given .1)) e (c .before .lengths-fit .ensures) (c .if1 .taken)
 
 returns-3 : tie.Need-returns-3
-returns-3 c =
-    let after-lengths-fit = c .before in
-    let after-n = after-lengths-fit .before .before in
+returns-3 c a e =
+    let after-n = c .before .before .before in
     let after-read = after-n .before .before in
-    let start = after-read .before .before in
-    λ a e. asked-7 (start .args .card .now) a (ap readingIn (sym (after-n .n .given .1)) ∙ after-read .read .ensures) e
-    (after-lengths-fit .lengths-fit .ensures) (c .if1 .left)
+    asked-7 (card after-read) a (said after-read (after-n .n .given .1)) e (c .before .lengths-fit .ensures) (c .if1 .left)
 
 pub ask-spec : {M : Type 1} → statement M
 ask-spec =

@@ -1,27 +1,27 @@
--- Questions 1 to 7 are asked of the lengths that the areas have. What they refuse leaves the areas as they were; what passes them is left
--- to `prepare_areas`, and its answer is handed back.
-use mathlib.Core.Path.{subst}
+-- Questions 1 to 7 are asked of the lengths that the areas have. What they refuse leaves the areas as they were (`prepare-refused`); what
+-- passes them is left to `prepare_areas`, and its answer is handed back (`prepare-made`).
+use mathlib.Core.Path.{_≡_, subst}
 use Rattle.model.specs.Areas.{Areas}
 use Rattle.unit_preparing.specs.Preparing.{held}
+use Rattle.unit_switch_on.specs.declared.Asked.{Asked}
 use Rattle.unit_switch_on.specs.Asking.{Says}
 use Rattle.unit_switch_on.proofs.Prepares.{prepare-made, prepare-refused}
 use borrow.Author.Needs.{needs}
 use Rattle.unit_switch_on.proofs.prepare.Statement.{statement}
 use Rattle.unit_switch_on.proofs.prepare.Tie as tie
 
--- ---- the call, the areas that it was lent, and what the questions said of them
-
-abbrev start : tie.After-ask → tie.Start
-start c =
-    let at-lengths-of = c .before .before .before .before .before .before .before .before in
-    let entry = at-lengths-of .before .before .before .before .before .before .before in
-    entry
+-- ---- the areas that were lent, and what the questions said of them
 
 abbrev areas : tie.Start → Areas
 areas c = let a = c .args in held (a .ranks) (a .pairs) (a .live) (a .down) (a .estimates) (a .elapsed)
 
-said : (c : tie.After-ask) → let s = start c in Says (s .args .card .now) (areas s) (c .ask .result)
-said c = c .ask .ensures (areas (start c)) (c .before .lengths-of .ensures)
+abbrev start : tie.After-ask → tie.Start
+start c = c .before .before .before .before .before .before .before .before .before .before .before .before .before .before .before
+
+said : (c : tie.After-ask) {x : Asked} → c .ask .result ≡ x → let s = start c in Says (s .args .card .now) (areas s) x
+said c e =
+    let s = start c in
+    subst (Says (s .args .card .now) (areas s)) e (c .ask .ensures (areas s) (c .before .lengths-of .ensures))
 
 -- ---- the two ways
 
@@ -30,22 +30,18 @@ returns c =
     let after-q = c .before .before in
     let after-ask = after-q .before .before in
     let s = start after-ask in
-    prepare-refused (s .args .card .now) (areas s) (subst (Says (s .args .card .now) (areas s)) (after-q .q .given .1) (said after-ask))
-    (c .unprepared .ensures)
+    prepare-refused (s .args .card .now) (areas s) (said after-ask (after-q .q .given .1)) (c .unprepared .ensures)
 
 prepare-areas-requires : tie.Need-prepare-areas-requires
 prepare-areas-requires c κs =
     let after-s = c .before .before .before .before .before .before .before in
-    let after-ask = after-s .before .before in
-    let s = start after-ask in
-    subst (Says (s .args .card .now) (areas s)) (after-s .s .given .1) (said after-ask)
+    said (after-s .before .before) (after-s .s .given .1)
 
 returns-2 : tie.Need-returns-2
 returns-2 c =
-    let after-ranks = c .before .before .before .before .before .before .before .before .before .before .before .before in
-    let after-prepare-areas = after-ranks .before in
-    let after-s = after-prepare-areas .before .before .before .before .before .before .before .before in
-    let s = start (after-s .before .before) in
+    let after-prepare-areas = c .before .before .before .before .before .before .before .before .before .before .before .before .before in
+    let after-ask = after-prepare-areas .before .before .before .before .before .before .before .before .before .before in
+    let s = start after-ask in
     prepare-made (s .args .card .now) (areas s) (c .prepared .ensures) (after-prepare-areas .prepare-areas .ensures)
 
 pub prepare-spec : {M : Type 1} → statement M

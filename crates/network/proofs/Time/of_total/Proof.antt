@@ -1,3 +1,4 @@
+-- A total below the marks is its own word; any other does not fit, and its word is none (`fit`).
 use borrow.Author.Tests.{le-ltb, lt-ltb}
 use borrow.Author.Needs.{needs}
 use Rattle.network.proofs.Time.of_total.Statement.{statement}

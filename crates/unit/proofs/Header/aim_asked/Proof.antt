@@ -1,4 +1,4 @@
--- 9, then 12: the code asks in the definition's order.
+-- 9, then 12: the code asks in the definition's order (`aim-asks`).
 use borrow.Author.Needs.{needs}
 use Rattle.model.specs.Types.{Lengths}
 use Rattle.unit_questions.specs.Lending.{lengthsIn}

@@ -1,80 +1,60 @@
--- A refusal leaves the areas as they were; otherwise the down totals are the callee's, and every estimate is unasked, as `made` has it.
-use mathlib.Core.Path.{_∙_, _≡_, ap, subst, sym}
-use mathlib.Core.Bool.{true}
-use mathlib.Core.Option.{none}
-use mathlib.Core.List.{List}
-use Prim.Native.Nat.{ℕ}
+-- A refusal leaves the areas as they were (`refused`); otherwise the down totals are the callee's, and every estimate is unasked
+-- (`aim-made`).
+use mathlib.Core.Path.{_∙_, sym}
 use borrow.Author.Needs.{needs}
-use lib.ListN.{length}
 use native.Mathlib.Omega.{arith}
-use Rattle.model.specs.Areas.{Aimed}
-use Rattle.model.specs.Aim.{aimRefusal}
-use Rattle.model.specs.Calls.{Aim, calling, knownOf}
-use Rattle.model.specs.Contracts.{CallContract, after, baseOn, before}
-use Rattle.unit_questions.specs.Lending.{fitsBy, lengthsIn}
-use Rattle.unit.specs.Shape.{answeredIn, headerIn}
-use Rattle.unit.specs.Meets.{withAimed}
-use Rattle.unit.proofs.Fitting.{fits-facts, order-sized, pairs-few}
-use Rattle.unit.proofs.Made.{aim-below, aim-made, passed, refused}
+use Rattle.model.specs.Calls.{Aim}
+use Rattle.model.specs.Contracts.{baseOn}
+use Rattle.unit_questions.specs.Lending.{lengthsIn}
+use Rattle.unit.proofs.Fitting.{order-sized, pairs-few}
+use Rattle.unit.proofs.Made.{CallPassed, aim-below, aim-made, call-passed, refused, same-aimed}
 use Rattle.unit.proofs.Header.aim_part.Statement.{statement}
 use Rattle.unit.proofs.Header.aim_part.Tie as tie
 
--- no question refuses
-known : (c : tie.After-enum-told) →
-    let start = c .before .before .before .before .before .before .before in
-    let a = start .args in
-    (fitsBy (headerIn (a .self)) (length (a .card .now)) (lengthsIn (a .l)) ≡ true)
-    × (aimRefusal (knownOf (baseOn (a .card .now)) (headerIn (a .self))) (a .j .0) ≡ none)
-known c =
+-- ---- no question refuses
+
+abbrev start : tie.After-aim-asked → tie.Start
+start c = c .before .before .before .before .before
+
+passed : (c : tie.After-enum-told) → let a = start (c .before .before) .args in
+    CallPassed (a .card .now) (a .self) (lengthsIn (a .l)) (Aim (a .j .0))
+passed c =
     let after-aim-asked = c .before .before in
-    let start = after-aim-asked .before .before .before .before .before in
-    let a = start .args in passed (c .enum-told .given .1) (after-aim-asked .aim-asked .ensures (baseOn (a .card .now)))
+    call-passed (c .enum-told .given .1) (after-aim-asked .aim-asked .ensures (baseOn (start after-aim-asked .args .card .now)))
+
+-- ---- the answers
 
 order-of-requires : tie.Need-order-of-requires
-order-of-requires c κs =
-    let start = c .before .before .before .before .before .before .before in
-    let a = start .args in
-    omega (arith, fits-facts (headerIn (a .self)) (length (a .card .now)) (lengthsIn (a .l)) (known c .0) .size)
+order-of-requires c κs = omega (arith, passed c .sizes .size)
 
 down-totals-requires : tie.Need-down-totals-requires
 down-totals-requires c κs =
-    let after-order-of = c .before in
-    let after-enum-told = after-order-of .before in
-    let start = after-enum-told .before .before .before .before .before .before .before in
-    let a = start .args in
-    let k = known after-enum-told in
-    let f = fits-facts (headerIn (a .self)) (length (a .card .now)) (lengthsIn (a .l)) (k .0) in (
-      aim-below (headerIn (a .self)) (baseOn (a .card .now)) (a .j .0) (k .1),
-      f .n-high,
-      order-sized (a .card .now) f (after-order-of .order-of .ensures),
-      sym (start .pre .1) ∙ f .lengths .down,
-      omega (arith, f .lengths .room, start .pre .0),
-      pairs-few f,
-    )
+    let after-enum-told = c .before .before in
+    let (pairs-are, down-is) = start (after-enum-told .before .before) .pre in
+    let p = passed after-enum-told in
+    let f = p .sizes in record {
+      target-in = aim-below p;
+      n-high = f .n-high;
+      order-is = order-sized f (c .before .order-of .ensures);
+      down-is = sym down-is ∙ f .lengths .down;
+      records-in = omega (arith, f .lengths .room, pairs-are);
+      count-high = pairs-few f;
+    }
 
 returns : tie.Need-returns
-returns c b w p u k =
+returns c b lengths-are pairs-are aimed-is k =
     let after-q = c .before .before in
     let after-aim-asked = after-q .before .before in
-    let start = after-aim-asked .before .before .before .before .before in
-    let a = start .args in
-    subst (λ (z : Aimed (List ℕ)). CallContract (a .card .now) (before (headerIn (a .self)) b) (calling (Aim (a .j .0)) k)
-    (after (answeredIn (c .answered .result)) (withAimed b (z .down) (z .estimates)) k)) u
-    (refused (a .card .now) (a .self) b (Aim (a .j .0)) k w (after-q .q .given .1)
-    (after-aim-asked .aim-asked .ensures (baseOn (a .card .now))) (c .answered .ensures))
+    let says = after-aim-asked .aim-asked .ensures (baseOn (start after-aim-asked .args .card .now)) in
+    same-aimed (refused lengths-are (after-q .q .given .1) says (c .answered .ensures)) aimed-is
 
 returns-2 : tie.Need-returns-2
-returns-2 c b w p u k =
+returns-2 c b lengths-are pairs-are aimed-is k =
     let after-fill = c .before .before .before in
     let after-down-totals = after-fill .before .before .before .before in
     let after-order-of = after-down-totals .before .before in
-    let after-enum-told = after-order-of .before in
-    let start = after-enum-told .before .before .before .before .before .before .before in
-    let a = start .args in
-    let q = known after-enum-told in
-    aim-made (a .card .now) (a .self) (a .j .0) b k w (q .0) (q .1) p u (after-order-of .order-of .ensures)
-    (after-down-totals .down-totals .ensures)
-    (after-fill .fill .ensures) (c .answering .result) (ap answeredIn (c .answering .ensures))
+    aim-made lengths-are (passed (after-order-of .before)) pairs-are aimed-is (after-order-of .order-of .ensures)
+    (after-down-totals .down-totals .ensures) (after-fill .fill .ensures) (c .answering .ensures)
 
 pub aim-part-spec : {M : Type 1} → statement M
 aim-part-spec =

@@ -1,4 +1,4 @@
--- The half on lengths, of the areas as they are lent.
+-- `estimate_part` is told the lengths of the areas that are lent, so what it promises of any areas of these lengths holds of them.
 use mathlib.Core.Path.{ap, refl, sym}
 use Prim.Native.Nat.{ℕ}
 use borrow.Author.Needs.{needs}
@@ -8,12 +8,12 @@ use Rattle.unit.proofs.Header.estimate.Tie as tie
 
 estimate-part-requires : tie.Need-estimate-part-requires
 estimate-part-requires c κs =
-    let e = c .before .lengths-of .ensures in (
-      ap (λ (l : Each ℕ). l .built .ranks) e,
-      ap (λ (l : Each ℕ). l .built .pairs) e,
-      ap (λ (l : Each ℕ). l .aimed .down) e,
-      ap (λ (l : Each ℕ). l .aimed .estimates) e,
-    )
+    let e = c .before .lengths-of .ensures in record {
+      ranks-are = ap (λ (l : Each ℕ). l .built .ranks) e;
+      pairs-are = ap (λ (l : Each ℕ). l .built .pairs) e;
+      down-is = ap (λ (l : Each ℕ). l .aimed .down) e;
+      estimates-are = ap (λ (l : Each ℕ). l .aimed .estimates) e;
+    }
 
 returns : tie.Need-returns
 returns c =

@@ -1,4 +1,4 @@
--- 9, then 12 and 13: the code asks in the definition's order.
+-- 9, then 12 and 13: the code asks in the definition's order (`estimate-asks`).
 use borrow.Author.Needs.{needs}
 use lib.Dec.{ltb}
 use Rattle.model.specs.Types.{Lengths, NoJunction, NoTarget}

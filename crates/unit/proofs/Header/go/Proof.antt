@@ -1,25 +1,28 @@
--- A refusal leaves everything as it was; otherwise answer and areas are the search's, as `made` has them.
-use mathlib.Core.Path.{_∙_, _≡_, ap, refl, subst, sym}
-use mathlib.Core.Bool.{true}
-use mathlib.Core.Option.{none}
+-- A refusal leaves everything as it was (`go-refused`); otherwise answer and areas are the search's (`go-handed`).
+use mathlib.Core.Path.{_∙_, _≡_, ap}
 use mathlib.Core.List.{List}
 use Prim.Native.Nat.{ℕ}
 use borrow.Author.Needs.{needs}
-use lib.ListN.{length}
 use native.Mathlib.Omega.{arith}
-use Rattle.model.specs.Types as model
+use Rattle.model.specs.Types.{Header}
 use Rattle.model.specs.Areas.{Areas, Each, areasOf, lengths}
 use Rattle.model.specs.State.{Lent}
-use Rattle.model.specs.Calls.{goCall}
-use Rattle.model.specs.Contracts.{CallContract, after, baseOn, before}
-use Rattle.unit_questions.specs.Lending.{lengthsIn, lentOf}
-use Rattle.unit.specs.declared.Answered.{Answered}
-use Rattle.unit.specs.Shape.{answeredIn, headerIn}
-use Rattle.unit.specs.Meets.{asksGo}
-use Rattle.unit.proofs.Fitting.{fits-facts, sized}
-use Rattle.unit.proofs.Going.{GoPassed, go-facts, go-handed, go-passed, go-refused, goneAreas}
+use Rattle.model.specs.Contracts.{baseOn}
+use Rattle.network.specs.Refusals.{verdictIn}
+use Rattle.unit_questions.specs.Lending.{lentOf}
+use Rattle.unit.specs.Shape.{headerIn}
+use Rattle.unit.proofs.Fitting.{sized}
+use Rattle.unit.proofs.Going.{GoPassed, go-handed, go-passed, go-refused, goVerdict}
 use Rattle.unit.proofs.Header.go.Statement.{statement}
 use Rattle.unit.proofs.Header.go.Tie as tie
+
+-- ---- the call: card and header, the unit's areas and the two that it is lent
+
+abbrev card : tie.Start → List ℕ
+card s = s .args .card .now
+
+abbrev header : tie.Start → Header
+header s = headerIn (s .args .self)
 
 abbrev areas : tie.Start → Areas
 areas s = let a = s .args in areasOf (a .ranks .now) (a .pairs .now) (a .live .now) (a .down .now) (a .estimates .now) (a .elapsed .now)
@@ -27,93 +30,60 @@ areas s = let a = s .args in areasOf (a .ranks .now) (a .pairs .now) (a .live .n
 abbrev lent : tie.Start → Lent
 lent s = lentOf (s .args .route .now) (s .args .log .now)
 
--- no question refuses
-known : (c : tie.After-enum-told) →
-    let after-lengths-of = c .before .before .before in
-    let start = after-lengths-of .before .before .before .before .before .before .before .before .before .before .before .before in
-    let a = start .args in
-    GoPassed (headerIn (a .self)) (baseOn (a .card .now)) (length (a .card .now)) (lengths (areas start)) (a .start .0)
-    (length (a .route .now)) (length (a .log .now))
-known c =
-    let after-go-asked = c .before .before in
-    let after-lengths-of = after-go-asked .before in
-    let start = after-lengths-of .before .before .before .before .before .before .before .before .before .before .before .before in
-    let a = start .args in
-    let h = headerIn (a .self) in
-    let base = baseOn (a .card .now) in
-    let k = length (a .card .now) in
-    let r = length (a .route .now) in
-    let l = length (a .log .now) in
-    go-passed h base k (lengths (areas start)) (a .start .0) r l (c .enum-told .given .1)
-    (after-go-asked .go-asked .ensures base ∙ ap (λ (x : Each ℕ). asksGo base h k x (a .start .0) r l)
-    (after-lengths-of .lengths-of .ensures))
+-- ---- what the questions said
 
-roads-of-requires : tie.Need-roads-of-requires
-roads-of-requires c κs =
-    let after-lengths-of = c .before .before .before in
-    let start = after-lengths-of .before .before .before .before .before .before .before .before .before .before .before .before in
-    let a = start .args in
-    omega (arith, fits-facts (headerIn (a .self)) (length (a .card .now)) (lengths (areas start)) (known c .fits) .size)
+abbrev start : tie.After-go-asked → tie.Start
+start c = c .before .before .before .before .before .before .before .before .before .before .before .before .before
 
-order-of-requires : tie.Need-order-of-requires
-order-of-requires c κs =
-    let after-enum-told = c .before in
-    let after-lengths-of = after-enum-told .before .before .before in
-    let start = after-lengths-of .before .before .before .before .before .before .before .before .before .before .before .before in
-    let a = start .args in
-    omega (arith, fits-facts (headerIn (a .self)) (length (a .card .now)) (lengths (areas start)) (known after-enum-told .fits) .size)
+said : (c : tie.After-go-asked) → let s = start c in
+    verdictIn (c .go-asked .result) ≡ goVerdict (card s) (header s) (lengths (areas s)) (s .args .start .0) (lent s)
+said c =
+    let s = start c in
+    c .go-asked .ensures (baseOn (card s))
+    ∙ ap (λ (l : Each ℕ). goVerdict (card s) (header s) l (s .args .start .0) (lent s)) (c .before .lengths-of .ensures)
 
-search-requires : tie.Need-search-requires
-search-requires c κs =
-    let after-order-of = c .before .before .before .before .before in
-    let after-roads-of = after-order-of .before in
-    let after-enum-told = after-roads-of .before in
-    let after-lengths-of = after-enum-told .before .before .before in
-    let start = after-lengths-of .before .before .before .before .before .before .before .before .before .before .before .before in
-    let a = start .args in
-    let k = known after-enum-told in
-    let g = go-facts (headerIn (a .self)) (baseOn (a .card .now)) (a .start .0) (length (a .route .now)) (length (a .log .now))
-    (k .asked) in
-    let f = fits-facts (headerIn (a .self)) (length (a .card .now)) (lengths (areas start)) (k .fits) in (
-      g .start,
-      omega (arith, c .aimed-at .ensures, k .target),
-      g .route-room,
-      g .log-room,
-      sized (a .card .now) (areas start) f (after-roads-of .roads-of .ensures) (after-order-of .order-of .ensures),
-    )
+-- none refuses
+passed : (c : tie.After-enum-told) → let s = start (c .before .before) in
+    GoPassed (card s) (s .args .self) (lengths (areas s)) (s .args .start .0) (lent s)
+passed c = go-passed (c .enum-told .given .1) (said (c .before .before))
+
+-- ---- the answers
 
 returns : tie.Need-returns
 returns c =
     let after-q = c .before .before in
     let after-go-asked = after-q .before .before in
-    let after-lengths-of = after-go-asked .before in
-    let start = after-lengths-of .before .before .before .before .before .before .before .before .before .before .before .before in
-    let a = start .args in
-    let h = headerIn (a .self) in
-    let base = baseOn (a .card .now) in
-    let k = length (a .card .now) in
-    let r = length (a .route .now) in
-    let l = length (a .log .now) in
-    go-refused (a .card .now) (a .self) (areas start) (a .start .0) (lent start) (after-q .q .given .1)
-    (after-go-asked .go-asked .ensures base ∙ ap (λ (x : Each ℕ). asksGo base h k x (a .start .0) r l)
-    (after-lengths-of .lengths-of .ensures))
-    (c .answered .ensures)
+    go-refused (after-q .q .given .1) (said after-go-asked) (c .answered .ensures)
+
+roads-of-requires : tie.Need-roads-of-requires
+roads-of-requires c κs = omega (arith, passed c .sizes .size)
+
+order-of-requires : tie.Need-order-of-requires
+order-of-requires c κs = omega (arith, passed (c .before) .sizes .size)
+
+abbrev after-order-of : tie.After-aimed-at → tie.After-order-of
+after-order-of c = c .before .before .before .before .before
+
+search-requires : tie.Need-search-requires
+search-requires c κs =
+    let after-roads-of = after-order-of c .before in
+    let after-enum-told = after-roads-of .before in
+    let s = start (after-enum-told .before .before) in
+    let p = passed after-enum-told in record {
+      start-in = p .facts .start;
+      target-in = omega (arith, c .aimed-at .ensures, p .target);
+      ways-long = p .facts .route-room;
+      log-long = p .facts .log-room;
+      sized = sized (areas s) (p .sizes) (after-roads-of .roads-of .ensures) (after-order-of c .order-of .ensures);
+    }
 
 returns-2 : tie.Need-returns-2
 returns-2 c =
     let after-search = c .before .before .before .before .before .before .before .before .before .before in
     let after-aimed-at = after-search .before in
-    let after-order-of = after-aimed-at .before .before .before .before .before in
-    let after-roads-of = after-order-of .before in
-    let after-enum-told = after-roads-of .before in
-    let after-lengths-of = after-enum-told .before .before .before in
-    let start = after-lengths-of .before .before .before .before .before .before .before .before .before .before .before .before in
-    let a = start .args in
-    let k = known after-enum-told in
-    let e = after-search .search .ensures in
-    go-handed (a .card .now) (a .self) (areas start) (a .start .0) (lent start) (k .fits) (k .asked)
-    (after-aimed-at .aimed-at .ensures) (after-roads-of .roads-of .ensures) (after-order-of .order-of .ensures) e
-    (c .before .gone .ensures) (c .answered2 .result) (c .answered2 .ensures)
+    let after-roads-of = after-order-of after-aimed-at .before in
+    go-handed (passed (after-roads-of .before)) (after-aimed-at .aimed-at .ensures) (after-roads-of .roads-of .ensures)
+    (after-order-of after-aimed-at .order-of .ensures) (after-search .search .ensures) (c .before .gone .ensures) (c .answered2 .ensures)
 
 pub go-spec : {M : Type 1} → statement M
 go-spec =

@@ -1,4 +1,4 @@
--- 9, 12, 13 and 14, then the target's range: the code asks in the definition's order.
+-- 9, 12, 13 and 14, then the target's range: the code asks in the definition's order (`go-asks`).
 use borrow.Author.Needs.{needs}
 use mathlib.Core.Path.{ap}
 use Prim.Native.Nat.{ℕ}
