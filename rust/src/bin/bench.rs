@@ -455,11 +455,12 @@ turn, and of each case the least of many runs counts. Made by
 A map file that is named behind it, text as make-card reads it, is measured after the towns, in the order that it gives or, if it gives
 none, in a least-degree one, and has a table of its own at the end, under its name.
 
-- **Rust**: the same step as one would write it in Rust (`rust/src/router.rs`), over structures of its own, which document 01's areas have no
-  place for: where the pairs of each rank begin, adjacency lists, a list of the lower ranks that a row has pairs with, a binary heap.
-- **areas**: the same step in Rust over the areas of document 01 and nothing else (`rust/src/areas.rs`): records of four words in one
+- **Rust**: the same step as one would write it in Rust (`rust/src/router.rs`), over structures of its own. It lists the roads by tail in
+  `prepare`, as the unit does; the rest the unit's areas have no place for: heads beside these roads, the roads by head, where the pairs of
+  each rank begin, a list of the lower ranks that a row has pairs with, a binary heap.
+- **areas**: the same step in Rust over the unit's areas and nothing else (`rust/src/areas.rs`): records of four words in one
   slice, where a bisection finds those of a rank; the order read from the card. With the arguments, the answer and the questions of the unit's
-  function: a header that goes in by value and comes back, so that a call waits for the one before; seven slices; question 9 on their
+  function: a header that goes in by value and comes back, so that a call waits for the one before; nine slices; question 9 on their
   lengths. Of a `set`, which stores one word, that is nearly all; the methods under *Rust* are inlined and have none of it.
 - **Dijkstra**: Dijkstra's algorithm with a binary heap, which finds the total alone.
 - **A\\***: A\\* with each junction's least base total to the target handed to it free. It logs what the unit logs.
