@@ -470,6 +470,10 @@ none, in a least-degree one, and has a table of its own at the end, under its na
 
 ";
 
+/// The largest town's ratios as earlier landings left them, in the columns of `Report::landings`.
+const BEFORE: [[&str; 5]; 1] =
+    [["8, before A1", "1.52", "2.65 (3.90)", "1.98 (2.84)", "1.57 (2.33)"]];
+
 impl Display for Report {
     fn fmt(&self, f: &mut Formatter) -> fmt::Result {
         let processors = thread::available_parallelism().map_or(1, usize::from);
@@ -478,6 +482,7 @@ impl Display for Report {
         f.write_str(ABOUT)?;
         Report::table(f, &self.towns)?;
         self.growth(f)?;
+        self.landings(f)?;
         for (name, file) in &self.files {
             let (n, m, pairs) = (file.map.n(), file.map.m(), file.pairs);
             write!(f, "\n## {name}\n\n{n} junctions, {m} roads, {pairs} pairs.\n\n")?;
@@ -544,6 +549,26 @@ impl Report {
             write!(f, " {} times the {what} ({large}){end}", digits(large as f64 / small as f64))?;
         }
         Ok(())
+    }
+}
+
+impl Report {
+    /// The largest town's ratios, under those of the landings before.
+    fn landings(&self, f: &mut Formatter) -> fmt::Result {
+        let large = &self.towns[TOWNS.len() - 1];
+        let ratio = |step: &str| {
+            let line = large.lines.iter().find(|line| line.step == step).expect(step);
+            let free = |go: &Go| format!(" ({})", digits(line.proved / go.free));
+            digits(line.proved / line.plain) + &line.go.as_ref().map_or(String::new(), free)
+        };
+        let n = large.map.n();
+        write!(f, "\nRatios at {n} junctions by landing, to Rust and in brackets to A\\*:\n\n")?;
+        f.write_str("| landing | prepare | again, 0 % | 1 % | 5 % |\n|:--|--:|--:|--:|--:|\n")?;
+        for cells in BEFORE {
+            writeln!(f, "| {} |", cells.join(" | "))?;
+        }
+        let again = ["0", "1", "5"].map(|part| ratio(&format!("again, {part} % of roads changed")));
+        writeln!(f, "| this run | {} | {} |", ratio("prepare"), again.join(" | "))
     }
 }
 
