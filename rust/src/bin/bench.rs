@@ -557,7 +557,9 @@ impl Report {
     fn landings(&self, f: &mut Formatter) -> fmt::Result {
         let large = &self.towns[TOWNS.len() - 1];
         let ratio = |step: &str| {
-            let line = large.lines.iter().find(|line| line.step == step).expect(step);
+            let Some(line) = large.lines.iter().find(|line| line.step == step) else {
+                return String::new();
+            };
             let free = |go: &Go| format!(" ({})", digits(line.proved / go.free));
             digits(line.proved / line.plain) + &line.go.as_ref().map_or(String::new(), free)
         };
