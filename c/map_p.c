@@ -1,4 +1,7 @@
-/* Map P of document 01 through route_unit.h: prints cases P1 to P10, and ends with 0 only if all are as document 01 has them. */
+/*
+ * Map P of document 01 through route_unit.h: prints cases P1 to P10 and the roads by tail of document 02, A1, and ends with 0 only if
+ * all are as the documents have them.
+ */
 #include "route_unit.h"
 
 #include <stdbool.h>
@@ -15,9 +18,11 @@ static const uint32_t WORDS[7] = {2, 1, 28, 60, 2, 88, 16};
 static const uint32_t RECORDS[4 * PAIRS] = {
     0, 2, UNIT_NONE, 10, 0, 3, 10, UNIT_NONE, 1, 2, UNIT_NONE, 15, 1, 3, 10, UNIT_NONE, 2, 3, 20, 20,
 };
+static const uint32_t BY_TAIL[M] = {0, 2, 1, 3, 4}, STARTS[N + 1] = {0, 2, 3, 4, 5};
 
 static uint8_t card[CARD];
-static uint32_t ranks[N], pairs[4 * PAIRS], live[M], down[N], estimates[N], elapsed[N], route[LENT], entries[LENT];
+static uint32_t ranks[N], pairs[4 * PAIRS], live[M], down[N], estimates[N], elapsed[N], leaving[M], groups[N + 1];
+static uint32_t route[LENT], entries[LENT];
 static UnitHeader header;
 static bool all_right = true;
 
@@ -53,17 +58,20 @@ static uint32_t handed(UnitAnswer answer) {
 
 static uint32_t prepare(size_t room) {
     fill(ranks, N, UNTOUCHED);
-    return handed(unit_prepare(card, CARD, ranks, N, pairs, 4 * room, live, M, down, N, estimates, N, elapsed, N));
+    fill(leaving, M, UNTOUCHED);
+    fill(groups, N + 1, UNTOUCHED);
+    return handed(unit_prepare(card, CARD, ranks, N, pairs, 4 * room, live, M, down, N, estimates, N, elapsed, N, leaving, M,
+        groups, N + 1));
 }
 
 static uint32_t set(uint32_t road, uint32_t time) {
     return handed(unit_set(header, card, CARD, ranks, N, pairs, 4 * PAIRS, live, M, down, N, estimates, N, elapsed, N,
-        road, time));
+        leaving, M, groups, N + 1, road, time));
 }
 
 static uint32_t aim(uint32_t junction) {
     return handed(unit_aim(header, card, CARD, ranks, N, pairs, 4 * PAIRS, live, M, down, N, estimates, N, elapsed, N,
-        junction));
+        leaving, M, groups, N + 1, junction));
 }
 
 /* A prepared map P with a target. */
@@ -73,7 +81,7 @@ static bool prepared_at(uint32_t target) {
 
 static bool estimated(uint32_t junction, uint64_t wanted) {
     UnitAnswer answer = unit_estimate(header, card, CARD, ranks, N, pairs, 4 * PAIRS, live, M, down, N, estimates, N,
-        elapsed, N, junction);
+        elapsed, N, leaving, M, groups, N + 1, junction);
     return handed(answer) == 0 && answer.total == wanted && estimates[junction] == wanted;
 }
 
@@ -83,7 +91,7 @@ static bool gone(uint32_t start, uint32_t question, uint64_t total, uint32_t roa
     fill(route, LENT, UNTOUCHED);
     fill(entries, LENT, UNTOUCHED);
     UnitAnswer answer = unit_go(header, card, CARD, ranks, N, pairs, 4 * PAIRS, live, M, down, N, estimates, N, elapsed, N,
-        route, LENT, entries, LENT, start);
+        leaving, M, groups, N + 1, route, LENT, entries, LENT, start);
     return handed(answer) == question && answer.place == 0 && answer.total == total && answer.roads == roads &&
         answer.count == count && same(route, way, roads) && filled(route + roads, LENT - roads, UNTOUCHED) &&
         same(entries, log, count) && filled(entries + count, LENT - count, UNTOUCHED);
@@ -107,8 +115,19 @@ static bool writes_and_reads(void) {
 static bool p2(void) {
     bool refused = prepare(PAIRS - 1) == 8 && header.n == 0 && header.m == 0 && header.pairs == 0 && header.aimed == 0 &&
         filled(ranks, N, 0) && filled(pairs, 4 * (PAIRS - 1), 0) && filled(live, M, 0) && filled(down, N, 0) &&
-        filled(estimates, N, 0) && filled(elapsed, N, 0);
+        filled(estimates, N, 0) && filled(elapsed, N, 0) && filled(leaving, M, 0) && filled(groups, N + 1, 0);
     return refused && prepare(PAIRS) == 0 && header.n == N && header.m == M && header.pairs == PAIRS && header.aimed == 0;
+}
+
+static bool listed(void) {
+    return same(leaving, BY_TAIL, M) && same(groups, STARTS, N + 1);
+}
+
+/* The roads by tail after preparing, and after each of the four calls. */
+static bool by_tail(void) {
+    static const uint32_t road_1[] = {1}, log_13[] = {1, 3};
+    return prepare(PAIRS) == 0 && listed() && aim(3) == 0 && listed() && set(3, UNIT_CLOSED) == 0 && listed() &&
+        estimated(0, 20) && listed() && gone(1, 0, 10, 1, road_1, 2, log_13) && listed();
 }
 
 static bool p9(void) {
@@ -131,8 +150,8 @@ static bool replayed(void) {
     uint64_t out[32] = {[28] = 7, 7, 7, 7};
     fill(route, LENT, UNTOUCHED);
     fill(entries, LENT, UNTOUCHED);
-    UnitAnswer answer = unit_replay(card, CARD, ranks, N, pairs, 4 * PAIRS, live, M, down, N, estimates, N, elapsed, N, route,
-        LENT, entries, LENT, script, 25, out, 32);
+    UnitAnswer answer = unit_replay(card, CARD, ranks, N, pairs, 4 * PAIRS, live, M, down, N, estimates, N, elapsed, N, leaving, M,
+        groups, N + 1, route, LENT, entries, LENT, script, 25, out, 32);
     return handed(answer) == 0 && header.target == 3 && header.aimed == 1 && memcmp(out, wanted, sizeof out) == 0 &&
         same(route, roads_23, 2) && filled(route + 2, LENT - 2, UNTOUCHED) && same(entries, log_4, 4) &&
         filled(entries + 4, LENT - 4, UNTOUCHED);
@@ -157,6 +176,7 @@ int main(void) {
     told("P9  road 0 to 9: 11; to 10: taken; to 1,000,001: 11", p9());
     told("P10 roads 1 and 2 closed: 15, count 2",
         prepared_at(3) && set(1, UNIT_CLOSED) == 0 && set(2, UNIT_CLOSED) == 0 && gone(0, 15, 0, 0, NULL, 2, log_2));
+    told("A1  roads by tail: 0, 2, 1, 3, 4; groups from 0, 2, 3, 4, 5", by_tail());
     told("replay: the program's example as one script", replayed());
     return all_right ? 0 : 1;
 }

@@ -2,7 +2,8 @@
  * The route unit for C and C++: reading and writing a card, preparing it, the four calls, and a script of calls.
  *
  * Link with libunit_c.a (`rt staticlib unit_c` leaves it in target/staticlib). Words as "none" and "question 9" are
- * those of document 01; the contract of each function, for every input, stands at its namesake in crates/unit_c.
+ * those of document 01, the areas leaving and groups those of document 02, A1; the contract of each function, for every
+ * input, stands at its namesake in crates/unit_c.
  *
  * Areas. A slice is a pointer and, right after it, its length in elements (bytes of a card, words of all others). Each
  * pointer is aligned for its type, is not null even where the length is 0, and points at as many elements as the length
@@ -14,8 +15,9 @@
  * Stack. Nothing proves how deep it goes: an estimate may ask for 4,095 others, one within the other, and so may a go. On the
  * deepest map that is tried, a line of 4,096 junctions in rank order, 2 MiB are enough for every function.
  *
- * Lengths. With n junctions and m roads: card 28 + 12 m + 4 n bytes; ranks, down, estimates, elapsed n words; live m words;
- * pairs a multiple of 4 words, four for each pair there is to be room for, at most 262,144; route and log at least n words.
+ * Lengths. With n junctions and m roads: card 28 + 12 m + 4 n bytes; ranks, down, estimates, elapsed n words; live, leaving m
+ * words; groups n + 1 words; pairs a multiple of 4 words, four for each pair there is to be room for, at most 262,144; route and
+ * log at least n words.
  *
  * Refusals, by the number of the question that is answered with no, in order:
  *    1  card: at least 28 bytes?
@@ -26,7 +28,7 @@
  *    6  card: is each entry of the order below n and new? With the first place, from 0, where it is not.
  *    7  prepare, write: has each area its length?
  *    8  prepare: do all kept pairs fit? If not, every area is filled with 0.
- *    9  calls: have the card and the six areas the lengths that the header calls for, of at most 4,096 junctions and 16,384 roads?
+ *    9  calls: have the card and the eight areas the lengths that the header calls for, of at most 4,096 junctions and 16,384 roads?
  *   10  set: is the road below m?
  *   11  set: is the time from the road's base time to 1,000,000, or closed?
  *   12  aim, estimate, go: is the junction below n?
@@ -93,34 +95,39 @@ uint32_t card_write(const uint32_t *roads, size_t roads_len, const uint32_t *ord
     uint8_t *area, size_t area_len, uint32_t *place);
 
 /*
- * Prepares a card on the six areas: questions 1 to 8. Fills ranks (by junction) and pairs (low rank, high rank, up time, down
- * time; unused records are 0), sets each live time to its base time, down totals and elapsed to UNIT_NONE, estimates to
- * UNIT_UNASKED. A refusal hands back a header of zeros.
+ * Prepares a card on the eight areas: questions 1 to 8. Fills ranks (by junction), pairs (low rank, high rank, up time, down
+ * time; unused records are 0), leaving (road numbers by tail, ascending within a tail) and groups (where each tail's group starts
+ * in leaving, at last m: the roads that leave v stand from groups[v] on, up to groups[v + 1]); sets each live time to its base
+ * time, down totals and elapsed to UNIT_NONE, estimates to UNIT_UNASKED. A refusal hands back a header of zeros.
  */
 UnitAnswer unit_prepare(const uint8_t *card, size_t card_len, uint32_t *ranks, size_t ranks_len,
     uint32_t *pairs, size_t pairs_len, uint32_t *live, size_t live_len, uint32_t *down, size_t down_len,
-    uint32_t *estimates, size_t estimates_len, uint32_t *elapsed, size_t elapsed_len);
+    uint32_t *estimates, size_t estimates_len, uint32_t *elapsed, size_t elapsed_len,
+    uint32_t *leaving, size_t leaving_len, uint32_t *groups, size_t groups_len);
 
 /*
- * The four calls. They are handed the header that the last call handed back and the card and the six areas it belongs to. Where
- * question 9 passes but these are not what a list of calls has left together, the answer is free, 9 included.
+ * The four calls. They are handed the header that the last call handed back and the card and the eight areas it belongs to; none
+ * writes ranks, pairs, leaving or groups. Where question 9 passes but these are not what a list of calls has left together, the
+ * answer is free, 9 included.
  */
 
 /* Sets a road's live time: questions 9, 10, 11. Writes that entry of live alone. */
 UnitAnswer unit_set(UnitHeader header, const uint8_t *card, size_t card_len, const uint32_t *ranks, size_t ranks_len,
     const uint32_t *pairs, size_t pairs_len, uint32_t *live, size_t live_len, const uint32_t *down, size_t down_len,
     const uint32_t *estimates, size_t estimates_len, const uint32_t *elapsed, size_t elapsed_len,
-    uint32_t road, uint32_t time);
+    const uint32_t *leaving, size_t leaving_len, const uint32_t *groups, size_t groups_len, uint32_t road, uint32_t time);
 
 /* Aims at a junction, the new target: questions 9, 12. Writes down and estimates, which become unasked. */
 UnitAnswer unit_aim(UnitHeader header, const uint8_t *card, size_t card_len, const uint32_t *ranks, size_t ranks_len,
     const uint32_t *pairs, size_t pairs_len, const uint32_t *live, size_t live_len, uint32_t *down, size_t down_len,
-    uint32_t *estimates, size_t estimates_len, const uint32_t *elapsed, size_t elapsed_len, uint32_t junction);
+    uint32_t *estimates, size_t estimates_len, const uint32_t *elapsed, size_t elapsed_len,
+    const uint32_t *leaving, size_t leaving_len, const uint32_t *groups, size_t groups_len, uint32_t junction);
 
 /* A junction's least base total to the target: questions 9, 12, 13. Writes estimates: this one and those it asks for. */
 UnitAnswer unit_estimate(UnitHeader header, const uint8_t *card, size_t card_len, const uint32_t *ranks, size_t ranks_len,
     const uint32_t *pairs, size_t pairs_len, const uint32_t *live, size_t live_len, const uint32_t *down, size_t down_len,
-    uint32_t *estimates, size_t estimates_len, const uint32_t *elapsed, size_t elapsed_len, uint32_t junction);
+    uint32_t *estimates, size_t estimates_len, const uint32_t *elapsed, size_t elapsed_len,
+    const uint32_t *leaving, size_t leaving_len, const uint32_t *groups, size_t groups_len, uint32_t junction);
 
 /*
  * The quickest way over open roads at their live times, from a start to the target: questions 9, 12, 13, 14, 15. Roads
@@ -129,8 +136,9 @@ UnitAnswer unit_estimate(UnitHeader header, const uint8_t *card, size_t card_len
  */
 UnitAnswer unit_go(UnitHeader header, const uint8_t *card, size_t card_len, const uint32_t *ranks, size_t ranks_len,
     const uint32_t *pairs, size_t pairs_len, const uint32_t *live, size_t live_len, const uint32_t *down, size_t down_len,
-    uint32_t *estimates, size_t estimates_len, uint32_t *elapsed, size_t elapsed_len, uint32_t *route, size_t route_len,
-    uint32_t *log, size_t log_len, uint32_t start);
+    uint32_t *estimates, size_t estimates_len, uint32_t *elapsed, size_t elapsed_len,
+    const uint32_t *leaving, size_t leaving_len, const uint32_t *groups, size_t groups_len,
+    uint32_t *route, size_t route_len, uint32_t *log, size_t log_len, uint32_t start);
 
 /*
  * Prepares a card and makes a list of calls. A call in script is its kind and as many words as that call has: 0, road, time for set;
@@ -143,7 +151,8 @@ UnitAnswer unit_go(UnitHeader header, const uint8_t *card, size_t card_len, cons
  */
 UnitAnswer unit_replay(const uint8_t *card, size_t card_len, uint32_t *ranks, size_t ranks_len,
     uint32_t *pairs, size_t pairs_len, uint32_t *live, size_t live_len, uint32_t *down, size_t down_len,
-    uint32_t *estimates, size_t estimates_len, uint32_t *elapsed, size_t elapsed_len, uint32_t *route, size_t route_len,
+    uint32_t *estimates, size_t estimates_len, uint32_t *elapsed, size_t elapsed_len,
+    uint32_t *leaving, size_t leaving_len, uint32_t *groups, size_t groups_len, uint32_t *route, size_t route_len,
     uint32_t *log, size_t log_len, const uint32_t *script, size_t script_len, uint64_t *out, size_t out_len);
 
 #ifdef __cplusplus

@@ -105,7 +105,7 @@ def entry(text, indent):
 
 def turn_text(turn):
     (kind, place, *rest), answer, areas, rows = turn.call, turn.answer, turn.areas, [argument(row(area)) for area in turn.areas]
-    _, _, live, down, estimates, elapsed = rows
+    live, down, estimates, elapsed = rows[2:6]
     if answer[0] == "no" and answer[1] < 15:
         return says(turn, f"no {refusal_text(answer[1:])} ({call_text(turn.call)})")
     if kind == "set":
@@ -132,7 +132,7 @@ def script_text(index, script):
     answer, header, areas = script.prepared
     records = [areas.pairs[4 * i:4 * i + 4] for i in range(header.pairs)]
     rest = [0] * (4 * script.room - 4 * header.pairs), script.chart.base, *[[mark] * header.n for mark in (NONE, UNASKED, NONE)]
-    assert answer == ("ok",) and header.target is None and (areas.pairs[4 * header.pairs:], *areas[2:]) == rest
+    assert answer == ("ok",) and header.target is None and (areas.pairs[4 * header.pairs:], *areas[2:6]) == rest
     turns = "\n      ".join(entry(text, 6) for text in [*map(turn_text, script.turns), "[]"])[2:]
     return f"""
 -- {script.made[0]}
@@ -142,6 +142,8 @@ script-{index} : Holds record {{
   room = {script.room};
   ranks = {row(areas.ranks)};
   pairs ={field(listed(applied("pair", *record) for record in records))};
+  leaving ={field(row(areas.leaving))};
+  groups = {row(areas.groups)};
   turns =
       {turns};
 }}
@@ -225,18 +227,18 @@ WRITINGS = {
     "the area": [(ROAD, ORDER, 0), (ROAD, ORDER, 47), (ROAD, ORDER, 49)],
     "accepted": [([], [0]), ([(0, 1, 5)], [1, 0]), ([(2, 0, SLOWEST), (0, 1, 1), (2, 0, 66_051)], [2, 0, 1])],
 }
-FITTING = Areas(2, 4, 1, 2, 2, 2)  # the lengths for the small card and its one pair
+FITTING = Areas(2, 4, 1, 2, 2, 2, 1, 3)  # the lengths for the small card and its one pair
 OTHER = {area: [FITTING._replace(**{area: length - 1}), FITTING._replace(**{area: length + 1})] for area, length in FITTING._asdict().items()}
 PREPARINGS = {
     "the card": [(READINGS[group][-1], FITTING) for group in READINGS if group != "accepted"],
     **{area: [(SMALL, lengths) for lengths in changed] for area, changed in OTHER.items()},
-    "an area before the room": [(SMALL, FITTING._replace(pairs=0, elapsed=1))],
-    "the room": [(SMALL, FITTING._replace(pairs=0)), (MAP_P, Areas(4, 16, 5, 4, 4, 4))],
+    "an area before the room": [(SMALL, FITTING._replace(pairs=0, elapsed=1)), (SMALL, FITTING._replace(pairs=0, groups=2))],
+    "the room": [(SMALL, FITTING._replace(pairs=0)), (MAP_P, Areas(4, 16, 5, 4, 4, 4, 5, 5))],
 }
 SETS = [("set", 0, 5), ("set", 1, 0)]
 OTHERS = [("aim", 1), ("aim", 2), ("est", 0), ("go", 0, [60, 61], [80, 81, 82]), ("go", 2, [], [])]
 FORGED = [(1, 1, 1), (3, 1, 1), (2, 0, 1), (2, 2, 1), (2, 1, 2), (0, 0, 0), (2 ** 30 + 2, 1, 1), (2, 2 ** 30 + 1, 1), (2, 1, 2 ** 30 + 1)]
-UNMAPPED = Areas(0, 8, 0, 0, 0, 0)
+UNMAPPED = Areas(0, 8, 0, 0, 0, 0, 0, 1)
 CALLINGS = {
     "the card": [("all", (2, 1, 1), 0, 47, FITTING), ("all", (2, 1, 1), None, 49, FITTING), ("all", (2, 1, 1), 1, 0, FITTING)],
     **{area: [("all", (2, 1, 1), 1, 48, lengths) for lengths in changed] for area, changed in OTHER.items()},
@@ -244,24 +246,27 @@ CALLINGS = {
     "forged headers": [("all", numbers, 0, 48, FITTING) for numbers in FORGED],
     "the header of a refused preparing, with areas that it calls for": [
         ("sets", (0, 0, 0), None, 28, UNMAPPED), ("others", (0, 0, 0), None, 28, UNMAPPED)],
+    "the same with no start of a group, and with two": [
+        ("all", (0, 0, 0), None, 28, UNMAPPED._replace(groups=0)), ("all", (0, 0, 0), None, 28, UNMAPPED._replace(groups=2))],
 }
 SIZES = {
     "bounds": [(0, 4), (196_608, 16_384), (196_620, 4), (0, 16_388), (12, 0)],
     "multiples": [(196_604, 4), (6, 4), (12, 6), (24, 16_380)],
 }
-MOST = Areas(4096, 262_144, 16_384, 4096, 4096, 4096)
-WIDE = Areas(2 ** 30 + 2, 4, 1, 2 ** 30 + 2, 2 ** 30 + 2, 2 ** 30 + 2)
+MOST = Areas(4096, 262_144, 16_384, 4096, 4096, 4096, 16_384, 4097)
+WIDE = Areas(2 ** 30 + 2, 4, 1, 2 ** 30 + 2, 2 ** 30 + 2, 2 ** 30 + 2, 1, 2 ** 30 + 3)
 LENGTHS = {
-    "bounds": [(1, 0, 0, 32, 1, 0, 0, 1, 1, 1), (4096, 16_384, 65_536, 213_020, *MOST), (4096, 16_384, 65_536, 213_019, *MOST),
+    "bounds": [(1, 0, 0, 32, 1, 0, 0, 1, 1, 1, 0, 2), (4096, 16_384, 65_536, 213_020, *MOST), (4096, 16_384, 65_536, 213_019, *MOST),
                *[(4096, 16_384, pairs, 213_020, *MOST._replace(pairs=length))
                  for pairs, length in ((65_535, 262_140), (65_536, 262_140), (65_536, 262_148), (65_535, 262_142))]],
-    "numbers that would fit if products wrapped": [
-        (2 ** 30 + 2, 1, 1, 48, *WIDE), (2, 2 ** 30 + 1, 1, 48, *FITTING._replace(live=2 ** 30 + 1)), (2, 1, 2 ** 30 + 1, 48, *FITTING)],
+    "numbers that would fit if products or sums wrapped": [
+        (2 ** 30 + 2, 1, 1, 48, *WIDE), (2, 2 ** 30 + 1, 1, 48, *FITTING._replace(live=2 ** 30 + 1, leaving=2 ** 30 + 1)),
+        (2, 1, 2 ** 30 + 1, 48, *FITTING), (NONE, 0, 0, 28 + 4 * NONE, NONE, 0, 0, NONE, NONE, NONE, 0, 0)],
     "one length that does not fit, each in turn": [
         (2, 1, 1, 48, *FITTING), *[(2, 1, 1, 48, *lengths) for changed in OTHER.values() for lengths in changed],
         (2, 1, 1, 47, *FITTING), (2, 1, 1, 49, *FITTING)],
     "headers out of range, with the lengths that they call for": [
-        (4097, 0, 0, 16_416, 4097, 0, 0, 4097, 4097, 4097), (1, 16_385, 0, 196_652, 1, 0, 16_385, 1, 1, 1)],
+        (4097, 0, 0, 16_416, 4097, 0, 0, 4097, 4097, 4097, 0, 4098), (1, 16_385, 0, 196_652, 1, 0, 16_385, 1, 1, 1, 16_385, 2)],
 }
 RANGES = {
     "a header's n and m": [(0, 0), (2, 1), (4096, 16_384), (4097, 0), (4096, 16_385), (2 ** 30 + 2, 1), (2, 2 ** 30 + 1)],

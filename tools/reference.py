@@ -1,4 +1,4 @@
-"""Document 01 as a plain model: the card, preparing, the four calls and the machine to compare with.
+"""Document 01, with A1 of document 02, as a plain model: the card, preparing, the four calls and the machine to compare with.
 
 It is written from the paper alone and shares nothing with the definitions of crates/model. Each least total comes from
 one function, which relaxes arcs until nothing changes; candidates, fillings and routes are read off the paper's sentences.
@@ -13,7 +13,7 @@ UNASKED = 4_294_967_294
 SLOWEST = 1_000_000
 
 Header = namedtuple("Header", "n m pairs target")
-Areas = namedtuple("Areas", "ranks pairs live down estimates elapsed")
+Areas = namedtuple("Areas", "ranks pairs live down estimates elapsed leaving groups")
 NO_HEADER = Header(0, 0, 0, None)
 
 
@@ -118,6 +118,16 @@ def kept_pairs(chart):
     return records
 
 
+def roads_by_tail(chart):
+    """The road numbers by tail, ascending within a tail."""
+    return [road for junction in range(len(chart.order)) for road, (tail, _, _) in enumerate(chart.roads) if tail == junction]
+
+
+def group_starts(chart):
+    """Where each tail's group starts: behind the roads of all smaller tails; the last behind all roads."""
+    return [sum(tail < junction for tail, _, _ in chart.roads) for junction in range(len(chart.order) + 1)]
+
+
 # ---- the search log
 
 def search(arcs, estimate, start, target):
@@ -198,9 +208,9 @@ class Machine:
 # ---- the unit
 
 def lengths_right(lengths, n, m, pairs):
-    """The six areas, in the order of Areas, for questions 7 and 9."""
+    """The eight areas, in the order of Areas, for questions 7 and 9."""
     ranks, records, *others = lengths
-    return [ranks, *others] == [n, m, n, n, n] and records % 4 == 0 and 4 * pairs <= records <= 262_144
+    return [ranks, *others] == [n, m, n, n, n, m, n + 1] and records % 4 == 0 and 4 * pairs <= records <= 262_144
 
 
 def all_lengths_right(lengths, bytes_, n, m, pairs):
@@ -226,7 +236,8 @@ def prepare(card, areas):
         return ("no", 8), NO_HEADER, Areas(*[[0] * len(area) for area in areas])
     pairs = [word for record in records for word in record]
     pairs += [0] * (len(areas.pairs) - len(pairs))
-    return ("ok",), Header(n, m, len(records), None), Areas(chart.rank, pairs, chart.base, [NONE] * n, [UNASKED] * n, [NONE] * n)
+    areas = Areas(chart.rank, pairs, chart.base, [NONE] * n, [UNASKED] * n, [NONE] * n, roads_by_tail(chart), group_starts(chart))
+    return ("ok",), Header(n, m, len(records), None), areas
 
 
 def stored_pairs(chart, header, areas):

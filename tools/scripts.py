@@ -36,7 +36,7 @@ class Script:
         self.chart = model.Map(self.card)
         self.records = model.kept_pairs(self.chart)
         n, m, self.room = len(order), len(roads), len(self.records) + spare
-        self.prepared = model.prepare(self.card, Areas(*[[7] * k for k in (n, 4 * self.room, m, n, n, n)]))
+        self.prepared = model.prepare(self.card, Areas(*[[7] * k for k in (n, 4 * self.room, m, n, n, n, m, n + 1)]))
         _, self.header, self.areas = self.prepared
         self.machine, self.ended, self.kinds = model.Machine(self.chart), set(), Counter()
         self.count(map_kinds(self.chart, self.records, spare))
@@ -162,6 +162,7 @@ def map_kinds(chart, records, spare):
         "map without roads": not chart.roads,
         "map with parallel roads": len(set(ends)) < len(ends),
         "map with base times 1 and 1,000,000": {1, SLOWEST} <= set(chart.base),
+        **listing_kinds(chart),
         "room for no pair, and none kept": not records and not spare,
         "room for just the kept pairs": records and not spare,
         "room for more pairs": spare,
@@ -170,6 +171,18 @@ def map_kinds(chart, records, spare):
         "pair with a down time only": any(record[2] == NONE for record in records),
         "pair that no road joins": any(time != NONE and (a, b) not in ends for a, b, time in times),
         "pair faster than its road": any((a, b) in ends and (a, b, time) not in chart.roads for a, b, time in times),
+    }
+
+
+def listing_kinds(chart):
+    tails, last = [tail for tail, _, _ in chart.roads], len(chart.order) - 1
+    by_head = sorted(range(len(tails)), key=lambda road: chart.roads[road][1])
+    return {
+        "map whose junction 0 no road leaves": tails and 0 not in tails,
+        "map whose last junction no road leaves": tails and last not in tails,
+        "map where no road leaves a junction between": tails and set(range(1, last)) - set(tails),
+        "map with roads of one tail, others between": any(a == c != b for a, b, c in zip(tails, tails[1:], tails[2:])),
+        "map whose roads by head are others": by_head != model.roads_by_tail(chart),
     }
 
 

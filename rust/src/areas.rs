@@ -1,6 +1,6 @@
-//! Aim, estimate and set in plain Rust over the areas that document 01 names, and nothing else: records of
-//! four words in one slice, with no place for where each rank's begin. Each is a function with the arguments,
-//! the answer and the questions of its export: a header by value that is handed back, and seven slices.
+//! Aim, estimate and set in plain Rust over the unit's areas, and nothing else: records of four words in one
+//! slice, with no place for where each rank's begin. Each is a function with the arguments, the answer and the
+//! questions of its export: a header by value that is handed back, and nine slices.
 #![allow(improper_ctypes_definitions, clippy::too_many_arguments)]
 
 use crate::calls::Refusal;
@@ -12,9 +12,9 @@ use crate::unit::{Header, Returned, Unit};
 /// Lends a unit's areas to a function.
 macro_rules! lend {
     ($function:ident($unit:ident, $live:expr, $down:expr, $estimates:expr, $($last:ident),+)) => {{
-        let (header, elapsed) = ($unit.header, &$unit.elapsed);
         let returned = $function(
-            header, &$unit.card, &$unit.ranks, &$unit.pairs, $live, $down, $estimates, elapsed, $($last),+
+            $unit.header, &$unit.card, &$unit.ranks, &$unit.pairs, $live, $down, $estimates,
+            &$unit.elapsed, &$unit.leaving, &$unit.groups, $($last),+
         );
         $unit.hand_back(returned)
     }};
@@ -36,14 +36,22 @@ fn answer(header: Header, question: u32) -> Returned {
     Returned { header, question, ..Returned::default() }
 }
 
-/// Question 9.
-fn fits(header: Header, card: &[u8], pairs: &[u32], live: &[Time], others: [&[u32]; 4]) -> bool {
+/// Question 9: `of_n` and `of_m` are the areas with a word for each junction and for each road.
+fn fits(
+    header: Header,
+    card: &[u8],
+    pairs: &[u32],
+    of_n: [&[u32]; 4],
+    of_m: [&[u32]; 2],
+    groups: &[u32],
+) -> bool {
     let (n, m) = (header.n as usize, header.m as usize);
     n <= MOST_JUNCTIONS
         && m <= MOST_ROADS
         && card.len() == card::len(n, m)
-        && live.len() == m
-        && others.iter().all(|area| area.len() == n)
+        && of_n.iter().all(|area| area.len() == n)
+        && of_m.iter().all(|area| area.len() == m)
+        && groups.len() == n + 1
         && pairs.len().is_multiple_of(4)
         && (4 * header.pairs as usize..=4 * MOST_PAIRS).contains(&pairs.len())
 }
@@ -76,9 +84,12 @@ extern "C" fn aim_on(
     down: &mut [Time],
     estimates: &mut [Time],
     elapsed: &[Time],
+    leaving: &[u32],
+    groups: &[u32],
     target: u32,
 ) -> Returned {
-    if !fits(header, card, pairs, live, [ranks, down, estimates, elapsed]) {
+    let (of_n, of_m) = ([ranks, down, estimates, elapsed], [live, leaving]);
+    if !fits(header, card, pairs, of_n, of_m, groups) {
         return answer(header, 9);
     }
     if target >= header.n {
@@ -106,9 +117,12 @@ extern "C" fn estimate_on(
     down: &[Time],
     estimates: &mut [Time],
     elapsed: &[Time],
+    leaving: &[u32],
+    groups: &[u32],
     junction: u32,
 ) -> Returned {
-    if !fits(header, card, pairs, live, [ranks, down, estimates, elapsed]) {
+    let (of_n, of_m) = ([ranks, down, estimates, elapsed], [live, leaving]);
+    if !fits(header, card, pairs, of_n, of_m, groups) {
         return answer(header, 9);
     }
     if junction >= header.n {
@@ -162,10 +176,13 @@ extern "C" fn set_on(
     down: &[Time],
     estimates: &[Time],
     elapsed: &[Time],
+    leaving: &[u32],
+    groups: &[u32],
     road: u32,
     time: Time,
 ) -> Returned {
-    if !fits(header, card, pairs, live, [ranks, down, estimates, elapsed]) {
+    let (of_n, of_m) = ([ranks, down, estimates, elapsed], [live, leaving]);
+    if !fits(header, card, pairs, of_n, of_m, groups) {
         return answer(header, 9);
     }
     if road >= header.m {
@@ -203,7 +220,7 @@ mod tests {
                 let road = random.below(map.m() + 1) as u32;
                 let time = random.pick(&[1, 5, 60, LONGEST, LONGEST + 1, CLOSED]);
                 if random.chance(10) {
-                    let (which, len) = (random.below(6), random.below(60));
+                    let (which, len) = (random.below(8), random.below(60));
                     unit.areas_mut()[which].resize(len);
                     plain.areas_mut()[which].resize(len);
                 }

@@ -1,7 +1,9 @@
 //! The proved unit beside the plain router: each call is made on both, and the answers, the header and
 //! every word of every area are compared.
 
+use crate::by_tail::ByTail;
 use crate::calls::{Accepted, Answer, Call, Calls, Refusal};
+use crate::card;
 use crate::machine::Reply;
 use crate::maps::Map;
 use crate::random::setting;
@@ -17,9 +19,10 @@ pub struct Both {
     pub unit: Unit,
     pub router: Router,
     card: Vec<u8>,
-    /// What the areas of ranks and of pairs are to hold throughout.
+    /// What the areas of ranks, of pairs and of roads by tail are to hold throughout.
     ranks: Vec<u32>,
     pairs: Vec<u32>,
+    by_tail: ByTail,
 }
 
 impl Both {
@@ -46,7 +49,10 @@ impl Both {
         })?;
         let mut pairs = router.hierarchy.records().concat();
         pairs.resize(unit.pairs.len(), 0);
-        let both = Both { card, ranks: router.hierarchy.ranks().to_vec(), pairs, unit, router };
+        let (roads, order) = card::map(&card)?;
+        let by_tail = ByTail::new(&Map::of_rows(&roads, order));
+        let ranks = router.hierarchy.ranks().to_vec();
+        let both = Both { unit, router, card, ranks, pairs, by_tail };
         both.check();
         Ok(both)
     }
@@ -80,13 +86,15 @@ impl Both {
         assert_eq!(unit.header, header, "proved (left), plain (right)");
         assert!(unit.card == self.card, "no call alters the card");
         assert!(unit.guarded(), "no call alters guard words");
-        let want: [&[u32]; 6] = [
+        let want: [&[u32]; 8] = [
             &self.ranks,
             &self.pairs,
             &router.live,
             &router.down,
             &router.estimates,
             &router.elapsed,
+            &self.by_tail.leaving,
+            &self.by_tail.groups,
         ];
         for ((name, area), want) in unit.areas().into_iter().zip(want) {
             same(name, area, want);

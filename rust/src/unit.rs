@@ -84,7 +84,9 @@ exports! {
         live: mut Time,
         down: mut Time,
         estimates: mut Time,
-        elapsed: mut Time;
+        elapsed: mut Time,
+        leaving: mut u32,
+        groups: mut u32;
     );
     fn unit_set(
         header;
@@ -94,7 +96,9 @@ exports! {
         live: mut Time,
         down: const Time,
         estimates: const Time,
-        elapsed: const Time;
+        elapsed: const Time,
+        leaving: const u32,
+        groups: const u32;
         road,
         time
     );
@@ -106,7 +110,9 @@ exports! {
         live: const Time,
         down: mut Time,
         estimates: mut Time,
-        elapsed: const Time;
+        elapsed: const Time,
+        leaving: const u32,
+        groups: const u32;
         junction
     );
     fn unit_estimate(
@@ -117,7 +123,9 @@ exports! {
         live: const Time,
         down: const Time,
         estimates: mut Time,
-        elapsed: const Time;
+        elapsed: const Time,
+        leaving: const u32,
+        groups: const u32;
         junction
     );
     fn unit_go(
@@ -129,6 +137,8 @@ exports! {
         down: const Time,
         estimates: mut Time,
         elapsed: mut Time,
+        leaving: const u32,
+        groups: const u32,
         route: mut u32,
         log: mut u32;
         start
@@ -142,6 +152,8 @@ exports! {
         down: mut Time,
         estimates: mut Time,
         elapsed: mut Time,
+        leaving: mut u32,
+        groups: mut u32,
         route: mut u32,
         log: mut u32,
         script: const u32,
@@ -291,6 +303,10 @@ pub struct Unit {
     pub down: Area,
     pub estimates: Area,
     pub elapsed: Area,
+    /// Road numbers by tail.
+    pub leaving: Area,
+    /// Where each tail's group starts.
+    pub groups: Area,
 }
 
 /// Calls an export. Each slice is handed on as a pointer and a length.
@@ -314,11 +330,13 @@ impl Unit {
             down: Area::new(n),
             estimates: Area::new(n),
             elapsed: Area::new(n),
+            leaving: Area::new(m),
+            groups: Area::new(n + 1),
         }
     }
 
-    /// The six areas and their names.
-    pub fn areas(&self) -> [(&'static str, &Area); 6] {
+    /// The eight areas and their names.
+    pub fn areas(&self) -> [(&'static str, &Area); 8] {
         [
             ("ranks", &self.ranks),
             ("pairs", &self.pairs),
@@ -326,10 +344,12 @@ impl Unit {
             ("down totals", &self.down),
             ("estimates", &self.estimates),
             ("elapsed", &self.elapsed),
+            ("leaving", &self.leaving),
+            ("groups", &self.groups),
         ]
     }
 
-    pub fn areas_mut(&mut self) -> [&mut Area; 6] {
+    pub fn areas_mut(&mut self) -> [&mut Area; 8] {
         [
             &mut self.ranks,
             &mut self.pairs,
@@ -337,6 +357,8 @@ impl Unit {
             &mut self.down,
             &mut self.estimates,
             &mut self.elapsed,
+            &mut self.leaving,
+            &mut self.groups,
         ]
     }
 
@@ -354,7 +376,9 @@ impl Unit {
             self.live => as_mut_ptr,
             self.down => as_mut_ptr,
             self.estimates => as_mut_ptr,
-            self.elapsed => as_mut_ptr;
+            self.elapsed => as_mut_ptr,
+            self.leaving => as_mut_ptr,
+            self.groups => as_mut_ptr;
         ));
         self.hand_back(returned)?.done()
     }
@@ -377,6 +401,8 @@ impl Unit {
             self.down => as_mut_ptr,
             self.estimates => as_mut_ptr,
             self.elapsed => as_mut_ptr,
+            self.leaving => as_mut_ptr,
+            self.groups => as_mut_ptr,
             route => as_mut_ptr,
             log => as_mut_ptr,
             script => as_ptr,
@@ -431,7 +457,9 @@ impl Calls for Unit {
             self.live => as_mut_ptr,
             self.down => as_ptr,
             self.estimates => as_ptr,
-            self.elapsed => as_ptr;
+            self.elapsed => as_ptr,
+            self.leaving => as_ptr,
+            self.groups => as_ptr;
             road,
             time
         ));
@@ -447,7 +475,9 @@ impl Calls for Unit {
             self.live => as_ptr,
             self.down => as_mut_ptr,
             self.estimates => as_mut_ptr,
-            self.elapsed => as_ptr;
+            self.elapsed => as_ptr,
+            self.leaving => as_ptr,
+            self.groups => as_ptr;
             junction
         ));
         self.hand_back(returned)?.done()
@@ -462,7 +492,9 @@ impl Calls for Unit {
             self.live => as_ptr,
             self.down => as_ptr,
             self.estimates => as_mut_ptr,
-            self.elapsed => as_ptr;
+            self.elapsed => as_ptr,
+            self.leaving => as_ptr,
+            self.groups => as_ptr;
             junction
         ));
         self.hand_back(returned)?.estimate()
@@ -478,6 +510,8 @@ impl Calls for Unit {
             self.down => as_ptr,
             self.estimates => as_mut_ptr,
             self.elapsed => as_mut_ptr,
+            self.leaving => as_ptr,
+            self.groups => as_ptr,
             route => as_mut_ptr,
             log => as_mut_ptr;
             start

@@ -147,10 +147,11 @@ fn map_p() {
     let output = run("right", &read("c/map_p.c"));
     let said = told(&output.stdout);
     assert_eq!(output.status.code(), Some(0), "{said}");
-    assert_eq!((said.matches(" ok\n").count(), said.lines().count()), (12, 12), "{said}");
+    assert_eq!((said.matches(" ok\n").count(), said.lines().count()), (13, 13), "{said}");
     for case in 1..=10 {
         assert!(said.contains(&format!("P{case} ")), "{said}");
     }
+    assert!(said.contains("A1 "), "{said}");
 }
 
 /// The C program sees an answer that is not the one it waits for, in each case.
@@ -169,6 +170,8 @@ fn map_p_with_another_answer() {
         ("P8 ", "log_of_3[] = {3}", "log_of_3[] = {0}"),
         ("P9 ", "set(0, 1000001) == 11", "set(0, 1000001) == 0"),
         ("P10 ", "gone(0, 15,", "gone(0, 0,"),
+        ("A1 ", "{0, 2, 1, 3, 4}", "{0, 1, 2, 3, 4}"),
+        ("A1 ", "{0, 2, 3, 4, 5}", "{0, 2, 3, 4, 4}"),
         ("replay", "25, 4, 2, 11,", "25, 4, 2, 12,"),
     ]
     .into_iter()

@@ -7,6 +7,7 @@
 //! ```
 
 use harness::both::{with_stack, Both};
+use harness::by_tail::Listed;
 use harness::calls::{Accepted, Answer, Call, Calls, Refusal};
 use harness::card::{LONGEST, MOST_JUNCTIONS, MOST_ROADS};
 use harness::machine::Machine;
@@ -25,6 +26,10 @@ struct Tally {
     estimate: [usize; 16],
     go: [usize; 16],
     none: usize,
+    /// How often each area had a wrong length, and at last the card.
+    lengths: [usize; 9],
+    /// The roads by tail, which are compared after every call.
+    listed: Listed,
 }
 
 impl Tally {
@@ -51,7 +56,8 @@ impl Tally {
                 && met(&self.aim, &[0, 9, 12])
                 && met(&self.estimate, &[0, 9, 12, 13])
                 && met(&self.go, &[0, 9, 12, 13, 14, 15])
-                && self.none >= least,
+                && self.none >= least
+                && self.lengths.iter().all(|&met| met >= least),
             "too few of one kind: {self:?}"
         );
     }
@@ -104,17 +110,17 @@ fn random_call(random: &mut Random, map: &Map) -> Call {
     }
 }
 
-/// Another length for one of the unit's areas, or for the card.
-fn wrong_length(random: &mut Random, unit: &mut Unit) {
-    let which = random.below(7);
-    if which == 6 {
+/// Another length for one of the unit's areas, or for the card. Which of them, the card last.
+fn wrong_length(random: &mut Random, unit: &mut Unit) -> usize {
+    let which = random.below(9);
+    if which == 8 {
         let len = unit.card.len();
         let other = random.pick(&[0, 28, len - 4, len - 1, len + 1, len + 4, 2 * len]);
         unit.card.resize(if other == len { len + 12 } else { other }, 0);
-        return;
+        return which;
     }
     let least = 4 * unit.header.pairs as usize;
-    let area = unit.areas_mut().into_iter().nth(which).expect("six areas");
+    let area = &mut unit.areas_mut()[which];
     let len = area.len();
     area.resize(match which {
         1 if least > 0 && random.chance(50) => random.pick(&[0, least - 4, least - 1]),
@@ -122,6 +128,7 @@ fn wrong_length(random: &mut Random, unit: &mut Unit) {
         _ if len > 0 && random.chance(50) => random.pick(&[0, len / 2, len - 1]),
         _ => random.pick(&[len + 1, len + 4, 2 * len + 1]),
     });
+    which
 }
 
 /// Question 9: the call is refused, and nothing is altered.
@@ -143,11 +150,12 @@ fn run_list(random: &mut Random, map: &Map, calls: usize, tally: &mut Tally) {
     let room = random.pick(&[pairs, pairs + 1, pairs + 100, MOST_PAIRS]).min(MOST_PAIRS);
     let mut both = Both::prepare(map, room).unwrap();
     let mut machine = Machine::new(map);
+    tally.listed.count(map);
     for _ in 0..calls {
         let call = random_call(random, map);
         if random.chance(3) {
             let mut unit = both.unit.clone();
-            wrong_length(random, &mut unit);
+            tally.lengths[wrong_length(random, &mut unit)] += 1;
             tally.count(call, refused_lengths(&mut unit, call));
             continue;
         }
@@ -209,6 +217,15 @@ fn lists() {
             run_list(&mut random, &map, calls, &mut tally);
         }
         tally.at_least(length / 1_000);
+        let Listed { empty, several, moved, not_by_head, .. } = tally.listed;
+        assert!(
+            empty.iter().all(|&met| met > length / 2_000)
+                && several > length / 100
+                && moved > length / 100
+                && not_by_head > length / 200,
+            "{:?}",
+            tally.listed
+        );
     });
 }
 
@@ -570,7 +587,7 @@ fn wrong_lengths_are_refused_first() {
             both.call(Call::Aim { junction: 1 });
         }
     }
-    assert_eq!(refusals, 3 * 2 * (10 + 6 * 8) * 2 * 5);
+    assert_eq!(refusals, 3 * 2 * (10 + 8 * 8) * 2 * 5);
 }
 
 /// The deepest map, a line in rank order, with no more stack than c/route_unit.h says.
@@ -595,7 +612,7 @@ fn on_a_small_stack() {
 }
 
 /// A refused preparing of a card without a body leaves a header of zeros, which that card and empty areas
-/// fit: the plain questions answer.
+/// fit, with one word for where groups start: the plain questions answer. With another number of words, 9.
 #[test]
 fn after_a_refused_preparing() {
     for room in [0, 1, MOST_PAIRS] {
@@ -609,6 +626,17 @@ fn after_a_refused_preparing() {
             assert_eq!(unit.go(argument, &mut [], &mut []), Err(Refusal::NoJunction));
         }
         assert!(unit == before, "a refused call alters the unit");
+        for len in [0, 2] {
+            unit.groups.resize(len);
+            for call in [
+                Call::Set { road: 0, time: CLOSED },
+                Call::Aim { junction: 0 },
+                Call::Estimate { junction: 0 },
+                Call::Go { start: 0, route: 0, log: 0 },
+            ] {
+                refused_lengths(&mut unit, call).unwrap_err();
+            }
+        }
     }
 }
 

@@ -4,7 +4,7 @@
 //! a header out of range is refused, by 9, whatever the lengths.
 
 use harness::both::with_stack;
-use harness::calls::{Call, Calls, Refusal};
+use harness::calls::{Accepted, Answer, Call, Calls, Refusal};
 use harness::card::{self, LONGEST, MOST_JUNCTIONS, MOST_ROADS};
 use harness::damage::CardDamage;
 use harness::maps::{self, Streets};
@@ -62,6 +62,18 @@ fn records(random: &mut Random, area: &mut [u32], n: usize) {
     }
 }
 
+/// Starts of groups that ascend, up to m for the most part, and roads that are mostly some of the map's.
+fn ascending_groups(random: &mut Random, unit: &mut Unit, m: usize) {
+    let most = m + random.pick(&[0, 0, 0, 3]);
+    for start in unit.groups.iter_mut() {
+        *start = random.below(most + 1) as u32;
+    }
+    unit.groups.sort();
+    for road in unit.leaving.iter_mut() {
+        *road = number(random, m);
+    }
+}
+
 /// A size up to `most`: small, large or the largest.
 fn size(random: &mut Random, most: usize) -> usize {
     match random.below(20) {
@@ -106,6 +118,9 @@ fn forge_on(random: &mut Random, card: &[u8], n: usize, room: usize) -> Unit {
     if random.chance(50) {
         records(random, &mut unit.pairs, n);
     }
+    if random.chance(50) {
+        ascending_groups(random, &mut unit, m);
+    }
     unit.header = Header { n: n as u32, m: m as u32, ..header(random, n) };
     unit.header.pairs = random.below(room + 1) as u32;
     unit
@@ -132,8 +147,8 @@ fn number(random: &mut Random, n: usize) -> u32 {
     }
 }
 
-/// A prepared and used unit, damaged in a few places.
-fn damage(random: &mut Random) -> Unit {
+/// A prepared and used unit.
+fn used(random: &mut Random) -> Unit {
     let map = match random.below(8) {
         0 => maps::town(random, 20, 20, Streets::USUAL),
         1 => maps::even_grid(random, 8, 8),
@@ -144,8 +159,15 @@ fn damage(random: &mut Random) -> Unit {
     unit.prepare().expect("room for the pairs");
     unit.aim(random.below(n) as u32).expect("a junction");
     unit.estimate(random.below(n) as u32).expect("a junction");
+    unit
+}
+
+/// One that is damaged in a few places.
+fn damage(random: &mut Random) -> Unit {
+    let mut unit = used(random);
+    let (n, m) = (unit.header.n as usize, unit.header.m as usize);
     for _ in 0..=random.below(6) {
-        match random.below(9) {
+        match random.below(11) {
             0 => CardDamage::RoadWord.apply(random, &mut unit.card, n, m),
             1 => CardDamage::OrderWord.apply(random, &mut unit.card, n, m),
             2 => unit.header = Header { target: number(random, n), ..unit.header },
@@ -158,6 +180,23 @@ fn damage(random: &mut Random) -> Unit {
             }
         }
     }
+    unit
+}
+
+/// One with all as it is to be but for an entry of the roads by tail, or a start of a group.
+fn damage_groups(random: &mut Random) -> Unit {
+    let mut unit = used(random);
+    let m = unit.header.m;
+    let area = match m > 0 && random.chance(50) {
+        true => &mut unit.leaving,
+        false => &mut unit.groups,
+    };
+    let (place, other) = (random.below(area.len()), random.below(area.len()));
+    let old = area[place];
+    let word = random.word();
+    let words = [old + 1, old.wrapping_sub(1), 0, m, m + 1, area[other], u32::MAX, word];
+    let new = random.pick(&words);
+    area[place] = if new == old { old + 1 } else { new };
     unit
 }
 
@@ -186,6 +225,60 @@ struct Met {
     kept_by_estimates: usize,
     /// The same of the goes that searched.
     kept_by_goes: usize,
+    groups: Groups,
+}
+
+/// What the groups of logged junctions were, where they are to be gone on from.
+#[derive(Debug, Default)]
+struct Groups {
+    /// Starts behind its end.
+    crossed: usize,
+    /// Ends behind the last road.
+    beyond: usize,
+    /// Has a road that is not below m,
+    no_road: usize,
+    /// or one that leaves another junction.
+    stray: usize,
+}
+
+impl Groups {
+    /// Counts those of a go's log.
+    fn count(&mut self, unit: &Unit, log: &[u32]) {
+        let m = unit.header.m as usize;
+        let roads = unit.card[card::len(0, 0)..card::len(0, m)].as_chunks::<12>().0;
+        for &junction in log.iter().filter(|&&junction| junction != unit.header.target) {
+            let at = junction as usize;
+            let [start, end] = [unit.groups[at], unit.groups[at + 1]].map(|word| word as usize);
+            if start > end {
+                self.crossed += 1;
+            } else if end > m {
+                self.beyond += 1;
+            } else {
+                for &road in &unit.leaving[start..end] {
+                    match roads.get(road as usize) {
+                        None => self.no_road += 1,
+                        Some(road) => {
+                            self.stray += !road.starts_with(&junction.to_le_bytes()) as usize
+                        }
+                    }
+                }
+            }
+        }
+    }
+
+    fn at_least(&self, least: usize) {
+        let Groups { crossed, beyond, no_road, stray } = *self;
+        assert!([crossed, beyond, no_road, stray].iter().all(|&met| met >= least), "{self:?}");
+    }
+}
+
+/// How many junctions stand in the log.
+fn count_of(answer: Answer) -> usize {
+    match answer {
+        Ok(Accepted::Trip(trip)) => trip.count as usize,
+        Err(Refusal::NoPath(count)) => count as usize,
+        _ => 0,
+    }
 }
 
 /// Makes a call, and looks at what it may not alter.
@@ -205,16 +298,14 @@ fn free_call(unit: &mut Unit, call: Call, met: &mut Met) {
     }
 
     let written = match call {
-        Call::Set { .. } => [false, false, true, false, false, false],
-        Call::Aim { .. } => [false, false, false, true, true, false],
-        Call::Estimate { .. } => [false, false, false, false, true, false],
-        Call::Go { .. } => [false, false, false, false, true, true],
+        Call::Set { .. } => &["live times"][..],
+        Call::Aim { .. } => &["down totals", "estimates"],
+        Call::Estimate { .. } => &["estimates"],
+        Call::Go { .. } => &["estimates", "elapsed"],
     };
     assert!(unit.card == before.card, "{call:?} alters the card");
-    for (((name, area), (_, old)), written) in
-        unit.areas().into_iter().zip(before.areas()).zip(written)
-    {
-        assert!(written || area == old, "{call:?} alters {name}");
+    for ((name, area), (_, old)) in unit.areas().into_iter().zip(before.areas()) {
+        assert!(written.contains(&name) || area == old, "{call:?} alters {name}");
     }
 
     let refusal = answer.map_or_else(|refusal| refusal.number() as usize, |_| 0);
@@ -223,7 +314,10 @@ fn free_call(unit: &mut Unit, call: Call, met: &mut Met) {
         let kept = kept(&before.estimates, &unit.estimates, call);
         match (call, refusal) {
             (Call::Estimate { .. }, 0) => met.kept_by_estimates += kept,
-            (Call::Go { .. }, 0 | 15) => met.kept_by_goes += kept,
+            (Call::Go { .. }, 0 | 15) => {
+                met.kept_by_goes += kept;
+                met.groups.count(unit, &log[..count_of(answer)]);
+            }
             _ => (),
         }
     }
@@ -264,6 +358,7 @@ fn noise_in_every_area() {
         let enough = accepted > calls / 4 && no_junction > calls / 20 && no_path > calls / 100;
         let kept = met.kept_by_estimates > 10 * calls && met.kept_by_goes > 10 * calls;
         assert!(enough && kept, "{met:?}");
+        met.groups.at_least(calls / 100);
     });
 }
 
@@ -275,6 +370,45 @@ fn damaged_states() {
         let enough = met.refusals[0] > calls / 3 && met.refusals[15] > calls / 50;
         let kept = met.kept_by_estimates > calls && met.kept_by_goes > calls;
         assert!(enough && kept, "{met:?}");
+    });
+}
+
+/// All is as it is to be, but for one word of the roads by tail or of where their groups start.
+#[test]
+fn damaged_groups() {
+    with_stack(|| {
+        let calls = setting("CALLS_LENGTH", 60_000);
+        let met = free_calls(3, calls, damage_groups);
+        let enough = met.refusals[0] > calls / 3 && met.refusals[15] > calls / 50;
+        assert!(enough, "{met:?}");
+        met.groups.at_least(calls / 500);
+    });
+}
+
+/// Every other junction's group is all roads, and those between end before they start. No road to the target is
+/// open, so each junction that has an estimate is gone on from.
+#[test]
+fn all_roads_from_every_other_junction() {
+    with_stack(|| {
+        let map = maps::largest_town(&mut Random::new(5));
+        let (n, m) = (map.n(), map.m());
+        let card = map.card().expect("a map in range");
+        let mut unit = Unit::new(&card, n, m, order::pairs(&map));
+        unit.prepare().expect("room for the pairs");
+        unit.aim(0).expect("a junction");
+        for (road, _) in (0..).zip(&map.roads).filter(|(_, road)| road.head == 0) {
+            unit.set(road, CLOSED).expect("a road");
+        }
+        let mut met = Met::default();
+        for even in [0, m as u32] {
+            for (junction, start) in unit.groups.iter_mut().enumerate() {
+                *start = if junction % 2 == 0 { even } else { m as u32 - even };
+            }
+            for start in [1, 2] {
+                free_call(&mut unit, Call::Go { start, route: n, log: n }, &mut met);
+            }
+        }
+        assert!(met.groups.crossed > 1_000 && met.groups.stray > 10_000_000, "{met:?}");
     });
 }
 

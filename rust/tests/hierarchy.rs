@@ -1,6 +1,7 @@
 //! Preparing, aim and estimate of the proved unit, beside the plain router and Dijkstra searches.
 
 use harness::both::{same, with_stack, Both};
+use harness::by_tail::Listed;
 use harness::calls::{Accepted, Call, Calls, Refusal};
 use harness::card::{self, LONGEST, MOST_JUNCTIONS};
 use harness::damage::CardDamage;
@@ -171,7 +172,7 @@ fn sums_past_32_bits() {
     });
 }
 
-/// Cases P1 to P4.
+/// Cases P1 to P4, and the roads by tail.
 #[test]
 fn map_p() {
     let map = maps::map_p();
@@ -180,6 +181,8 @@ fn map_p() {
     let records =
         [[0, 2, NONE, 10], [0, 3, 10, NONE], [1, 2, NONE, 15], [1, 3, 10, NONE], [2, 3, 20, 20]];
     assert_eq!(both.unit.pairs.as_chunks().0, records);
+    assert_eq!(both.unit.leaving[..], [0, 2, 1, 3, 4]);
+    assert_eq!(both.unit.groups[..], [0, 2, 3, 4, 5]);
     assert_eq!(both.unit.header, Header { n: 4, m: 5, pairs: 5, aimed: 0, target: 0 });
     both.call(Call::Aim { junction: 3 });
     for (junction, estimate) in [(0, 20), (1, 10), (2, 10), (3, 0)] {
@@ -232,6 +235,50 @@ fn which_entries_an_estimate_fills() {
     assert!(
         filled > 5_000 && untouched > 10_000 && missing > 1_000,
         "{filled} filled, {untouched} untouched, {missing} without a chain"
+    );
+}
+
+/// The roads by tail, which preparing lists whatever the areas held: maps of the same lengths are prepared
+/// one after the other on the same areas. Roads leave all junctions, or the first ones alone, or the last.
+#[test]
+fn roads_by_tail() {
+    let mut random = Random::new(10);
+    let mut listed = Listed::default();
+    for i in 0..400 {
+        let (n, m) = match i {
+            0 => (MOST_JUNCTIONS, MOST_JUNCTIONS),
+            1 => (2, card::MOST_ROADS),
+            2..20 => (500, random.below(600)),
+            _ => (2 + random.below(12), random.below(40)),
+        };
+        let mut unit = Unit::new(&[], n, m, MOST_PAIRS);
+        for _ in 0..3 {
+            let tails = match random.below(4) {
+                0 => 0..1 + random.below(n),
+                1 => random.below(n)..n,
+                _ => 0..n,
+            };
+            let mut roads = maps::random(&mut random, n, m, LONGEST).roads;
+            for road in &mut roads {
+                let tail = (tails.start + random.below(tails.len())) as u32;
+                if tail != road.head {
+                    road.tail = tail;
+                }
+            }
+            let map = Map::in_good_order(n, roads);
+            unit.card = map.card().unwrap();
+            unit = Both::prepare_on(unit).unwrap().unit;
+            listed.count(&map);
+        }
+    }
+    let Listed { maps, empty, several, moved, not_by_head } = listed;
+    assert!(
+        maps == 1_200
+            && empty.iter().all(|&met| met > 200)
+            && several > 5_000
+            && moved > 20_000
+            && not_by_head > 1_000,
+        "{listed:?}"
     );
 }
 
@@ -301,7 +348,7 @@ fn refused(mut unit: Unit) -> Refusal {
 #[test]
 fn areas_of_another_length() {
     let mut random = Random::new(8);
-    let mut refusals = 0;
+    let mut refusals = [0; 8];
     for map in [
         maps::map_p(),
         maps::random(&mut random, 1, 0, 1),
@@ -310,7 +357,7 @@ fn areas_of_another_length() {
     ] {
         let (card, room) = (map.card().unwrap(), order::pairs(&map));
         let unit = Unit::new(&card, map.n(), map.m(), room);
-        for area in 0..6 {
+        for (area, refusals) in refusals.iter_mut().enumerate() {
             let len = unit.areas()[area].1.len();
             let all =
                 [len.wrapping_sub(4), len.wrapping_sub(1), len + 1, len + 2, len + 3, len + 4];
@@ -326,11 +373,24 @@ fn areas_of_another_length() {
                 let mut unit = unit.clone();
                 unit.areas_mut()[area].resize(other);
                 assert_eq!(refused(unit), Refusal::AreaLengths, "area {area}: {other} for {len}");
-                refusals += 1;
+                *refusals += 1;
             }
         }
     }
-    assert!(refusals > 200, "{refusals} refusals");
+    assert!(refusals.iter().all(|&met| met > 25), "{refusals:?} refusals");
+}
+
+/// Questions 7 and 9, where the roads by tail and the starts of their groups have each other's lengths.
+#[test]
+fn areas_of_each_others_lengths() {
+    let map = maps::random(&mut Random::new(11), 9, 20, 7);
+    let mut unit = Both::prepare(&map, order::pairs(&map)).unwrap().unit;
+    std::mem::swap(&mut unit.leaving, &mut unit.groups);
+    assert_eq!(refused(unit.clone()), Refusal::AreaLengths);
+    assert_eq!(unit.set(0, LONGEST), Err(Refusal::Lengths));
+    assert_eq!(unit.aim(0), Err(Refusal::Lengths));
+    assert_eq!(unit.estimate(0), Err(Refusal::Lengths));
+    assert_eq!(unit.go(0, &mut [0; 9], &mut [0; 9]), Err(Refusal::Lengths));
 }
 
 /// A card that is refused, in areas of its map's lengths and in others.
@@ -345,7 +405,8 @@ fn damaged_cards() {
         let mut unit = Unit::new(&card, map.n(), map.m(), 20);
         let also = random.chance(20);
         if also {
-            unit.elapsed.resize(map.n() + 1);
+            let area = &mut unit.areas_mut()[random.below(8)];
+            area.resize(area.len() + 1);
         }
         let number = match card::read(&card) {
             Err(refusal) => {

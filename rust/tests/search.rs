@@ -2,6 +2,7 @@
 //! and Dijkstra's algorithm itself.
 
 use harness::both::{same, with_stack, Both};
+use harness::by_tail::ByTail;
 use harness::calls::{Accepted, Call, Refusal, Trip};
 use harness::card::{LONGEST, MOST_JUNCTIONS};
 use harness::dijkstra;
@@ -108,6 +109,8 @@ struct Tally {
     ties: usize,
     /// and of them, those with a smaller number: they became candidates just then.
     falling: usize,
+    /// Roads of a route that stand first, or last, among several that leave their tail.
+    ends_of_groups: [usize; 2],
 }
 
 impl Tally {
@@ -116,13 +119,21 @@ impl Tally {
         let target = random.below(map.n()) as u32;
         let mut journey = Journey::new(map, live, target);
         let base = dijkstra::to(&journey.graph, &journey.map.base(), target);
+        let by_tail = ByTail::new(&journey.map);
         for _ in 0..3 {
             let start = random.below(journey.map.n()) as u32;
             let search = journey.go(start, random.below(20));
             match &search.found {
-                Some((total, _)) => {
+                Some((total, route)) => {
                     self.found += 1;
                     self.delayed += (*total > base[start as usize]) as usize;
+                    for road in route {
+                        let group = by_tail.group(journey.map.roads[*road as usize].tail);
+                        let ends = [group.first(), group.last()];
+                        for (met, end) in self.ends_of_groups.iter_mut().zip(ends) {
+                            *met += (group.len() > 1 && end == Some(road)) as usize;
+                        }
+                    }
                 }
                 None => self.missing += 1,
             }
@@ -149,7 +160,7 @@ fn small_maps() {
         let live = traffic::live_times(&mut random, &map);
         tally.trips(&mut random, map, live);
     }
-    let Tally { found, missing, empty, delayed, unasked, ties, falling } = tally;
+    let Tally { found, missing, empty, delayed, unasked, ties, falling, ends_of_groups } = tally;
     assert!(
         found > 10_000
             && missing > 3_000
@@ -157,7 +168,8 @@ fn small_maps() {
             && delayed > 500
             && unasked > 5_000
             && ties > 10_000
-            && falling > 500,
+            && falling > 500
+            && ends_of_groups.iter().all(|&met| met > 1_000),
         "{tally:?}"
     );
 }
@@ -181,9 +193,14 @@ fn towns() {
         }
         tally.trips(&mut random, map, live);
     }
-    let Tally { found, missing, delayed, unasked, ties, .. } = tally;
+    let Tally { found, missing, delayed, unasked, ties, ends_of_groups, .. } = tally;
     assert!(
-        found > 100 && missing > 10 && delayed > 20 && unasked > 1_000 && ties > 1_000,
+        found > 100
+            && missing > 10
+            && delayed > 20
+            && unasked > 1_000
+            && ties > 1_000
+            && ends_of_groups.iter().all(|&met| met > 200),
         "{tally:?}"
     );
 }

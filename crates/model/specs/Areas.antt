@@ -1,10 +1,11 @@
 -- The unit's areas: who writes each, how long it is, and what preparing leaves in it. Definitions only.
 use mathlib.Core.Bool.{Bool, _&&_}
 use mathlib.Core.List.{List, [], _++_, _∷_}
-use Prim.Native.Nat.{_%_, _*_, _-_, ℕ}
+use Prim.Native.Nat.{_%_, _*_, _-_, suc, ℕ}
 use lib.Dec.{eqb, leb}
 use lib.ListN.{length, replicate}
 use Rattle.graph.specs.Records.{Pair}
+use Rattle.graph.specs.ByTail.{byTail, startOf}
 use Rattle.graph.specs.Map.{Map, pairsOf, rank}
 use Rattle.model.specs.Word.{noneWord, unasked, word}
 use Rattle.model.specs.Bytes.{listed}
@@ -12,10 +13,13 @@ use Rattle.model.specs.Limits.{mostPairs}
 
 -- ---- "Areas of the unit", by who writes them; A stands for an area: its words, or how many they are
 
--- made at switch-on and never written again: ranks "by junction number", and the records of the pairs
+-- made at switch-on and never written again: ranks "by junction number", the records of the pairs, and (document 02, A1) "road numbers by
+-- tail" and "where each tail's group starts"
 pub record Built (A : Type 0) : Type 0 where
   pub ranks : A
   pub pairs : A
+  pub leaving : A
+  pub groups : A
 
 -- what an aim makes, by junction number: down totals, and estimates, which are filled as they are asked
 pub record Aimed (A : Type 0) : Type 0 where
@@ -36,10 +40,10 @@ pub record Each (A : Type 0) : Type 0 where
 abbrev pub Areas : Type 0
 Areas = Each (List ℕ)
 
--- the areas in document 01's order
-abbrev pub areasOf : {A : Type 0} → (ranks pairs live down estimates elapsed : A) → Each A
-areasOf r p l d e t = record {
-  built = record { ranks = r; pairs = p };
+-- the areas in document 01's order, then those of document 02
+abbrev pub areasOf : {A : Type 0} → (ranks pairs live down estimates elapsed leaving groups : A) → Each A
+areasOf r p l d e t g h = record {
+  built = record { ranks = r; pairs = p; leaving = g; groups = h };
   live = l;
   aimed = record { down = d; estimates = e };
   trip = record { elapsed = t };
@@ -53,6 +57,7 @@ each f a =
     (f (a .live))
     (f (a .aimed .down)) (f (a .aimed .estimates))
     (f (a .trip .elapsed))
+    (f (a .built .leaving)) (f (a .built .groups))
 
 -- ---- lengths, for questions 7 and 9
 
@@ -67,13 +72,14 @@ recordSize = 4
 abbrev pub roomFits : (p room : ℕ) → Bool
 roomFits p room = eqb (room % recordSize) 0 && leb (recordSize * p) room && leb room (recordSize * mostPairs)
 
--- n words, room for p pairs, m words, and three times n words
+-- n words, room for p pairs, m words, three times n words; m and n + 1 words
 unfoldable pub lengthsFit : (n m p : ℕ) → Each ℕ → Bool
 lengthsFit n m p l =
     eqb (l .built .ranks) n && roomFits p (l .built .pairs)
     && eqb (l .live) m
     && eqb (l .aimed .down) n && eqb (l .aimed .estimates) n
     && eqb (l .trip .elapsed) n
+    && eqb (l .built .leaving) m && eqb (l .built .groups) (suc n)
 
 -- ---- what preparing leaves
 
@@ -86,11 +92,24 @@ words (p ∷ l) = p .low ∷ p .high ∷ word (p .upTime) ∷ word (p .downTime)
 abbrev pub recordsIn : Map → (k : ℕ) → List ℕ
 recordsIn M k = words (pairsOf M) ++ replicate (k - recordSize * length (pairsOf M)) 0
 
+-- A1: "road numbers by tail, ascending within a tail"
+abbrev pub leavingOf : Map → List ℕ
+leavingOf M = byTail (M .base .tail) (M .base .arcs) (M .vertices)
+
+-- A1: "where each tail's group starts, the last m"
+abbrev pub groupsOf : Map → List ℕ
+groupsOf M = listed (suc (M .vertices)) (startOf (M .base .tail) (M .base .arcs))
+
 -- "Preparing fills ranks and pairs, .. sets each live time to its base time, down totals and elapsed to none and each estimate to unasked";
 -- the room for pairs stays
 abbrev pub freshAreas : Map → (room : ℕ) → Areas
 freshAreas M room = record {
-  built = record { ranks = listed (M .vertices) (rank M); pairs = recordsIn M room };
+  built = record {
+    ranks = listed (M .vertices) (rank M);
+    pairs = recordsIn M room;
+    leaving = leavingOf M;
+    groups = groupsOf M;
+  };
   live = listed (M .base .arcs) (λ i. word (M .base .cost i));
   aimed = record { down = replicate (M .vertices) noneWord; estimates = replicate (M .vertices) unasked };
   trip = record { elapsed = replicate (M .vertices) noneWord };

@@ -97,8 +97,9 @@ abbrev pub unwritten : (roads order : List ℕ) (bytes : ℕ) → Refusal → Ca
 unwritten roads order k q = writing roads order k ⇒ record { answer = Refused q; area = replicate k 7 }
 
 -- areas of these lengths, full of w
-abbrev full : (w ranks pairs live down estimates elapsed : ℕ) → Areas
-full w r p l d e t = areasOf (replicate r w) (replicate p w) (replicate l w) (replicate d w) (replicate e w) (replicate t w)
+abbrev full : (w ranks pairs live down estimates elapsed leaving groups : ℕ) → Areas
+full w r p l d e t g h =
+    areasOf (replicate r w) (replicate p w) (replicate l w) (replicate d w) (replicate e w) (replicate t w) (replicate g w) (replicate h w)
 
 abbrev pub headerOf : (n m pairs : ℕ) → Target → Header
 headerOf n m p z = record { n = n; m = m; pairs = p; target = z }
@@ -115,10 +116,11 @@ unfolding prepare wordAt measured up down
 prepares p = prepare (p .card) (p .areas)
 
 -- a refused preparing leaves w in each area, and a header of zeros
-abbrev pub unprepared : Refusal → (w : ℕ) → (card : List ℕ) (ranks pairs live down estimates elapsed : ℕ) → Case Preparing Step
-unprepared q w c r p l d e t =
-    record { card = c; areas = full 7 r p l d e t }
-    ⇒ record { answer = Refused q; state = record { header = headerOf 0 0 0 Absent; areas = full w r p l d e t }; lent = nothing }
+abbrev pub unprepared : Refusal → (w : ℕ) → (card : List ℕ) (ranks pairs live down estimates elapsed leaving groups : ℕ)
+    → Case Preparing Step
+unprepared q w c r p l d e t g h =
+    record { card = c; areas = full 7 r p l d e t g h }
+    ⇒ record { answer = Refused q; state = record { header = headerOf 0 0 0 Absent; areas = full w r p l d e t g h }; lent = nothing }
 
 -- ---- calls
 
@@ -142,10 +144,10 @@ unfolding step
 answers g = map (λ (c : Call). step (g .card) (g .state) c) (g .calls)
 
 -- Each is refused and leaves everything as it was: a card of so many bytes, a header of these numbers, areas of these lengths.
-abbrev pub refused : Refusal → List Call → (n m pairs : ℕ) → Target → (bytes ranks pairs live down estimates elapsed : ℕ)
+abbrev pub refused : Refusal → List Call → (n m pairs : ℕ) → Target → (bytes ranks pairs live down estimates elapsed leaving groups : ℕ)
     → Case Calling (List Step)
-refused q calls n m k z b r p l d e t =
-    let s : State = record { header = headerOf n m k z; areas = full 7 r p l d e t } in
+refused q calls n m k z b r p l d e t g h =
+    let s : State = record { header = headerOf n m k z; areas = full 7 r p l d e t g h } in
     record { card = replicate b 7; state = s; calls = calls }
     ⇒ map (λ (c : Call). record { answer = Refused q; state = s; lent = c .lent }) calls
 
@@ -166,7 +168,7 @@ no q c = record { call = c; answer = Refused q; after = λ s. s; holds = c .lent
 abbrev becoming : State → Target → (live down estimates elapsed : List ℕ) → State
 becoming s z l d e t = record {
   header = headerOf (s .header .n) (s .header .m) (s .header .pairs) z;
-  areas = areasOf (s .areas .built .ranks) (s .areas .built .pairs) l d e t;
+  areas = areasOf (s .areas .built .ranks) (s .areas .built .pairs) l d e t (s .areas .built .leaving) (s .areas .built .groups);
 }
 
 -- an accepted set, with the live times after it
@@ -216,13 +218,15 @@ go j l total roads log = went (Gone total (length log) (length roads)) j l roads
 abbrev pub lost : (start : ℕ) → Lent → (log estimates elapsed : List ℕ) → Turn
 lost j l log = went (Refused (NoPath (length log))) j l [] log
 
--- A map that is prepared with room for so many pairs, the ranks and records that this leaves, and the turns that follow.
+-- A map that is prepared with room for so many pairs, the ranks, records and roads by tail that this leaves, and the turns that follow.
 pub record Script : Type 0 where
   pub roads : List (List ℕ)
   pub order : List ℕ
   pub room : ℕ
   pub ranks : List ℕ
   pub pairs : List (List ℕ)
+  pub leaving : List ℕ
+  pub groups : List ℕ
   pub turns : List Turn
 
 -- what the definitions answer and leave: preparing, then each call
@@ -232,7 +236,8 @@ unfolding wordAt prepare step measured upTotal offerVia offered below-or before 
 played c =
     let k = card (c .roads) (c .order) in
     let n = length (c .order) in
-    let p = prepare k (full 7 n (4 * c .room) (length (c .roads)) n n n) in
+    let m = length (c .roads) in
+    let p = prepare k (full 7 n (4 * c .room) m n n n m (suc n)) in
     p ∷ steps k (p .state) (map (λ (t : Turn). t .call) (c .turns))
 
 -- the state that an accepted preparing leaves
@@ -246,7 +251,8 @@ prepared c =
           (c .ranks) (row (c .pairs) ++ replicate (4 * (c .room - length (c .pairs))) 0)
           (map (λ (r : List ℕ). getD r 2 0) (c .roads))
           (replicate n ∞) (replicate n □)
-          (replicate n ∞);
+          (replicate n ∞)
+          (c .leaving) (c .groups);
     }
 
 -- what the turns say, each going on from the state that the one before leaves

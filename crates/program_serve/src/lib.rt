@@ -90,11 +90,14 @@ fn answer_lines(
     down: &mut [TimeWord],
     estimates: &mut [TimeWord],
     elapsed: &mut [TimeWord],
+    leaving: &[u32],
+    groups: &[u32],
     route: &mut [u32; program_shell::JUNCTIONS],
     log: &mut [u32; program_shell::JUNCTIONS],
     out: &mut [u8; program_shell::OUT_ROOM],
 ) -> Talk
-    ensures { λ r. ⌜ AnswersLines (now (file .entry)) from (areas ranks pairs live down estimates elapsed) (lent route log) out r ⌝ }
+    ensures { λ r. ⌜ AnswersLines (now (file .entry)) from (areas ranks pairs live down estimates elapsed leaving groups) (lent route log)
+        out r ⌝ }
 {
     let mut chunk = [0u8; line_input::CHUNK_ROOM];
     let mut line = [0u8; line_input::LINE_ROOM];
@@ -112,6 +115,8 @@ fn answer_lines(
             down,
             estimates,
             elapsed,
+            leaving,
+            groups,
             route,
             log,
             out,
@@ -148,15 +153,29 @@ fn serve(
     down: &mut [TimeWord],
     estimates: &mut [TimeWord],
     elapsed: &mut [TimeWord],
+    leaving: &mut [u32],
+    groups: &mut [u32],
     route: &mut [u32; program_shell::JUNCTIONS],
     log: &mut [u32; program_shell::JUNCTIONS],
     out: &mut [u8; program_shell::OUT_ROOM],
     input: i32,
     output: i32,
 ) -> Talk
-    ensures { λ r. ⌜ Serves (now (file .entry)) (areas ranks pairs live down estimates elapsed) (lent route log) (now (out .exit)) r ⌝ }
+    ensures { λ r. ⌜ Serves (now (file .entry)) (areas ranks pairs live down estimates elapsed leaving groups) (lent route log)
+        (now (out .exit)) r ⌝ }
 {
-    let opened = program_shell::open_card(file, ranks, pairs, live, down, estimates, elapsed, out);
+    let opened = program_shell::open_card(
+        file,
+        ranks,
+        pairs,
+        live,
+        down,
+        estimates,
+        elapsed,
+        leaving,
+        groups,
+        out,
+    );
     answer_lines(
         begin(opened, input, output),
         file,
@@ -166,6 +185,8 @@ fn serve(
         down,
         estimates,
         elapsed,
+        leaving,
+        groups,
         route,
         log,
         out,
@@ -185,6 +206,8 @@ fn start(file: &[u8], input: i32, output: i32) -> Talk
     let mut down = [0 as TimeWord; program_shell::JUNCTIONS];
     let mut estimates = [0 as TimeWord; program_shell::JUNCTIONS];
     let mut elapsed = [0 as TimeWord; program_shell::JUNCTIONS];
+    let mut leaving = [0u32; program_shell::ROADS];
+    let mut groups = [0u32; program_shell::GROUPS];
     let mut route = [0u32; program_shell::JUNCTIONS];
     let mut log = [0u32; program_shell::JUNCTIONS];
     let mut out = [0u8; program_shell::OUT_ROOM];
@@ -196,6 +219,8 @@ fn start(file: &[u8], input: i32, output: i32) -> Talk
         &mut down[..n],
         &mut estimates[..n],
         &mut elapsed[..n],
+        &mut leaving[..m],
+        &mut groups[..n + 1],
         &mut route,
         &mut log,
         &mut out,

@@ -189,6 +189,8 @@ module _ (file : List ℕ) (a : Areas) (lends : Lends file a) where
         down = refl;
         estimates = refl;
         elapsed = refl;
+        leaving = refl;
+        groups = refl;
       })
 
   -- questions 7 and 8, where 1 to 6 pass

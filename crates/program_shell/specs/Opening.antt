@@ -4,7 +4,7 @@ use mathlib.Core.Path.{_≡_}
 use mathlib.Core.Bool.{Bool, _||_, cond, true}
 use mathlib.Core.Option.{Option, none, some}
 use mathlib.Core.List.{List, []}
-use Prim.Native.Nat.{_/_, min, ℕ}
+use Prim.Native.Nat.{_/_, min, suc, ℕ}
 use denote.Triple.Both.{Both}
 use lib.Dec.{eqb, ltb}
 use lib.ListN.{length, take}
@@ -66,7 +66,7 @@ roadRoom file = roomIn (entryOf file 0) roadSize roadLimit
 
 -- the lengths of areas for n junctions and m roads, with room for so many words of pairs
 abbrev pub lengthsFor : (n pairs m : ℕ) → Each ℕ
-lengthsFor n p m = areasOf n p m n n n
+lengthsFor n p m = areasOf n p m n n n m (suc n)
 
 abbrev pub Lends : (file : List ℕ) → Areas → Type 0
 Lends file a = lengths a ≡ lengthsFor (junctionRoom file) pairWords (roadRoom file)

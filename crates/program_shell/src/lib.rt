@@ -39,6 +39,9 @@ pub const CARD_SIZE: usize = 32768;
 // The words of so many pairs.
 pub const PAIRS_ROOM: usize = network::RECORD * PAIRS;
 
+// Where the group of each junction starts, and where the last one ends.
+pub const GROUPS: usize = JUNCTIONS + 1;
+
 // Room for any answer.
 pub const OUT_ROOM: usize = 8192;
 
@@ -139,11 +142,23 @@ pub fn open_card(
     down: &mut [TimeWord],
     estimates: &mut [TimeWord],
     elapsed: &mut [TimeWord],
+    leaving: &mut [u32],
+    groups: &mut [u32],
     out: &mut [u8; OUT_ROOM],
 ) -> Opened
-    ensures { λ r. ⌜ OpensCard (now (file .entry)) (areas ranks pairs live down estimates elapsed) (now (out .exit)) r ⌝ }
+    ensures { λ r. ⌜ OpensCard (now (file .entry)) (areas ranks pairs live down estimates elapsed leaving groups) (now (out .exit)) r ⌝ }
 {
-    let prepared = unit_switch_on::prepare(file, ranks, pairs, live, down, estimates, elapsed);
+    let prepared = unit_switch_on::prepare(
+        file,
+        ranks,
+        pairs,
+        live,
+        down,
+        estimates,
+        elapsed,
+        leaving,
+        groups,
+    );
     judge(file.len(), prepared, out)
 }
 
@@ -180,12 +195,14 @@ pub fn answer_line(
     down: &mut [TimeWord],
     estimates: &mut [TimeWord],
     elapsed: &mut [TimeWord],
+    leaving: &[u32],
+    groups: &[u32],
     route: &mut [u32; JUNCTIONS],
     log: &mut [u32; JUNCTIONS],
     out: &mut [u8; OUT_ROOM],
 ) -> Reply
     ensures { λ r. ⌜ AnswersLine (now (card .entry)) (now (line .entry)) header
-        (areas ranks pairs live down estimates elapsed) (lent route log) (now (out .exit)) r ⌝ }
+        (areas ranks pairs live down estimates elapsed leaving groups) (lent route log) (now (out .exit)) r ⌝ }
 {
     match line_console::read_line(line) {
         Line::Unreadable => Reply {
@@ -202,6 +219,8 @@ pub fn answer_line(
                 down,
                 estimates,
                 elapsed,
+                leaving,
+                groups,
                 route,
                 log,
                 c,

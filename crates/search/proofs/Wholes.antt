@@ -1,5 +1,5 @@
 -- The whole search, from what its parts ensure. Assumes nothing.
-use mathlib.Core.Path.{_≡_, ap, subst, sym}
+use mathlib.Core.Path.{_≡_, ap, subst, subst₂, sym}
 use mathlib.Core.Bool.{Bool, false, true}
 use mathlib.Core.List.{List, []}
 use Prim.Native.Nat.{_<_, ℕ}
@@ -12,6 +12,7 @@ use Rattle.model.specs.State.{first}
 use Rattle.model.specs.Set.{settable}
 use Rattle.model.specs.Go.{liveOf}
 use Rattle.network.specs.Bodies.{Prepared, map-facts}
+use Rattle.road_groups.specs.Lending.{GroupsMade}
 use Rattle.search_labels.specs.Ways.{arcsBack, wayOf}
 use Rattle.search_junctions.specs.State.{Given, Ready, goGiven, mapGiven}
 use Rattle.search_junctions.specs.Ways.{stepBack}
@@ -40,8 +41,8 @@ pub record SameLengths (l l′ : Written) : Type 0 where
   pub log-long : length (l′ .log) ≡ length (l .log)
 
 -- the answer, by what the run leaves: l and l′ hold the roads that gave the times, the route comes after
-module _ {g : Given} {s z : ℕ} {l l′ : Written} {route₀ : List ℕ} {c : ℕ} {complete : Bool} {total : ℕ}
-    (lends : Lends g s z (routed l route₀)) (ran : Advances g s z (g .sizes .n) l l′ c complete)
+module _ {g : Given} {leaving groups : List ℕ} {s z : ℕ} {l l′ : Written} {route₀ : List ℕ} {c : ℕ} {complete : Bool} {total : ℕ}
+    (lends : Lends g leaving groups s z (routed l route₀)) (ran : Advances g leaving groups s z (g .sizes .n) l l′ c complete)
     (read : total ≡ getD (l′ .elapsed) z 0) where
   ready : Prepared (g .roads) (g .order) (g .ranks) (g .pairs) (g .sizes .pairs)
       → ((i : ℕ) → i < mapGiven g .base .arcs → settable (mapGiven g .base .cost i) (liveOf (g .live) i) ≡ true) → Ready g s z
@@ -60,21 +61,26 @@ module _ {g : Given} {s z : ℕ} {l l′ : Written} {route₀ : List ℕ} {c : �
       → Advanced g s z (history (goGiven g s z)) l l′ c complete
   ended r x = subst (λ (H : List Entry). Advanced g s z H l l′ c complete) (whole r) x
 
-  pub searches-lost : eqb total noneWord ≡ true → SearchesIn g s z (routed l route₀) (routed l′ route₀) total c 0
+  -- the roads by tail, in the numbers of the header
+  made-in : Ready g s z → GroupsMade (g .roads) (mapGiven g .vertices) (mapGiven g .base .arcs) leaving groups
+      → GroupsMade (g .roads) (g .sizes .n) (g .sizes .m) leaving groups
+  made-in r made = subst₂ (λ (n : ℕ) (m : ℕ). GroupsMade (g .roads) n m leaving groups) (r .n-is) (r .m-is) made
+
+  pub searches-lost : eqb total noneWord ≡ true → SearchesIn g leaving groups s z (routed l route₀) (routed l′ route₀) total c 0
   searches-lost q = record {
     kept = ran .kept;
-    exact = λ p a t. (
+    exact = λ p made a t. (
         let r = ready p t in
-        answer-lost r (ended r (ran .exact r a)) read q);
+        answer-lost r (ended r (ran .exact r (made-in r made) a)) read q);
   }
 
   pub searches-found : {number : ℕ} {route : List ℕ} → eqb total noneWord ≡ false
       → number ≡ arcsBack (λ u. eqb u s) (stepBack (g .roads) (l′ .ways) (g .sizes .n) (g .sizes .m)) (g .sizes .n) z
       → route ≡ first (wayOf (λ u. getD (l′ .ways) u 0) (stepBack (g .roads) (l′ .ways) (g .sizes .n) (g .sizes .m)) number z) route₀
-      → SearchesIn g s z (routed l route₀) (routed l′ route) total c number
+      → SearchesIn g leaving groups s z (routed l route₀) (routed l′ route) total c number
   searches-found q w y = record {
     kept = ran .kept;
-    exact = λ p a t. (
+    exact = λ p made a t. (
         let r = ready p t in
-        answer-found r (ended r (ran .exact r a)) read q w y);
+        answer-found r (ended r (ran .exact r (made-in r made) a)) read q w y);
   }

@@ -15,6 +15,7 @@ use Rattle.model.specs.Estimate.{Kept, filled}
 use Rattle.model.specs.Go.{asks, goRoute, liveOf}
 use Rattle.model.specs.Good.{AimFacts}
 use Rattle.network.specs.Bodies.{Prepared, mapIn}
+use Rattle.road_groups.specs.Lending.{GroupsMade}
 use Rattle.search_junctions.specs.State.{Given, goIn}
 use Rattle.search_run.specs.Runs.{Written}
 
@@ -30,16 +31,19 @@ pub record Found (roads order live : List ℕ) (s z : ℕ) (e₀ route₀ log₀
   pub route-is : route ≡ goRoute (totalOf (goIn roads order live s z)) (routeOf (goIn roads order live s z)) route₀
   pub log-is : log ≡ first (vertices (logOf (goIn roads order live s z))) log₀
 
-pub record Searches (roads order ranks pairs live down : List ℕ) (count s z : ℕ)
+pub record Searches (roads order ranks pairs live down leaving groups : List ℕ) (count s z : ℕ)
     (e₀ route₀ log₀ e elapsed route log : List ℕ) (total logged number : ℕ) : Type 0 where
   -- on any contents: what is filled stays
   pub kept : Kept e₀ e
   -- where preparing and aim left the areas, and each live time is one that set allows
-  pub exact : Prepared roads order ranks pairs count → AimFacts (mapIn roads order) z down e₀
+  pub exact : Prepared roads order ranks pairs count
+      → GroupsMade roads (mapIn roads order .vertices) (mapIn roads order .base .arcs) leaving groups
+      → AimFacts (mapIn roads order) z down e₀
       → ((i : ℕ) → i < mapIn roads order .base .arcs → settable (mapIn roads order .base .cost i) (liveOf live i) ≡ true)
       → Found roads order live s z e₀ route₀ log₀ e elapsed route log total logged number
 
 -- the same of what is given to the search, and of what it writes
-abbrev pub SearchesIn : Given → (s z : ℕ) → (l l′ : Written) → (total logged number : ℕ) → Type 0
-SearchesIn g s z l l′ = Searches (g .roads) (g .order) (g .ranks) (g .pairs) (g .live) (g .down) (g .sizes .pairs) s z
+abbrev pub SearchesIn : Given → (leaving groups : List ℕ) (s z : ℕ) → (l l′ : Written) → (total logged number : ℕ) → Type 0
+SearchesIn g leaving groups s z l l′ =
+    Searches (g .roads) (g .order) (g .ranks) (g .pairs) (g .live) (g .down) leaving groups (g .sizes .pairs) s z
     (l .estimates) (l .ways) (l .log) (l′ .estimates) (l′ .elapsed) (l′ .ways) (l′ .log)

@@ -2,9 +2,7 @@
 ghost use Rattle.search_junctions.specs.State.{given};
 ghost use Rattle.search_run.specs.Runs.{Lends, written};
 ghost use Rattle.search.specs.Searches.{SearchesIn};
-use network::Junction;
 use network::MOST_JUNCTIONS;
-use network::Sizes;
 use network::Time;
 use network::TimeWord;
 use search_junctions::Trip;
@@ -23,31 +21,30 @@ pub struct Searched {
 
 // The search of a go from the start to the target that was aimed at last.
 pub fn search(
-    sizes: Sizes,
+    trip: Trip,
     roads: &[u8],
     order: &[u8],
     ranks: &[u32],
     pairs: &[u32],
     live: &[TimeWord],
     down: &[TimeWord],
+    leaving: &[u32],
+    groups: &[u32],
     estimates: &mut [TimeWord],
     elapsed: &mut [TimeWord],
     route: &mut [u32],
     log: &mut [u32],
-    start: Junction,
-    target: Junction,
 ) -> Searched
-    requires { ⌜ Lends (given sizes roads order ranks pairs live down) (start .0) (target .0) (written estimates elapsed route log) ⌝ }
-    ensures { λ r. ⌜ SearchesIn (given sizes (roads .entry) (order .entry) (ranks .entry) (pairs .entry) (live .entry) (down .entry))
-        (start .0) (target .0) (written (estimates .entry) (elapsed .entry) (route .entry) (log .entry))
+    requires { ⌜ Lends (given (trip .sizes) roads order ranks pairs live down) (now leaving) (now groups) (trip .start .0) (trip .target .0)
+        (written estimates elapsed route log) ⌝ }
+    ensures { λ r. ⌜ SearchesIn (given (trip .sizes) (roads .entry) (order .entry) (ranks .entry) (pairs .entry) (live .entry)
+        (down .entry)) (now (leaving .entry)) (now (groups .entry)) (trip .start .0) (trip .target .0)
+        (written (estimates .entry) (elapsed .entry) (route .entry) (log .entry))
         (written (estimates .exit) (elapsed .exit) (route .exit) (log .exit)) (r .total .0) (r .count) (r .roads) ⌝ }
 {
     let mut vias = [0u32; JUNCTIONS];
-    let trip = Trip {
-        sizes: sizes,
-        start: start,
-        target: target,
-    };
+    let sizes = trip.sizes;
+    let target = trip.target;
     // no junction is logged twice
     let budget = sizes.n;
     let logged = advance(
@@ -59,6 +56,8 @@ pub fn search(
         pairs,
         live,
         down,
+        leaving,
+        groups,
         estimates,
         elapsed,
         &mut vias,
@@ -73,7 +72,7 @@ pub fn search(
             roads: 0,
         };
     }
-    let number = way_back(roads, &vias, sizes.n, sizes.m, start, target, route);
+    let number = way_back(roads, &vias, sizes.n, sizes.m, trip.start, target, route);
     Searched {
         total: total,
         count: logged.count,

@@ -1,5 +1,5 @@
 -- The estimates of the heads of a junction's open roads, asked road by road. Assumes nothing.
-use mathlib.Core.Path.{_∙_, _≡_, subst, sym}
+use mathlib.Core.Path.{_∙_, _≡_, refl, subst, sym}
 use mathlib.Core.Logic.{_⊎_, inl, inr}
 use mathlib.Core.Bool.{Bool, not, true}
 use mathlib.Core.List.{List}
@@ -13,13 +13,14 @@ use Rattle.graph.specs.Network.{Network}
 use Rattle.model.specs.Word.{noneWord, unasked}
 use Rattle.model.specs.Layout.{roadSize}
 use Rattle.model.specs.Bytes.{wordAt}
+use Rattle.model.specs.Estimate.{Kept}
 use Rattle.model.specs.Laws.{kept-refl, kept-trans}
 use Rattle.pairs_hierarchy.specs.Estimates.{Estimated, aim-estimated}
-use Rattle.search_junctions.specs.Grouped.{FirstFrom}
+use Rattle.search_junctions.specs.Groups.{IsGroup}
 use Rattle.search_junctions.specs.State.{Given, Ready, goGiven}
-use Rattle.search_junctions.specs.Asking.{Asks, EstimatesIn, Leads}
+use Rattle.search_junctions.specs.Asking.{Asks, AsksGroup, EstimatesIn, Leads}
 use Rattle.search_junctions.specs.Facts.{codes}
-use Rattle.search_junctions.proofs.Rows.{Row}
+use Rattle.search_junctions.proofs.Groups.{FirstFrom, entry-end, entry-of, entry-read, entryAt, first-of, next-of}
 use Rattle.search_junctions.proofs.Opens.{OpenRoad, closed-cost, none-far, open-arc, open-cost, open-head, open-tail}
 use Rattle.search_junctions.specs.Fills.{filling-again, filling-more, filling-same, leads-closed, leads-open, leads-skip}
 use Rattle.search_junctions.specs.Fills.{leads-skip-back, pairs-kept}
@@ -64,12 +65,6 @@ module _ {g : Given} {u : ℕ} where
 
   pub asks-end : {i m : ℕ} {e e′ : List ℕ} → i ≡ m → Asks g u 0 i e e′ → Asks g u 0 m e e′
   asks-end {e = e} {e′} q x = subst (λ (k : ℕ). Asks g u 0 k e e′) q x
-
--- The loop stands at road i of u: the heads of u's open roads below i are asked, and the estimates are as long as before.
-pub record Asking (g : Given) (u i : ℕ) (e e′ : List ℕ) : Type 0 where
-  pub long : length e′ ≡ length e
-  pub row : Row (g .roads) (g .sizes .m) u i
-  pub asks : Asks g u 0 i e e′
 
 -- lengths where the estimates are as long as before
 pub estimates-kept : {g : Given} {e e′ : List ℕ} → EstimatesIn g e → length e′ ≡ length e → EstimatesIn g e′
@@ -132,3 +127,37 @@ module _ {g : Given} {i : ℕ} where
           (λ a y. asked-split {N = goGiven g s z .net} {i = i} (open-head (codes r .reads) road) a y)
           (aim-estimated est (g .roads) (r .prepared) z (f .aims)) (est .exact (g .roads) (r .prepared) z (f .aims) .1) f;
     }
+
+-- ---- one road after the other
+
+-- The loop stands at entry k of the group: what is filled stays, and where the group is u's, the heads of u's open roads before that entry
+-- are asked. The estimates are as long as before.
+pub record Asking (g : Given) (group : List ℕ) (k : ℕ) (e e′ : List ℕ) : Type 0 where
+  pub long : length e′ ≡ length e
+  pub kept : Kept e e′
+  pub asks : (u : ℕ) → IsGroup (g .roads) (g .sizes .m) u group → Asks g u 0 (entryAt group (g .sizes .m) k) e e′
+
+module _ {g : Given} {group : List ℕ} where
+  pub asking-start : {e : List ℕ} → Asking g group 0 e e
+  asking-start = record { long = refl; kept = kept-refl; asks = λ u is. asks-skip (first-of is) }
+
+  module _ {k : ℕ} {e e′ : List ℕ} (inside : k < length group) (asking : Asking g group k e e′) where
+    pub asking-turn : {e″ : List ℕ} → length e″ ≡ length e′ → AsksRoad g (getD group k 0) e′ e″ → Asking g group (k + 1) e e″
+    asking-turn {e″} long road = record {
+      long = long ∙ asking .long;
+      kept = kept-trans (asking .kept) (road .kept);
+      asks = λ u is. asks-turn (entry-of is inside .leaves) (next-of is inside) (asking .asks u is)
+          (subst (λ (i : ℕ). AsksRoad g i e′ e″) (entry-read group (g .sizes .m) k inside) road);
+    }
+
+    -- a number that is no road's is in no group
+    pub asking-pass : g .sizes .m ≤ getD group k 0 → Asking g group (k + 1) e e′
+    asking-pass high = record {
+      long = asking .long;
+      kept = asking .kept;
+      asks = λ u is. absurd (omega (arith, entry-of is inside .below, entry-read group (g .sizes .m) k inside));
+    }
+
+  pub asking-end : {k : ℕ} {e e′ : List ℕ} → length group ≤ k → Asking g group k e e′ → AsksGroup g group e e′
+  asking-end {k} past asking =
+      record { kept = asking .kept; exact = λ u is. asks-end (entry-end group (g .sizes .m) k past) (asking .asks u is) }

@@ -1,5 +1,4 @@
 pub mod Groups
-pub mod Rows
 pub mod Opens
 pub mod Heads
 pub mod Roads

@@ -1,11 +1,11 @@
 -- The roads of a logged junction, relaxed one after the other. Assumes nothing.
-use mathlib.Core.Path.{_∙_, _≡_, ap, subst, subst₂, sym}
+use mathlib.Core.Path.{_∙_, _≡_, ap, refl, subst, subst₂, sym}
 use mathlib.Core.Bool.{true}
 use mathlib.Core.Option.{none, some}
 use mathlib.Core.List.{List}
 use Prim.Native.Nat.{_*_, _+_, _<_, _≤_, min, suc, ℕ}
 use lib.Dec.{eqb}
-use lib.ListN.{getD}
+use lib.ListN.{getD, length}
 use native.Mathlib.Numerals.{add-one}
 use native.Mathlib.Omega.{arith}
 use Rattle.graph.specs.Total.{_⊕_, cond-same, ⊕-none}
@@ -17,9 +17,9 @@ use Rattle.model.specs.Bytes.{wordAt}
 use Rattle.network.specs.Width.{fit, fit-in}
 use Rattle.search_labels.specs.Labelling.{AsLong, Labelling, Room, Taken}
 use Rattle.search_labels.specs.Relax.{labels-passed, labels-skip, labels-taken}
-use Rattle.search_junctions.specs.Grouped.{FirstFrom}
-use Rattle.search_junctions.specs.Relaxing.{Read, Relaxes}
-use Rattle.search_junctions.proofs.Rows.{Row}
+use Rattle.search_junctions.specs.Groups.{IsGroup}
+use Rattle.search_junctions.specs.Relaxing.{Read, Relaxes, RelaxesGroup}
+use Rattle.search_junctions.proofs.Groups.{FirstFrom, entry-end, entry-of, entry-read, entryAt, first-of, next-of}
 use Rattle.search_junctions.proofs.Opens.{OpenRoad, closed-cost, none-far, open-arc, open-cost, open-head, open-tail}
 
 -- a closed road gives nothing
@@ -73,12 +73,6 @@ module _ {r : Read} {i from : ℕ} where
 
 -- ---- one road after the other
 
--- The loop stands at road i of u: u's roads below i are relaxed, and the areas are as long as before.
-pub record Relaxing (r : Read) (u t i : ℕ) (l l′ : Labelling) : Type 0 where
-  pub long : AsLong l l′
-  pub row : Row (r .roads) (r .sizes .m) u i
-  pub relaxes : Relaxes r u t 0 i l l′
-
 module _ {r : Read} {u t : ℕ} where
   -- no road of u from k up to j - 1
   pub relaxes-skip : {k j : ℕ} {l : Labelling} → Room (r .sizes .n) l → FirstFrom (r .roads) (r .sizes .m) u k j → Relaxes r u t k j l l
@@ -104,3 +98,46 @@ module _ {r : Read} {u t : ℕ} where
 
   pub relaxes-end : {i m x : ℕ} {l l′ : Labelling} → i ≡ m → t ≡ x → Relaxes r u t 0 i l l′ → Relaxes r u x 0 m l l′
   relaxes-end {l = l} {l′} q p x = subst₂ (λ (k : ℕ) (y : ℕ). Relaxes r u y 0 k l l′) q p x
+
+-- The loop stands at entry k of the group: there is room, and where the group is u's, u's roads before that entry are relaxed. The areas
+-- are as long as before.
+pub record Relaxing (r : Read) (group : List ℕ) (u t k : ℕ) (l l′ : Labelling) : Type 0 where
+  pub long : AsLong l l′
+  pub room : Room (r .sizes .n) l′
+  pub relaxes : IsGroup (r .roads) (r .sizes .m) u group → Relaxes r u t 0 (entryAt group (r .sizes .m) k) l l′
+
+module _ {r : Read} {group : List ℕ} {u t : ℕ} where
+  pub relaxing-start : {l : Labelling} → Room (r .sizes .n) l → Relaxing r group u t 0 l l
+  relaxing-start room = record {
+    long = record { times-long = refl; keys-long = refl; vias-long = refl; tree-long = refl };
+    room = room;
+    relaxes = λ is. relaxes-skip room (first-of is);
+  }
+
+  module _ {k : ℕ} {l l′ : Labelling} (inside : k < length group) (relaxing : Relaxing r group u t k l l′) where
+    pub relaxing-turn : {l″ : Labelling} → AsLong l′ l″ → RelaxesRoad r (getD group k 0) t l′ l″ → Relaxing r group u t (k + 1) l l″
+    relaxing-turn {l″} long road = record {
+      long = record {
+        times-long = long .times-long ∙ relaxing .long .times-long;
+        keys-long = long .keys-long ∙ relaxing .long .keys-long;
+        vias-long = long .vias-long ∙ relaxing .long .vias-long;
+        tree-long = long .tree-long ∙ relaxing .long .tree-long;
+      };
+      room = road .room;
+      relaxes = λ is. relaxes-turn (entry-of is inside .leaves) (next-of is inside) (relaxing .relaxes is)
+          (subst (λ (i : ℕ). RelaxesRoad r i t l′ l″) (entry-read group (r .sizes .m) k inside) road);
+    }
+
+    -- a number that is no road's is in no group
+    pub relaxing-pass : r .sizes .m ≤ getD group k 0 → Relaxing r group u t (k + 1) l l′
+    relaxing-pass high = record {
+      long = relaxing .long;
+      room = relaxing .room;
+      relaxes = λ is. absurd (omega (arith, entry-of is inside .below, entry-read group (r .sizes .m) k inside));
+    }
+
+  pub relaxing-end : {k x : ℕ} {l l′ : Labelling} → length group ≤ k → t ≡ x → Relaxing r group u t k l l′ → RelaxesGroup r group u x l l′
+  relaxing-end {k} past time-is relaxing = record {
+    room = relaxing .room;
+    exact = λ is. relaxes-end (entry-end group (r .sizes .m) k past) time-is (relaxing .relaxes is);
+  }

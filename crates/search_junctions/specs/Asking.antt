@@ -14,6 +14,7 @@ use Rattle.model.specs.Limits.{mostJunctions, mostPairs, mostRoads}
 use Rattle.model.specs.Estimate.{Kept}
 use Rattle.model.specs.Good.{AimFacts, Filled}
 use Rattle.network.specs.declared.Sizes.{Sizes}
+use Rattle.search_junctions.specs.Groups.{IsGroup}
 use Rattle.search_junctions.specs.State.{Given, Ready, goGiven, mapGiven}
 
 -- an open road, numbered below k, leads from u to a
@@ -68,3 +69,10 @@ pub record Asks (g : Given) (u k l : ℕ) (e e′ : List ℕ) : Type 0 where
   pub exact : (s z : ℕ) (H : List Entry) (e₀ : List ℕ) → Ready g s z
       → Filling (mapGiven g) z (AskedTo (goGiven g s z) s z H u k) (g .down) e₀ e
       → Filling (mapGiven g) z (AskedTo (goGiven g s z) s z H u l) (g .down) e₀ e′
+
+-- the heads of a group's open roads are asked
+pub record AsksGroup (g : Given) (group e e′ : List ℕ) : Type 0 where
+  -- on any contents: what is filled stays
+  pub kept : Kept e e′
+  -- where the group is u's
+  pub exact : (u : ℕ) → IsGroup (g .roads) (g .sizes .m) u group → Asks g u 0 (g .sizes .m) e e′

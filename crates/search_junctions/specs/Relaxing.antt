@@ -15,6 +15,7 @@ use Rattle.model.specs.Go.{liveOf}
 use Rattle.network.specs.declared.Sizes.{Sizes}
 use Rattle.search_labels.specs.Labelling.{Labelling, Room}
 use Rattle.search_labels.specs.Labelled.{Labels, Searchable}
+use Rattle.search_junctions.specs.Groups.{IsGroup}
 
 -- what is read: the roads, their times in force, and the estimates
 pub record Read : Type 0 where
@@ -53,3 +54,10 @@ pub record Relaxes (r : Read) (u t k j : ℕ) (l l′ : Labelling) : Type 0 wher
   -- for any problem whose arcs are these roads: from the labels before these roads to those after them
   pub exact : (G : Problem) (H : List Entry) → Searchable G → Reads G (r .sizes) (r .roads) (r .live) → Reached G H → timeIn H u ≡ some t
       → Known G (r .estimates) u → Labels G H u k l → Labels G H u j l′
+
+-- A group of roads, relaxed for u, whose time is t.
+pub record RelaxesGroup (r : Read) (group : List ℕ) (u t : ℕ) (l l′ : Labelling) : Type 0 where
+  -- on any contents: there is room
+  pub room : Room (r .sizes .n) l′
+  -- where the group is u's: all its roads are relaxed
+  pub exact : IsGroup (r .roads) (r .sizes .m) u group → Relaxes r u t 0 (r .sizes .m) l l′

@@ -1,19 +1,18 @@
-// What a node of the search is, and where it leads: nodes are junctions, their roads are linked by tail, and the estimates of open roads'
-// heads are asked before a junction's roads are relaxed (document 01: the search log).
+// What a node of the search is, and where it leads: nodes are junctions, the roads of each are lent as its group, and the estimates of open
+// roads' heads are asked before a junction's roads are relaxed (document 01: the search log).
 ghost use mathlib.Core.Path.{_≡_};
-ghost use Prim.Native.Nat.{_*_, _+_, _<_, _≤_};
+ghost use Prim.Native.Nat.{_*_, _+_, _<_, _≤_, min};
 ghost use lib.Dec.{eqb};
 ghost use lib.ListN.{getD, length};
 ghost use Rattle.model.specs.Layout.{roadSize};
 ghost use Rattle.model.specs.Bytes.{wordAt};
 ghost use Rattle.pairs_hierarchy.specs.Estimates.{Estimated};
 ghost use Rattle.search_labels.specs.Labelling.{Room, Taken, labelling};
-ghost use Rattle.search_junctions.specs.Grouped.{Empty, Grouped, Links};
+ghost use Rattle.search_junctions.specs.Groups.{partOf};
 ghost use Rattle.search_junctions.specs.State.{given};
-ghost use Rattle.search_junctions.specs.Asking.{Asks, EstimatesIn, PairsIn};
-ghost use Rattle.search_junctions.specs.Relaxing.{Relaxes, ReadIn, readOf};
+ghost use Rattle.search_junctions.specs.Asking.{Asks, AsksGroup, EstimatesIn, PairsIn};
+ghost use Rattle.search_junctions.specs.Relaxing.{ReadIn, Relaxes, RelaxesGroup, readOf};
 ghost use Rattle.search_junctions.specs.Ways.{stepBack};
-use areas::fill;
 use network::Junction;
 use network::Sizes;
 use network::Time;
@@ -25,33 +24,20 @@ use search_labels::take;
 
 // ---- the roads of a junction
 
-// Empties the row of each junction.
-fn clear_rows(rows: &mut [u32], n: u32, m: u32)
-    requires { ⌜ n ≤ length (now rows) ⌝ }
-    ensures { λ _. ⌜ Empty n m (now (rows .exit)) ⌝ }
+// The smaller of two numbers.
+fn smaller(a: usize, b: usize) -> usize
+    ensures { λ r. ⌜ r ≡ min a b ⌝ }
 {
-    fill(&mut rows[..n as usize], m);
+    if a < b { a } else { b }
 }
 
-// Links the roads of each junction by ascending number. The rows have each junction's first road, and then for each road the next of the
-// same tail; m ends a row.
-pub fn group(roads: &[u8], n: u32, m: u32, rows: &mut [u32])
-    requires { ⌜ (roadSize * m ≤ length (now roads)) × (n + m ≤ length (now rows)) ⌝ }
-    ensures { λ _. ⌜ Grouped (now (roads .entry)) n m (now (rows .exit)) ⌝ }
+// The group from a up to b of the roads by tail: what lies of it within the area.
+pub fn group_at(leaving: &[u32], a: u32, b: u32) -> &[u32]
+    ensures { λ r. ⌜ now r ≡ partOf (now (leaving .entry)) a b ⌝ }
 {
-    clear_rows(rows, n, m);
-    let mut i = m;
-    while 0 < i {
-        i -= 1;
-        let tail = tail_of(roads, i as usize);
-        let u = tail.0;
-        if u < n {
-            let a = u as usize;
-            let k = n as usize + i as usize;
-            rows[k] = rows[a];
-            rows[a] = i;
-        }
-    }
+    let end = smaller(b as usize, leaving.len());
+    let start = smaller(a as usize, end);
+    &leaving[start..end]
 }
 
 // The time of a road in force, none where it is closed: a road is open if it has one.
@@ -173,7 +159,7 @@ impl Trip {
         take(times, keys, vias, tree, n, start.0, here, estimated, 0);
     }
 
-    // Asks the estimates of the heads of u's open roads.
+    // Asks the estimates of the heads of a group's open roads.
     pub fn ask(
         self,
         roads: &[u8],
@@ -183,24 +169,26 @@ impl Trip {
         live: &[TimeWord],
         down: &[TimeWord],
         estimates: &mut [TimeWord],
-        rows: &[u32],
-        u: u32,
+        group: &[u32],
     )
-        requires { ⌜ EstimatesIn (given (self .sizes) roads order ranks pairs live down) (now estimates)
-            × Links (now roads) (self .sizes .n) (self .sizes .m) (now rows) u ⌝ }
-        ensures { λ _. ⌜ Asks (given (self .sizes) (roads .entry) (order .entry) (ranks .entry) (pairs .entry) (live .entry) (down .entry))
-            u 0 (self .sizes .m) (now (estimates .entry)) (now (estimates .exit)) ⌝ }
+        requires { ⌜ EstimatesIn (given (self .sizes) roads order ranks pairs live down) (now estimates) ⌝ }
+        ensures { λ _. ⌜ AsksGroup
+            (given (self .sizes) (roads .entry) (order .entry) (ranks .entry) (pairs .entry) (live .entry) (down .entry))
+            (now (group .entry)) (now (estimates .entry)) (now (estimates .exit)) ⌝ }
     {
         let sizes = self.sizes;
         let m = sizes.m;
-        let mut i = rows[u as usize];
-        while i < m {
-            ask_head(sizes, roads, order, ranks, pairs, live, down, estimates, i);
-            i = rows[sizes.n as usize + i as usize];
+        let mut k = 0;
+        while k < group.len() {
+            let i = group[k];
+            k += 1;
+            if i < m {
+                ask_head(sizes, roads, order, ranks, pairs, live, down, estimates, i);
+            }
         }
     }
 
-    // Relaxes the roads of the logged junction u; the estimates of their heads have been asked.
+    // Relaxes the group of roads of the logged junction u; the estimates of their heads have been asked.
     pub fn relax(
         self,
         roads: &[u8],
@@ -210,34 +198,37 @@ impl Trip {
         keys: &mut [u64],
         vias: &mut [u32],
         tree: &mut [u64],
-        rows: &[u32],
+        group: &[u32],
         u: u32,
     )
-        requires { ⌜ ReadIn (readOf (self .sizes) roads live estimates) × Room (self .sizes .n) (labelling times keys vias tree)
-            × Links (now roads) (self .sizes .n) (self .sizes .m) (now rows) u ⌝ }
-        ensures { λ _. ⌜ Relaxes (readOf (self .sizes) (roads .entry) (live .entry) (estimates .entry))
-            u (getD (now (times .entry)) u 0) 0 (self .sizes .m)
+        requires { ⌜ (u < self .sizes .n) × ReadIn (readOf (self .sizes) roads live estimates)
+            × Room (self .sizes .n) (labelling times keys vias tree) ⌝ }
+        ensures { λ _. ⌜ RelaxesGroup (readOf (self .sizes) (roads .entry) (live .entry) (estimates .entry))
+            (now (group .entry)) u (getD (now (times .entry)) u 0)
             (labelling (times .entry) (keys .entry) (vias .entry) (tree .entry))
             (labelling (times .exit) (keys .exit) (vias .exit) (tree .exit)) ⌝ }
     {
         let sizes = self.sizes;
         let m = sizes.m;
         let from = Time::of_word(times[u as usize]);
-        let mut i = rows[u as usize];
-        while i < m {
-            relax_road(
-                sizes,
-                roads,
-                live,
-                estimates,
-                times,
-                keys,
-                vias,
-                tree,
-                i,
-                from,
-            );
-            i = rows[sizes.n as usize + i as usize];
+        let mut j = 0;
+        while j < group.len() {
+            let i = group[j];
+            j += 1;
+            if i < m {
+                relax_road(
+                    sizes,
+                    roads,
+                    live,
+                    estimates,
+                    times,
+                    keys,
+                    vias,
+                    tree,
+                    i,
+                    from,
+                );
+            }
         }
     }
 

@@ -4,25 +4,29 @@ use mathlib.Core.Logic.{_⊎_, inl, inr}
 use mathlib.Core.Bool.{_&&_, false, true}
 use mathlib.Core.Option.{none, some}
 use mathlib.Core.List.{List, []}
-use Prim.Native.Nat.{_*_, _+_, _-_, _<_, _≤_, min, ℕ}
+use Prim.Native.Nat.{_*_, _+_, _-_, _<_, _≤_, min, suc, ℕ}
 use borrow.Author.Tests.{eq-eqb, eqb-false, eqb-true, lt-ltb, ltb-true}
 use lib.Dec.{eqb, ltb}
-use lib.ListN.{getD, getD-replicate, length, length-replicate, length-set, replicate, set}
+use lib.ListN.{drop, getD, getD-replicate, length, length-replicate, length-set, replicate, set, take}
 use native.Mathlib.Decide.{decLt}
+use native.Mathlib.Numerals.{add-one}
 use native.Mathlib.Omega.{arith}
 use Rattle.graph.specs.Total.{and-true, true-false}
+use Rattle.graph.specs.ByTail.{startOf}
+use Rattle.graph.specs.ByTailLaws.{group-part}
 use Rattle.graph.specs.Search.{Entry, Problem, hasGoal, run}
 use Rattle.graph.specs.Choice.{NextIs, chosen, finished}
 use Rattle.graph.specs.History.{Reached, grow}
 use Rattle.graph.specs.Complete.{Complete, length-le, run-add, run-complete-stays}
 use Rattle.graph.specs.Steps.{reached-run}
 use Rattle.graph.specs.Walk.{WellFormed}
-use Rattle.model.specs.Limits.{mostJunctions, mostRoads}
+use Rattle.model.specs.Limits.{mostJunctions}
 use Rattle.model.specs.Word.{noneWord}
 use Rattle.model.specs.Estimate.{Kept}
-use Rattle.model.specs.Laws.{kept-refl, kept-trans}
+use Rattle.model.specs.Laws.{kept-refl, kept-trans, listed-at}
 use Rattle.network.specs.Locals.{all-same}
 use Rattle.network.specs.declared.Sizes.{Sizes}
+use Rattle.road_groups.specs.Lending.{GroupsMade, tailIn}
 use Rattle.search_queue.specs.Order.{byKey, noKey, settledKey}
 use Rattle.search_queue.specs.Tree.{Choice, nobodyWord}
 use Rattle.search_queue.specs.Laws.{chosen-inside, fresh-tree}
@@ -30,11 +34,11 @@ use Rattle.search_labels.specs.Labelling.{AsLong, Labelling, Room, labellingOf,
 use Rattle.search_labels.specs.Labelled.{Labels}
 use Rattle.search_labels.specs.Log.{next-chosen}
 use Rattle.search_labels.specs.Ended.{way-at}
-use Rattle.search_junctions.specs.Grouped.{Grouped, Links}
+use Rattle.search_junctions.specs.Groups.{IsGroup, partOf}
 use Rattle.search_junctions.specs.State.{Given, Ready, Sized, goGiven}
-use Rattle.search_junctions.specs.Asking.{Asks, EstimatesIn, PairsIn}
+use Rattle.search_junctions.specs.Asking.{AsksGroup, EstimatesIn, PairsIn}
 use Rattle.search_junctions.specs.Firsts.{Begins, Blank}
-use Rattle.search_junctions.specs.Relaxing.{Relaxes, ReadIn}
+use Rattle.search_junctions.specs.Relaxing.{ReadIn, RelaxesGroup}
 use Rattle.search_junctions.specs.Facts.{codes}
 use Rattle.search_run.specs.Runs.{Advanced, Advances, Lends, Tells, Written, writtenOf}
 use Rattle.search_run.proofs.Turns.{Going, Next, Settled, Stand, chooses, going-start, logged, on, over, standOf, turn-goal}
@@ -138,10 +142,24 @@ blank {z} x ways = record {
   keyless = λ v lv. all-same mostJunctions noKey (z .n) v (x .n-high) lv;
 }
 
--- the roads of v are linked in the local arrays
-pub linked : {roads : List ℕ} {n m v : ℕ} {rows : List ℕ} → v < n → n ≤ mostJunctions → m ≤ mostRoads → Grouped roads n m rows
-    → mostJunctions + mostRoads ≡ length rows → Links roads n m rows v
-linked lv ln lm grouped a = record { here = lv; rows-room = omega arith; grouped = grouped }
+-- between ends within the area nothing is clamped
+part-inside : (l : List ℕ) {a b : ℕ} → a ≤ b → b ≤ length l → partOf l a b ≡ take (b - a) (drop a l)
+part-inside l {a} {b} forward inside =
+    let end-is : min b (length l) ≡ b = omega arith in
+    let start-is : min a b ≡ a = omega arith in
+    rw (end-is, start-is)
+
+-- the part of the roads by tail that is lent for v is its group
+group-lent : {roads : List ℕ} {n m v : ℕ} {leaving groups : List ℕ} → GroupsMade roads n m leaving groups → v < n
+    → IsGroup roads m v (partOf leaving (getD groups v 0) (getD groups (v + 1) 0))
+group-lent {roads} {n} {m} {v} {leaving} {groups} made lv =
+    let start-at : (w : ℕ) → w < suc n → getD groups w 0 ≡ startOf (tailIn roads) m w =
+    λ w lw. ap (λ (l : List ℕ). getD l w 0) (made .starts-are) ∙ listed-at (suc n) (startOf (tailIn roads) m) w lw in
+    let a-is : getD groups v 0 ≡ startOf (tailIn roads) m v = start-at v (omega arith) in
+    let b-is : getD groups (v + 1) 0 ≡ startOf (tailIn roads) m (suc v) =
+    start-at (v + 1) (omega arith) ∙ ap (startOf (tailIn roads) m) (add-one v) in
+    let part = group-part (tailIn roads) m lv (made .leaving-are) a-is b-is in
+    record { group-is = part-inside leaving (part .forward) (part .inside) ∙ part .part-is }
 
 -- ---- the turns
 
@@ -179,7 +197,7 @@ module _ {n v : ℕ} {l : Labelling} {keys tree : List ℕ} (s : Settled n v l k
   }
 
 -- From where the run stands at the beginning of the loop, a, to where it stands now, b.
-pub record Running (g : Given) (s z most : ℕ) (a b : Stand) : Type 0 where
+pub record Running (g : Given) (leaving groups : List ℕ) (s z most : ℕ) (a b : Stand) : Type 0 where
   pub count-le : b .count ≤ most
   pub next-le : b .next ≤ g .sizes .n
   pub estimates-long : length (b .estimates) ≡ length (a .estimates)
@@ -188,11 +206,12 @@ pub record Running (g : Given) (s z most : ℕ) (a b : Stand) : Type 0 where
   pub long : AsLong (a .labels) (b .labels)
   pub room : Room (g .sizes .n) (b .labels)
   pub kept : Kept (a .estimates) (b .estimates)
-  pub goes : (e₀ log₀ : List ℕ) → Ready g s z → most ≤ length log₀ → Going g s z e₀ log₀ a → Going g s z e₀ log₀ b
+  pub goes : (e₀ log₀ : List ℕ) → Ready g s z → GroupsMade (g .roads) (g .sizes .n) (g .sizes .m) leaving groups → most ≤ length log₀
+      → Going g s z e₀ log₀ a → Going g s z e₀ log₀ b
 
-module _ {g : Given} {s z most : ℕ} where
+module _ {g : Given} {leaving groups : List ℕ} {s z most : ℕ} where
   pub running-start : {e t log : List ℕ} {l : Labelling} {v : ℕ} → v ≤ g .sizes .n → Room (g .sizes .n) l
-      → Running g s z most (standOf e t log l 0 v) (standOf e t log l 0 v)
+      → Running g leaving groups s z most (standOf e t log l 0 v) (standOf e t log l 0 v)
   running-start le room = record {
     count-le = omega arith;
     next-le = le;
@@ -202,12 +221,12 @@ module _ {g : Given} {s z most : ℕ} where
     long = record { times-long = refl; keys-long = refl; vias-long = refl; tree-long = refl };
     room = room;
     kept = kept-refl;
-    goes = λ e₀ log₀ r le d. d;
+    goes = λ e₀ log₀ r made le d. d;
   }
 
   -- b's next node is logged and settled
-  module _ {a b : Stand} (x : Running g s z most a b) (turn : Turn (b .next) (g .sizes .n) (b .count) most) {keys tree : List ℕ}
-      (settled : Settled (g .sizes .n) (b .next) (b .labels) keys tree) where
+  module _ {a b : Stand} (x : Running g leaving groups s z most a b) (turn : Turn (b .next) (g .sizes .n) (b .count) most)
+      {keys tree : List ℕ} (settled : Settled (g .sizes .n) (b .next) (b .labels) keys tree) where
     elapsed-kept : length (set (b .elapsed) (b .next) (getD (b .labels .times) (b .next) 0)) ≡ length (a .elapsed)
     elapsed-kept = length-set (b .elapsed) (b .next) (getD (b .labels .times) (b .next) 0) ∙ x .elapsed-long
 
@@ -216,7 +235,7 @@ module _ {g : Given} {s z most : ℕ} where
 
     -- it is the target
     pub running-goal : eqb (b .next) z ≡ true
-        → Running g s z most a (logged b (b .estimates) (withKeys (b .labels) keys tree) (g .sizes .n))
+        → Running g leaving groups s z most a (logged b (b .estimates) (withKeys (b .labels) keys tree) (g .sizes .n))
     running-goal q = record {
       count-le = omega (arith, turn .count-in);
       next-le = omega arith;
@@ -226,18 +245,19 @@ module _ {g : Given} {s z most : ℕ} where
       long = long-trans (x .long) (long-settled settled);
       room = room-settled settled (x .room);
       kept = x .kept;
-      goes = λ e₀ log₀ r le d.
-          turn-goal r (x .goes e₀ log₀ r le d) (turn .node-in) (omega (arith, turn .count-in)) (x .room) settled
+      goes = λ e₀ log₀ r made le d.
+          turn-goal r (x .goes e₀ log₀ r made le d) (turn .node-in) (omega (arith, turn .count-in)) (x .room) settled
           (eqb-true (b .next) z q);
     }
 
-    -- it is not: its roads are relaxed
-    pub running-on : {e : List ℕ} {l : Labelling} {v : ℕ} → eqb (b .next) z ≡ false → length e ≡ length (b .estimates)
-        → AsLong (withKeys (b .labels) keys tree) l → Asks g (b .next) 0 (g .sizes .m) (b .estimates) e
-        → Relaxes (record { sizes = g .sizes; roads = g .roads; live = g .live; estimates = e }) (b .next)
-        (getD (b .labels .times) (b .next) 0) 0 (g .sizes .m) (withKeys (b .labels) keys tree) l
-        → Choice (g .sizes .n) (l .tree) v → Running g s z most a (logged b e l v)
-    running-on {l = l} q le long asks relaxes top =
+    -- it is not: the group of its roads is relaxed
+    pub running-on : {group e : List ℕ} {l : Labelling} {v : ℕ} → eqb (b .next) z ≡ false
+        → group ≡ partOf leaving (getD groups (b .next) 0) (getD groups (b .next + 1) 0) → length e ≡ length (b .estimates)
+        → AsLong (withKeys (b .labels) keys tree) l → AsksGroup g group (b .estimates) e
+        → RelaxesGroup (record { sizes = g .sizes; roads = g .roads; live = g .live; estimates = e }) group (b .next)
+        (getD (b .labels .times) (b .next) 0) (withKeys (b .labels) keys tree) l
+        → Choice (g .sizes .n) (l .tree) v → Running g leaving groups s z most a (logged b e l v)
+    running-on {l = l} q group-is le long asks relaxes top =
         let ch = top (orderOf l) (omega (arith, turn .node-in)) (relaxes .room .n-high) (relaxes .room .right) in
         record {
           count-le = omega (arith, turn .count-in);
@@ -248,9 +268,10 @@ module _ {g : Given} {s z most : ℕ} where
           long = long-trans (x .long) (long-trans (long-settled settled) long);
           room = relaxes .room;
           kept = kept-trans (x .kept) (asks .kept);
-          goes = λ e₀ log₀ r le d.
-              turn-on r (x .goes e₀ log₀ r le d) (turn .node-in) (omega (arith, turn .count-in)) (x .room) settled
-              (eqb-false (b .next) z q) asks relaxes ch;
+          goes = λ e₀ log₀ r made le d.
+              let is = subst (IsGroup (g .roads) (g .sizes .m) (b .next)) (sym group-is) (group-lent made (turn .node-in)) in
+              turn-on r (x .goes e₀ log₀ r made le d) (turn .node-in) (omega (arith, turn .count-in)) (x .room) settled
+              (eqb-false (b .next) z q) (asks .exact (b .next) is) (relaxes .exact is) ch;
         }
 
 -- ---- the end
@@ -327,18 +348,19 @@ module _ {g : Given} {s z : ℕ} (r : Ready g s z) {e₀ log₀ : List ℕ} {a :
       })
 
 -- the run as a whole: its first candidate, and its turns. e₁, t₁, l₁ and v₁ stand when the loop begins.
-pub advances : {g : Given} {s z budget most : ℕ} {l₀ : Written} {e₁ t₁ : List ℕ} {l₁ : Labelling} {v₁ : ℕ} {a : Stand}
-    → Lends g s z l₀ → Begins (g .sizes) (g .order) (g .ranks) (g .pairs) (g .down) s (l₀ .estimates) e₁ l₁
+pub advances : {g : Given} {leaving groups : List ℕ} {s z budget most : ℕ} {l₀ : Written} {e₁ t₁ : List ℕ} {l₁ : Labelling} {v₁ : ℕ}
+    {a : Stand} → Lends g leaving groups s z l₀
+    → Begins (g .sizes) (g .order) (g .ranks) (g .pairs) (g .down) s (l₀ .estimates) e₁ l₁
     → t₁ ≡ replicate (length (l₀ .elapsed)) noneWord → Choice (g .sizes .n) (l₁ .tree) v₁ → most ≡ min budget (g .sizes .n)
-    → Running g s z most (standOf e₁ t₁ (l₀ .log) l₁ 0 v₁) a → ltb (a .next) (g .sizes .n) && ltb (a .count) most ≡ false
-    → Advances g s z budget l₀ (leaves a) (a .count) (eqb (a .next) (g .sizes .n))
+    → Running g leaving groups s z most (standOf e₁ t₁ (l₀ .log) l₁ 0 v₁) a → ltb (a .next) (g .sizes .n) && ltb (a .count) most ≡ false
+    → Advances g leaving groups s z budget l₀ (leaves a) (a .count) (eqb (a .next) (g .sizes .n))
 advances {g} {budget = budget} {most} {l₀} {l₁ = l₁} lends begun cleared top most-is x left = record {
   kept = kept-trans (begun .kept) (x .kept);
   count-le = omega (arith, x .count-le);
-  exact = λ r a.
+  exact = λ r made a.
       let ch = top (orderOf l₁) (omega (arith, lends .start-in)) (begun .room .n-high) (begun .room .right) in
       let none = cleared ∙ ap (λ (k : ℕ). replicate k noneWord) (lends .sized .elapsed-is) in
-      let d = x .goes (l₀ .estimates) (l₀ .log) r (omega (arith, lends .log-long))
+      let d = x .goes (l₀ .estimates) (l₀ .log) r made (omega (arith, lends .log-long))
       (going-start r (begun .exact (g .roads) (g .live) _ r a) none ch) in
       advanced r d budget (omega (arith, x .count-le))
       (λ t. turn-left {most = most} left (record { node-in = t .node-in; count-in = omega (arith, t .count-in) }));

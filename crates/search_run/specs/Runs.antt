@@ -4,7 +4,7 @@ use mathlib.Core.Path.{_≡_}
 use mathlib.Core.Bool.{Bool, false, true}
 use mathlib.Core.Option.{some}
 use mathlib.Core.List.{List, [], reverse}
-use Prim.Native.Nat.{_<_, _≤_, min, ℕ}
+use Prim.Native.Nat.{_<_, _≤_, min, suc, ℕ}
 use lib.ListN.{getD, length}
 use Rattle.graph.specs.Search.{Entry, run, timeIn, vertices}
 use Rattle.graph.specs.Complete.{Complete}
@@ -13,6 +13,7 @@ use Rattle.model.specs.Bytes.{listed}
 use Rattle.model.specs.State.{first}
 use Rattle.model.specs.Estimate.{Kept}
 use Rattle.model.specs.Good.{AimFacts}
+use Rattle.road_groups.specs.Lending.{GroupsMade}
 use Rattle.search_labels.specs.Labelled.{Way}
 use Rattle.search_junctions.specs.State.{Given, Ready, SizedIn, goGiven, mapGiven}
 use Rattle.search_junctions.specs.Asking.{Asked, Filling}
@@ -31,10 +32,13 @@ writtenOf a b c d = record { estimates = a; elapsed = b; ways = c; log = d }
 abbrev pub written : (estimates elapsed ways log : RefT (List ℕ)) → Written
 written a b c d = writtenOf (a .now) (b .now) (c .now) (d .now)
 
--- start and target are junctions, and there is room for what is written
-pub record Lends (g : Given) (s z : ℕ) (l : Written) : Type 0 where
+-- start and target are junctions; the roads by tail have an entry for each road, their groups one for each junction and one more; and there
+-- is room for what is written
+pub record Lends (g : Given) (leaving groups : List ℕ) (s z : ℕ) (l : Written) : Type 0 where
   pub start-in : s < g .sizes .n
   pub target-in : z < g .sizes .n
+  pub leaving-is : length leaving ≡ g .sizes .m
+  pub groups-are : length groups ≡ suc (g .sizes .n)
   pub ways-long : g .sizes .n ≤ length (l .ways)
   pub log-long : g .sizes .n ≤ length (l .log)
   pub sized : SizedIn g (l .estimates) (l .elapsed)
@@ -56,10 +60,11 @@ pub record Advanced (g : Given) (s z : ℕ) (H : List Entry) (l l′ : Written) 
   pub complete-is : Tells complete (Complete (goGiven g s z) H)
 
 -- From the beginning, as many nodes as the budget allows. A larger budget logs further ones behind these (`run-add`).
-pub record Advances (g : Given) (s z budget : ℕ) (l l′ : Written) (c : ℕ) (complete : Bool) : Type 0 where
+pub record Advances (g : Given) (leaving groups : List ℕ) (s z budget : ℕ) (l l′ : Written) (c : ℕ) (complete : Bool) : Type 0 where
   -- on any contents: what is filled stays, and the budget is kept
   pub kept : Kept (l .estimates) (l′ .estimates)
   pub count-le : c ≤ min budget (g .sizes .n)
-  -- in a state that is ready: so many steps of the definition as the budget allows
-  pub exact : Ready g s z → AimFacts (mapGiven g) z (g .down) (l .estimates)
+  -- in a state that is ready, with the roads by tail as the card has them: so many steps of the definition as the budget allows
+  pub exact : Ready g s z → GroupsMade (g .roads) (g .sizes .n) (g .sizes .m) leaving groups
+      → AimFacts (mapGiven g) z (g .down) (l .estimates)
       → Advanced g s z (run (goGiven g s z) budget []) l l′ c complete

@@ -13,11 +13,10 @@ ghost use Rattle.search_run.specs.Runs.{Advances, Lends, written};
 use areas::fill;
 use network::Junction;
 use network::MOST_JUNCTIONS;
-use network::MOST_ROADS;
 use network::Time;
 use network::TimeWord;
 use search_junctions::Trip;
-use search_junctions::group;
+use search_junctions::group_at;
 use search_junctions::step_back;
 use search_queue::NO_KEY;
 use search_queue::NOBODY;
@@ -25,12 +24,10 @@ use search_queue::SETTLED;
 use search_queue::choose;
 use search_queue::put;
 
-// Room for as many nodes as a unit takes, for the places of their tournament, and for the rows of their roads.
+// Room for as many nodes as a unit takes, and for the places of their tournament.
 const NODES: usize = MOST_JUNCTIONS as usize;
 
 const PLACES: usize = 2 * NODES;
-
-const ROWS: usize = NODES + MOST_ROADS as usize;
 
 // How many nodes are logged (document 01: count), and whether the log is complete.
 pub struct Progress {
@@ -56,24 +53,24 @@ pub fn advance(
     pairs: &[u32],
     live: &[TimeWord],
     down: &[TimeWord],
+    leaving: &[u32],
+    groups: &[u32],
     estimates: &mut [TimeWord],
     elapsed: &mut [TimeWord],
     vias: &mut [u32],
     log: &mut [u32],
 ) -> Progress
-    requires { ⌜ Lends (given (trip .sizes) roads order ranks pairs live down) (trip .start .0) (trip .target .0)
+    requires { ⌜ Lends (given (trip .sizes) roads order ranks pairs live down) (now leaving) (now groups) (trip .start .0) (trip .target .0)
         (written estimates elapsed vias log) ⌝ }
     ensures { λ r. ⌜ Advances (given (trip .sizes) (roads .entry) (order .entry) (ranks .entry) (pairs .entry) (live .entry) (down .entry))
-        (trip .start .0) (trip .target .0) budget (written (estimates .entry) (elapsed .entry) (vias .entry) (log .entry))
+        (now (leaving .entry)) (now (groups .entry)) (trip .start .0) (trip .target .0) budget
+        (written (estimates .entry) (elapsed .entry) (vias .entry) (log .entry))
         (written (estimates .exit) (elapsed .exit) (vias .exit) (log .exit)) (r .count) (r .complete) ⌝ }
 {
     let n = trip.sizes.n;
-    let m = trip.sizes.m;
     let mut times = [Time::NONE.0; NODES];
     let mut keys = [NO_KEY; NODES];
     let mut tree = [NOBODY; PLACES];
-    let mut rows = [0u32; ROWS];
-    group(roads, n, m, &mut rows);
     let first = trip.ask_start(order, ranks, pairs, down, estimates);
     trip.begin(&mut times, &mut keys, vias, &mut tree, first);
     fill(elapsed, Time::NONE.0);
@@ -88,7 +85,10 @@ pub fn advance(
         if trip.is_goal(v) {
             v = n;
         } else {
-            trip.ask(roads, order, ranks, pairs, live, down, estimates, &rows, v);
+            let a = groups[v as usize];
+            let b = groups[v as usize + 1];
+            let group = group_at(leaving, a, b);
+            trip.ask(roads, order, ranks, pairs, live, down, estimates, group);
             trip.relax(
                 roads,
                 live,
@@ -97,7 +97,7 @@ pub fn advance(
                 &mut keys,
                 vias,
                 &mut tree,
-                &rows,
+                group,
                 v,
             );
             v = choose(&tree, n);

@@ -32,6 +32,7 @@ use Rattle.network.specs.Bodies.{Prepared, mapIn}
 use Rattle.network.specs.declared.Refusal as code
 use Rattle.network.specs.declared.Verdict.{Verdict}
 use Rattle.network.specs.declared.Verdict.the-variants.{Failed, Passed}
+use Rattle.road_groups.specs.Lending.{GroupsMade}
 use Rattle.unit_answers.specs.Shape.{answerIn}
 use Rattle.unit_answers.specs.declared.Answer as code-answer
 use Rattle.unit_answers.specs.declared.Answer.the-variants as answers
@@ -42,7 +43,7 @@ use Rattle.unit.specs.declared.Header as unit
 use Rattle.unit.specs.declared.Answered.{Answered}
 use Rattle.unit.specs.Shape.{answeredIn, headerIn, targetIn}
 use Rattle.unit.specs.Meets.{asksGo}
-use Rattle.unit.proofs.Bodies.{good-map, good-prepared}
+use Rattle.unit.proofs.Bodies.{good-groups, good-map, good-prepared}
 use Rattle.unit.proofs.Fitting.{Fits, fits-facts}
 use Rattle.unit.proofs.Made.{aimed-at}
 use Rattle.unit.proofs.Refused.{made-by, never-left, refused-by}
@@ -195,8 +196,8 @@ module _ (card : List ℕ) (h : Header) (a : Areas) (s : ℕ) (k : Lent) where
 
     go-made : fitsBy h (length card) (lengths a) ≡ true → own card h s k ≡ none → {z : ℕ} → z ≡ targetOf (h .target)
         → roads ≡ roadsIn card (h .m) → order ≡ orderIn card (h .n) (h .m)
-        → Searches roads order (a .built .ranks) (a .built .pairs) (a .live) (a .aimed .down) (h .pairs) s z (a .aimed .estimates)
-        (k .route) (k .log) e elapsed route log total count number
+        → Searches roads order (a .built .ranks) (a .built .pairs) (a .live) (a .aimed .down) (a .built .leaving) (a .built .groups)
+        (h .pairs) s z (a .aimed .estimates) (k .route) (k .log) e elapsed route log total count number
         → x ≡ goAnswer (ofWord total) count number
         → CallContract card (before h a) (goCall s k) (answering x (before h (goneAreas a e elapsed)) (lentOf route log))
     unfolding left-by
@@ -204,8 +205,8 @@ module _ (card : List ℕ) (h : Header) (a : Areas) (s : ℕ) (k : Lent) where
         made-by f g (λ w. exactly w (subst (Searched roads order) target-is d)) (record { leaves = refl; kept = d .kept })
       where
         Searched : (roads order : List ℕ) → ℕ → Type 0
-        Searched r o z = Searches r o (a .built .ranks) (a .built .pairs) (a .live) (a .aimed .down) (h .pairs) s z (a .aimed .estimates)
-            (k .route) (k .log) e elapsed route log total count number
+        Searched r o z = Searches r o (a .built .ranks) (a .built .pairs) (a .live) (a .aimed .down) (a .built .leaving) (a .built .groups)
+            (h .pairs) s z (a .aimed .estimates) (k .route) (k .log) e elapsed route log total count number
 
         exactly : Good card (before h a) → Searched roads order (targetOf (h .target))
             → left-by x e elapsed route log ≡ goMade (mapOn card) (before h a) s k
@@ -214,18 +215,21 @@ module _ (card : List ℕ) (h : Header) (a : Areas) (s : ℕ) (k : Lent) where
             let here : mapIn roads order ≡ mapOn card = ap₂ mapIn roads-are order-is ∙ good-map w in
             let prepared = subst₂ (λ (r : List ℕ) (o : List ℕ). Prepared r o (a .built .ranks) (a .built .pairs) (h .pairs))
             (sym roads-are) (sym order-is) (good-prepared w) in
+            let grouped = subst₂ (λ (r : List ℕ) (o : List ℕ).
+            GroupsMade r (mapIn r o .vertices) (mapIn r o .base .arcs) (a .built .leaving) (a .built .groups))
+            (sym roads-are) (sym order-is) (good-groups w) in
             let aims = subst (λ (N : Map). AimFacts N z (a .aimed .down) (a .aimed .estimates)) (sym here)
             (aimed-at w (go-facts card h s k g .aimed)) in
             let times = subst (λ (N : Map). (i : ℕ) → i < N .base .arcs → settable (N .base .cost i) (liveOf (a .live) i) ≡ true)
             (sym here) (w .times) in
-            found-is (searched .exact prepared aims times) answer-is ∙ ap gone-on here ∙ made-is
+            found-is (searched .exact prepared grouped aims times) answer-is ∙ ap gone-on here ∙ made-is
 
 -- the same of what is handed back
 pub go-handed : {card : List ℕ} {h : unit.Header} {a : Areas} {s : ℕ} {k : Lent} {roads order e elapsed route log : List ℕ}
     {total count number : ℕ} {x : code-answer.Answer} {r : Answered} → GoPassed card h (lengths a) s k
     → {z : ℕ} → z ≡ targetOf (targetIn (h .target)) → roads ≡ roadsIn card (h .sizes .m) → order ≡ orderIn card (h .sizes .n) (h .sizes .m)
-    → Searches roads order (a .built .ranks) (a .built .pairs) (a .live) (a .aimed .down) (h .sizes .pairs) s z (a .aimed .estimates)
-    (k .route) (k .log) e elapsed route log total count number
+    → Searches roads order (a .built .ranks) (a .built .pairs) (a .live) (a .aimed .down) (a .built .leaving) (a .built .groups)
+    (h .sizes .pairs) s z (a .aimed .estimates) (k .route) (k .log) e elapsed route log total count number
     → answerIn x ≡ goAnswer (ofWord total) count number → r ≡ record { header = h; answer = x }
     → CallContract card (before (headerIn h) a) (goCall s k) (after (answeredIn r) (goneAreas a e elapsed) (lentOf route log))
 go-handed {card} {h} {a} {s} {k} {e = e} {elapsed} {route} {log} p target-is roads-are order-is searched answer-is handed =

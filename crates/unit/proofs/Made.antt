@@ -160,13 +160,13 @@ aim-made {card} {h} {a} {k} {j} lengths-are p {d = d} {e} pairs-are aimed-is ord
 
 pub estimate-made : {card : List ℕ} {h : unit.Header} {a : Areas} {k : Lent} {l : Each ℕ} {j : ℕ} → lengths a ≡ l
     → CallPassed card h l (Estimate j) → {ranks pairs order down estimates e : List ℕ} {v : Time}
-    → a .built ≡ record { ranks = ranks; pairs = pairs } → a .aimed ≡ record { down = down; estimates = estimates }
+    → a .built .ranks ≡ ranks → a .built .pairs ≡ pairs → a .aimed ≡ record { down = down; estimates = estimates }
     → order ≡ orderIn card (h .sizes .n) (h .sizes .m)
     → estimates-of.Estimated order ranks pairs (h .sizes .pairs) down estimates e j (v .0)
     → {r : Answered} → r ≡ record { header = h; answer = answers.Estimated v }
     → CallContract card (before (headerIn h) a) (calling (Estimate j) k) (after (answeredIn r) (withAimed a down e) k)
-estimate-made {card} {h} {a} {k} {j} lengths-are p {down = down} {e = e} {v} built-is aimed-is order-is done {r} handed =
-    let here = estimated-at order-is built-is aimed-is done in
+estimate-made {card} {h} {a} {k} {j} lengths-are p {down = down} {e = e} {v} ranks-are pairs-are aimed-is order-is done {r} handed =
+    let here = estimated-at order-is ranks-are pairs-are aimed-is done in
     let left : after (answeredIn r) (withAimed a down e) k ≡ answered-with (v .0) e =
     ap (λ (s : Answered). after (answeredIn s) (withAimed a down e) k) handed
     ∙ ap (λ (c : Aimed (List ℕ)). answering (model.Estimated (v .0)) (leaving (before (headerIn h) a) (targetIn (h .target)) (a .live)

@@ -68,6 +68,6 @@ pub record EstimateLengths (l : Each ℕ) (ranks pairs down estimates : List ℕ
 
 abbrev pub EstimatePart : (card : List ℕ) → Header → Each ℕ → (ranks pairs down estimates : Slice) → (junction : ℕ) → Answered → Type 0
 EstimatePart card h l ranks pairs down estimates j r = (a : Areas) → lengths a ≡ l
-    → a .built ≡ record { ranks = ranks .entry .now; pairs = pairs .entry .now }
+    → a .built .ranks ≡ ranks .entry .now → a .built .pairs ≡ pairs .entry .now
     → a .aimed ≡ record { down = down .entry .now; estimates = estimates .entry .now }
     → MeetsAlone card h (record { entry = a; exit = withAimed a (down .entry .now) (estimates .exit .now) }) (Estimate j) r

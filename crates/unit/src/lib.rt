@@ -20,6 +20,7 @@ use network::Sizes;
 use network::Time;
 use network::TimeWord;
 use network::Verdict;
+use search_junctions::Trip;
 use unit_answers::Answer;
 use unit_answers::Call;
 use unit_questions::Lengths;
@@ -259,12 +260,24 @@ impl Header {
         down: &[TimeWord],
         estimates: &[TimeWord],
         elapsed: &[TimeWord],
+        leaving: &[u32],
+        groups: &[u32],
         road: u32,
         time: Time,
     ) -> Answered
-        ensures { λ r. ⌜ MeetsAlone (now (card .entry)) self (areas ranks pairs live down estimates elapsed) (Set road (time .0)) r ⌝ }
+        ensures { λ r. ⌜ MeetsAlone (now (card .entry)) self (areas ranks pairs live down estimates elapsed leaving groups)
+            (Set road (time .0)) r ⌝ }
     {
-        let l = unit_questions::lengths_of(ranks, pairs, live, down, estimates, elapsed);
+        let l = unit_questions::lengths_of(
+            ranks,
+            pairs,
+            live,
+            down,
+            estimates,
+            elapsed,
+            leaving,
+            groups,
+        );
         self.set_part(card, l, live, road, time)
     }
 
@@ -278,11 +291,23 @@ impl Header {
         down: &mut [TimeWord],
         estimates: &mut [TimeWord],
         elapsed: &[TimeWord],
+        leaving: &[u32],
+        groups: &[u32],
         j: Junction,
     ) -> Answered
-        ensures { λ r. ⌜ MeetsAlone (now (card .entry)) self (areas ranks pairs live down estimates elapsed) (Aim (j .0)) r ⌝ }
+        ensures { λ r. ⌜ MeetsAlone (now (card .entry)) self (areas ranks pairs live down estimates elapsed leaving groups)
+            (Aim (j .0)) r ⌝ }
     {
-        let l = unit_questions::lengths_of(ranks, pairs, live, down, estimates, elapsed);
+        let l = unit_questions::lengths_of(
+            ranks,
+            pairs,
+            live,
+            down,
+            estimates,
+            elapsed,
+            leaving,
+            groups,
+        );
         self.aim_part(card, l, pairs, down, estimates, j)
     }
 
@@ -296,11 +321,23 @@ impl Header {
         down: &[TimeWord],
         estimates: &mut [TimeWord],
         elapsed: &[TimeWord],
+        leaving: &[u32],
+        groups: &[u32],
         j: Junction,
     ) -> Answered
-        ensures { λ r. ⌜ MeetsAlone (now (card .entry)) self (areas ranks pairs live down estimates elapsed) (Estimate (j .0)) r ⌝ }
+        ensures { λ r. ⌜ MeetsAlone (now (card .entry)) self (areas ranks pairs live down estimates elapsed leaving groups)
+            (Estimate (j .0)) r ⌝ }
     {
-        let l = unit_questions::lengths_of(ranks, pairs, live, down, estimates, elapsed);
+        let l = unit_questions::lengths_of(
+            ranks,
+            pairs,
+            live,
+            down,
+            estimates,
+            elapsed,
+            leaving,
+            groups,
+        );
         self.estimate_part(card, l, ranks, pairs, down, estimates, j)
     }
 
@@ -314,31 +351,48 @@ impl Header {
         down: &[TimeWord],
         estimates: &mut [TimeWord],
         elapsed: &mut [TimeWord],
+        leaving: &[u32],
+        groups: &[u32],
         route: &mut [u32],
         log: &mut [u32],
         start: Junction,
     ) -> Answered
-        ensures { λ r. ⌜ Meets (now (card .entry)) self (areas ranks pairs live down estimates elapsed) (lent route log)
+        ensures { λ r. ⌜ Meets (now (card .entry)) self (areas ranks pairs live down estimates elapsed leaving groups) (lent route log)
             (Go (start .0)) r ⌝ }
     {
-        let l = unit_questions::lengths_of(ranks, pairs, live, down, estimates, elapsed);
+        let l = unit_questions::lengths_of(
+            ranks,
+            pairs,
+            live,
+            down,
+            estimates,
+            elapsed,
+            leaving,
+            groups,
+        );
         match self.go_asked(card.len(), l, route.len(), log.len(), start) {
             Verdict::Failed(q) => self.answered(Answer::Refused(q)),
             Verdict::Passed => {
+                let sizes = self.sizes;
+                let trip = Trip {
+                    sizes: sizes,
+                    start: start,
+                    target: self.aimed_at(),
+                };
                 let found = search::search(
-                    self.sizes,
+                    trip,
                     card_layout::roads_of(card, self.sizes.m),
                     card_layout::order_of(card, self.sizes.n, self.sizes.m),
                     ranks,
                     pairs,
                     live,
                     down,
+                    leaving,
+                    groups,
                     estimates,
                     elapsed,
                     route,
                     log,
-                    start,
-                    self.aimed_at(),
                 );
                 self.answered(gone(found.total, found.count, found.roads))
             }
@@ -356,11 +410,14 @@ pub fn call(
     down: &mut [TimeWord],
     estimates: &mut [TimeWord],
     elapsed: &mut [TimeWord],
+    leaving: &[u32],
+    groups: &[u32],
     route: &mut [u32],
     log: &mut [u32],
     call: Call,
 ) -> Answered
-    ensures { λ r. ⌜ Meets (now (card .entry)) header (areas ranks pairs live down estimates elapsed) (lent route log) (callIn call) r ⌝ }
+    ensures { λ r. ⌜ Meets (now (card .entry)) header (areas ranks pairs live down estimates elapsed leaving groups) (lent route log)
+        (callIn call) r ⌝ }
 {
     match call {
         Call::Set(road, time) => header.set(
@@ -371,11 +428,35 @@ pub fn call(
             down,
             estimates,
             elapsed,
+            leaving,
+            groups,
             road,
             time,
         ),
-        Call::Aim(j) => header.aim(card, ranks, pairs, live, down, estimates, elapsed, j),
-        Call::Estimate(j) => header.estimate(card, ranks, pairs, live, down, estimates, elapsed, j),
+        Call::Aim(j) => header.aim(
+            card,
+            ranks,
+            pairs,
+            live,
+            down,
+            estimates,
+            elapsed,
+            leaving,
+            groups,
+            j,
+        ),
+        Call::Estimate(j) => header.estimate(
+            card,
+            ranks,
+            pairs,
+            live,
+            down,
+            estimates,
+            elapsed,
+            leaving,
+            groups,
+            j,
+        ),
         Call::Go(start) => header.go(
             card,
             ranks,
@@ -384,6 +465,8 @@ pub fn call(
             down,
             estimates,
             elapsed,
+            leaving,
+            groups,
             route,
             log,
             start,

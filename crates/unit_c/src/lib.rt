@@ -175,7 +175,7 @@ pub extern "C" fn card_write(roads: &[u32], order: &[u32], area: &mut [u8], plac
 
 // ---- preparing and the four calls
 
-// Prepares a card on the six areas.
+// Prepares a card on the eight areas.
 #[no_mangle]
 pub extern "C" fn unit_prepare(
     card: &[u8],
@@ -185,10 +185,23 @@ pub extern "C" fn unit_prepare(
     down: &mut [TimeWord],
     estimates: &mut [TimeWord],
     elapsed: &mut [TimeWord],
+    leaving: &mut [u32],
+    groups: &mut [u32],
 ) -> UnitAnswer
-    ensures { λ r. ⌜ Tells (λ x. Prepares (now (card .entry)) (areas ranks pairs live down estimates elapsed) (answeredIn x)) r ⌝ }
+    ensures { λ r. ⌜ Tells (λ x. Prepares (now (card .entry)) (areas ranks pairs live down estimates elapsed leaving groups)
+        (answeredIn x)) r ⌝ }
 {
-    answer_of(unit_switch_on::prepare(card, ranks, pairs, live, down, estimates, elapsed))
+    answer_of(unit_switch_on::prepare(
+        card,
+        ranks,
+        pairs,
+        live,
+        down,
+        estimates,
+        elapsed,
+        leaving,
+        groups,
+    ))
 }
 
 // Sets a road's live time.
@@ -202,10 +215,12 @@ pub extern "C" fn unit_set(
     down: &[TimeWord],
     estimates: &[TimeWord],
     elapsed: &[TimeWord],
+    leaving: &[u32],
+    groups: &[u32],
     road: u32,
     time: TimeWord,
 ) -> UnitAnswer
-    ensures { λ r. ⌜ Tells (MeetsAlone (now (card .entry)) (headerOf header) (areas ranks pairs live down estimates elapsed)
+    ensures { λ r. ⌜ Tells (MeetsAlone (now (card .entry)) (headerOf header) (areas ranks pairs live down estimates elapsed leaving groups)
         (Set road time)) r ⌝ }
 {
     let h = header_of(header);
@@ -217,6 +232,8 @@ pub extern "C" fn unit_set(
         down,
         estimates,
         elapsed,
+        leaving,
+        groups,
         road,
         Time(time),
     ))
@@ -233,9 +250,11 @@ pub extern "C" fn unit_aim(
     down: &mut [TimeWord],
     estimates: &mut [TimeWord],
     elapsed: &[TimeWord],
+    leaving: &[u32],
+    groups: &[u32],
     junction: u32,
 ) -> UnitAnswer
-    ensures { λ r. ⌜ Tells (MeetsAlone (now (card .entry)) (headerOf header) (areas ranks pairs live down estimates elapsed)
+    ensures { λ r. ⌜ Tells (MeetsAlone (now (card .entry)) (headerOf header) (areas ranks pairs live down estimates elapsed leaving groups)
         (Aim junction)) r ⌝ }
 {
     let h = header_of(header);
@@ -247,6 +266,8 @@ pub extern "C" fn unit_aim(
         down,
         estimates,
         elapsed,
+        leaving,
+        groups,
         Junction(junction),
     ))
 }
@@ -262,9 +283,11 @@ pub extern "C" fn unit_estimate(
     down: &[TimeWord],
     estimates: &mut [TimeWord],
     elapsed: &[TimeWord],
+    leaving: &[u32],
+    groups: &[u32],
     junction: u32,
 ) -> UnitAnswer
-    ensures { λ r. ⌜ Tells (MeetsAlone (now (card .entry)) (headerOf header) (areas ranks pairs live down estimates elapsed)
+    ensures { λ r. ⌜ Tells (MeetsAlone (now (card .entry)) (headerOf header) (areas ranks pairs live down estimates elapsed leaving groups)
         (Estimate junction)) r ⌝ }
 {
     let h = header_of(header);
@@ -276,6 +299,8 @@ pub extern "C" fn unit_estimate(
         down,
         estimates,
         elapsed,
+        leaving,
+        groups,
         Junction(junction),
     ))
 }
@@ -291,12 +316,14 @@ pub extern "C" fn unit_go(
     down: &[TimeWord],
     estimates: &mut [TimeWord],
     elapsed: &mut [TimeWord],
+    leaving: &[u32],
+    groups: &[u32],
     route: &mut [u32],
     log: &mut [u32],
     start: u32,
 ) -> UnitAnswer
-    ensures { λ r. ⌜ Tells (Meets (now (card .entry)) (headerOf header) (areas ranks pairs live down estimates elapsed) (lent route log)
-        (Go start)) r ⌝ }
+    ensures { λ r. ⌜ Tells (Meets (now (card .entry)) (headerOf header) (areas ranks pairs live down estimates elapsed leaving groups)
+        (lent route log) (Go start)) r ⌝ }
 {
     let h = header_of(header);
     answer_of(h.go(
@@ -307,6 +334,8 @@ pub extern "C" fn unit_go(
         down,
         estimates,
         elapsed,
+        leaving,
+        groups,
         route,
         log,
         Junction(start),
@@ -315,7 +344,7 @@ pub extern "C" fn unit_go(
 
 // ---- a script
 
-// Prepares a card on the six areas and makes the calls of a script: a kind, and as many words as that call has. 0 road time is a set,
+// Prepares a card on the eight areas and makes the calls of a script: a kind, and as many words as that call has. 0 road time is a set,
 // 1 junction an aim, 2 junction an estimate, 3 start r l a go, which is lent the first r entries of the route and l of the log, all if
 // there are fewer. Any other kind ends the script, and so does a call that is cut short. `out` gets four words for each answer: the
 // question that refuses, or 0; estimate or total; count; number of roads. As many calls are made as `out` has room for. What is handed
@@ -329,13 +358,15 @@ pub extern "C" fn unit_replay(
     down: &mut [TimeWord],
     estimates: &mut [TimeWord],
     elapsed: &mut [TimeWord],
+    leaving: &mut [u32],
+    groups: &mut [u32],
     route: &mut [u32],
     log: &mut [u32],
     script: &[u32],
     out: &mut [u64],
 ) -> UnitAnswer
-    ensures { λ r. ⌜ Tells (λ x. ReplayContract (now (card .entry)) (areas ranks pairs live down estimates elapsed) (lent route log)
-        (now (script .entry)) (now (out .entry)) (now (out .exit)) (answeredIn x)) r ⌝ }
+    ensures { λ r. ⌜ Tells (λ x. ReplayContract (now (card .entry)) (areas ranks pairs live down estimates elapsed leaving groups)
+        (lent route log) (now (script .entry)) (now (out .entry)) (now (out .exit)) (answeredIn x)) r ⌝ }
 {
     answer_of(unit_script::replay(
         card,
@@ -345,6 +376,8 @@ pub extern "C" fn unit_replay(
         down,
         estimates,
         elapsed,
+        leaving,
+        groups,
         route,
         log,
         script,

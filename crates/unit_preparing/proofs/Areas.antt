@@ -48,9 +48,12 @@ pub record Alike {A : Type 0} (x y : Each A) : Type 0 where
   pub down : x .aimed .down ≡ y .aimed .down
   pub estimates : x .aimed .estimates ≡ y .aimed .estimates
   pub elapsed : x .trip .elapsed ≡ y .trip .elapsed
+  pub leaving : x .built .leaving ≡ y .built .leaving
+  pub groups : x .built .groups ≡ y .built .groups
 
 pub alike-same : {A : Type 0} {x y : Each A} → Alike x y → x ≡ y
-alike-same e = λ i. areasOf (e .ranks i) (e .pairs i) (e .live i) (e .down i) (e .estimates i) (e .elapsed i)
+alike-same e = λ i.
+    areasOf (e .ranks i) (e .pairs i) (e .live i) (e .down i) (e .estimates i) (e .elapsed i) (e .leaving i) (e .groups i)
 
 -- what `zeroed` leaves is told by the lengths
 abbrev pub zerosOf : Each ℕ → Areas

@@ -2,7 +2,7 @@
 use mathlib.Core.Path.{_∙_, _≡_, ap, ap₂, subst₂, sym}
 use mathlib.Core.Option.{none}
 use mathlib.Core.List.{List}
-use Prim.Native.Nat.{_*_, _<_, ℕ}
+use Prim.Native.Nat.{_*_, _<_, suc, ℕ}
 use borrow.Author.Tests.{le-leb, lt-leb}
 use lib.ListN.{length, replicate}
 use native.Mathlib.Omega.{arith}
@@ -12,7 +12,7 @@ use Rattle.model.specs.Word.{noneWord, unasked, word}
 use Rattle.model.specs.Bytes.{listed}
 use Rattle.model.specs.Layout.{cardSize, placeSize, roadSize}
 use Rattle.model.specs.Card.{cardRefusal, mapOn}
-use Rattle.model.specs.Areas.{Areas, Each, areasOf, freshAreas, lengths, lengthsFit, recordSize, recordsIn}
+use Rattle.model.specs.Areas.{Areas, Each, areasOf, freshAreas, groupsOf, leavingOf, lengths, lengthsFit, recordSize, recordsIn}
 use Rattle.model.specs.State.{answering, areasRefusal, noneLent, prepare, roomRefusal, unprepared}
 use Rattle.model.specs.Contracts.{PrepareContract, before}
 use Rattle.model.specs.Laws.{andThen-none, ask-none}
@@ -21,6 +21,8 @@ use Rattle.model.specs.Good.{LengthFacts, lengths-facts}
 use Rattle.model.specs.Ends.{listed-same}
 use Rattle.network.specs.Bodies.{Prepared, Sound, base-in, map-facts, mapIn}
 use Rattle.network.specs.declared.Sizes.{Sizes}
+use Rattle.road_groups.specs.Lending.{GroupsAsked, GroupsMade, TailsIn}
+use Rattle.road_groups.specs.OnMap.{made-on-map, tails-on-map}
 use Rattle.pairs_contraction.specs.Contraction.{Contraction, contraction-overflow}
 use Rattle.pairs_contraction.specs.declared.Contracted.{Contracted}
 use Rattle.pairs_contraction.specs.declared.Contracted.the-variants.{Kept, Overflow}
@@ -94,18 +96,44 @@ module _ {card : List ℕ} {s : Sizes} {a : Areas} {roads order : List ℕ} (b :
       ∙ listed-same (mapOn card .base .arcs) (baseIn roads) (λ i. word (mapOn card .base .cost i))
       (λ i l. sym (ap word (ap (λ (M : Map). M .base .cost i) (sym map-here) ∙ base-in roads order i (omega (arith, f .roads-are, k)))))
 
-  pub with-room : {ranks pairs live down estimates elapsed : List ℕ} {count : ℕ} → Prepared roads order ranks pairs count
+  -- the numbers that were handed on are the map's
+  n-here : mapIn roads order .vertices ≡ s .n
+  n-here = ap (λ (M : Map). M .vertices) map-here ∙ sym (b .accepts .n-is)
+
+  m-here : mapIn roads order .base .arcs ≡ s .m
+  m-here = ap (λ (M : Map). M .base .arcs) map-here ∙ sym (b .accepts .m-is)
+
+  -- so the roads can be grouped
+  pub groups-asked : GroupsAsked roads (s .n) (s .m) (a .built .leaving) (a .built .groups)
+  groups-asked =
+      let z = sized (b .accepts) in
+      record {
+        tails = subst₂ (TailsIn roads) n-here m-here (tails-on-map sound);
+        leaving-is = z .leaving ∙ sym (b .accepts .m-is);
+        groups-are = z .groups ∙ ap suc (sym (b .accepts .n-is));
+      }
+
+  -- and their groups are the map's
+  by-tail : {leaving groups : List ℕ} → GroupsMade roads (s .n) (s .m) leaving groups
+      → (leaving ≡ leavingOf (mapOn card)) × (groups ≡ groupsOf (mapOn card))
+  by-tail {leaving} {groups} made =
+      let (leaving-is, groups-are) = made-on-map sound
+      (subst₂ (λ (n : ℕ) (m : ℕ). GroupsMade roads n m leaving groups) (sym n-here) (sym m-here) made) in
+      (leaving-is ∙ ap leavingOf map-here, groups-are ∙ ap groupsOf map-here)
+
+  pub with-room : {ranks pairs live down estimates elapsed leaving groups : List ℕ} {count : ℕ} → Prepared roads order ranks pairs count
       → length pairs ≡ length (a .built .pairs) → live ≡ listed (length (a .live)) (baseIn roads)
       → down ≡ replicate (length (a .aimed .down)) noneWord → estimates ≡ replicate (length (a .aimed .estimates)) unasked
-      → elapsed ≡ replicate (length (a .trip .elapsed)) noneWord
-      → PrepareContract card a (areasOf ranks pairs live down estimates elapsed) (handedBack s (Kept count))
+      → elapsed ≡ replicate (length (a .trip .elapsed)) noneWord → GroupsMade roads (s .n) (s .m) leaving groups
+      → PrepareContract card a (areasOf ranks pairs live down estimates elapsed leaving groups) (handedBack s (Kept count))
   unfolding prepare roomRefusal
-  with-room p k live-is down-is estimates-are elapsed-is =
+  with-room p k live-is down-is estimates-are elapsed-is groups-made =
       let z = sized (b .accepts) in
       let M = mapOn card in
       let n-is = b .accepts .n-is in
       let m-is = b .accepts .m-is in
       let count-is = p .count-is ∙ ap (λ (M : Map). length (pairsOf M)) map-here in
+      let (leaving-is, groups-are) = by-tail groups-made in
       let fresh = alike-same {y = freshAreas M (length (a .built .pairs))} (record {
         ranks = p .ranks-are ∙ ap (λ (M : Map). listed (M .vertices) (rank M)) map-here;
         pairs = p .pairs-are ∙ ap₂ recordsIn map-here k;
@@ -113,6 +141,8 @@ module _ {card : List ℕ} {s : Sizes} {a : Areas} {roads order : List ℕ} (b :
         down = down-is ∙ ap (λ (n : ℕ). replicate n noneWord) (z .down);
         estimates = estimates-are ∙ ap (λ (n : ℕ). replicate n unasked) (z .estimates);
         elapsed = elapsed-is ∙ ap (λ (n : ℕ). replicate n noneWord) (z .elapsed);
+        leaving = leaving-is;
+        groups = groups-are;
       }) in
       rw (b .accepts .passes, le-leb (recordSize * length (pairsOf M)) (length (a .built .pairs)) (omega (arith, p .room, count-is, k)))
       (λ i. answering Accepted (before (record { n = n-is i; m = m-is i; pairs = count-is i; target = Absent }) (fresh i)) noneLent)

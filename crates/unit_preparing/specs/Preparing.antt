@@ -17,8 +17,8 @@ use Rattle.pairs_contraction.specs.declared.Contracted.{Contracted}
 use Rattle.pairs_contraction.specs.declared.Contracted.the-variants.{Kept, Overflow}
 
 -- the areas that a function is lent, as its `requires` names them
-abbrev pub held : (ranks pairs live down estimates elapsed : RefT (List ℕ)) → Areas
-held r p l d e t = areasOf (r .now) (p .now) (l .now) (d .now) (e .now) (t .now)
+abbrev pub held : (ranks pairs live down estimates elapsed leaving groups : RefT (List ℕ)) → Areas
+held r p l d e t g h = areasOf (r .now) (p .now) (l .now) (d .now) (e .now) (t .now) (g .now) (h .now)
 
 -- questions 1 to 7 pass, and the card has so many junctions and roads
 pub record Accepts (card : List ℕ) (s : Sizes) (a : Areas) : Type 0 where

@@ -1,4 +1,4 @@
-// Preparing once questions 1 to 7 have passed: ranks, pairs and live times; question 8.
+// Preparing once questions 1 to 7 have passed: ranks, pairs, live times, the roads by tail; question 8.
 ghost use mathlib.Core.Path.{_≡_};
 ghost use Prim.Native.Nat.{_*_};
 ghost use lib.ListN.{length};
@@ -32,8 +32,10 @@ fn clear(
     down: &mut [TimeWord],
     estimates: &mut [TimeWord],
     elapsed: &mut [TimeWord],
+    leaving: &mut [u32],
+    groups: &mut [u32],
 )
-    ensures { λ _. ⌜ (let a = areas ranks pairs live down estimates elapsed in a .exit ≡ zeroed (a .entry)) ⌝ }
+    ensures { λ _. ⌜ (let a = areas ranks pairs live down estimates elapsed leaving groups in a .exit ≡ zeroed (a .entry)) ⌝ }
 {
     areas::fill(ranks, 0);
     areas::fill(pairs, 0);
@@ -41,6 +43,8 @@ fn clear(
     areas::fill(down, 0);
     areas::fill(estimates, 0);
     areas::fill(elapsed, 0);
+    areas::fill(leaving, 0);
+    areas::fill(groups, 0);
 }
 
 // What a card that questions 1 to 7 pass, with so many junctions and roads, leaves in the areas; the number of kept pairs, or that they do
@@ -54,16 +58,27 @@ pub fn prepare_areas(
     down: &mut [TimeWord],
     estimates: &mut [TimeWord],
     elapsed: &mut [TimeWord],
+    leaving: &mut [u32],
+    groups: &mut [u32],
 ) -> Contracted
-    requires { ⌜ Accepts (now card) s (held ranks pairs live down estimates elapsed) ⌝ }
-    ensures { λ z. ⌜ Prepares (now (card .entry)) (areas ranks pairs live down estimates elapsed) (handedBack s z) ⌝ }
+    requires { ⌜ Accepts (now card) s (held ranks pairs live down estimates elapsed leaving groups) ⌝ }
+    ensures { λ z. ⌜ Prepares (now (card .entry)) (areas ranks pairs live down estimates elapsed leaving groups) (handedBack s z) ⌝ }
 {
     let roads = card_layout::roads_of(card, s.m);
     let order = card_layout::order_of(card, s.n, s.m);
     pairs_contraction::fill_ranks(order, ranks);
     match pairs_contraction::contract(roads, order, ranks, pairs) {
         Contracted::Overflow => {
-            clear(ranks, pairs, live, down, estimates, elapsed);
+            clear(
+                ranks,
+                pairs,
+                live,
+                down,
+                estimates,
+                elapsed,
+                leaving,
+                groups,
+            );
             Contracted::Overflow
         }
         Contracted::Kept(count) => {
@@ -71,6 +86,7 @@ pub fn prepare_areas(
             areas::fill(down, Time::NONE.0);
             areas::fill(estimates, Time::UNASKED.0);
             areas::fill(elapsed, Time::NONE.0);
+            road_groups::group_roads(roads, s.n, s.m, leaving, groups);
             Contracted::Kept(count)
         }
     }

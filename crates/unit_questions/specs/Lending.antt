@@ -23,7 +23,7 @@ untouched l = record { entry = l; exit = l }
 -- ---- lengths
 
 abbrev pub lengthsIn : Lengths → Each ℕ
-lengthsIn l = areasOf (l .ranks) (l .pairs) (l .live) (l .down) (l .estimates) (l .elapsed)
+lengthsIn l = areasOf (l .ranks) (l .pairs) (l .live) (l .down) (l .estimates) (l .elapsed) (l .leaving) (l .groups)
 
 -- 9, of a header in range
 abbrev pub fitsBy : Header → (card : ℕ) → Each ℕ → Bool

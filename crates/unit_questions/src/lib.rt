@@ -22,6 +22,8 @@ pub struct Lengths {
     pub down: usize,
     pub estimates: usize,
     pub elapsed: usize,
+    pub leaving: usize,
+    pub groups: usize,
 }
 
 // The lengths of the areas that are lent.
@@ -32,8 +34,10 @@ pub fn lengths_of(
     down: &[TimeWord],
     estimates: &[TimeWord],
     elapsed: &[TimeWord],
+    leaving: &[u32],
+    groups: &[u32],
 ) -> Lengths
-    ensures { λ r. ⌜ lengthsIn r ≡ lengths (areas ranks pairs live down estimates elapsed .entry) ⌝ }
+    ensures { λ r. ⌜ lengthsIn r ≡ lengths (areas ranks pairs live down estimates elapsed leaving groups .entry) ⌝ }
 {
     Lengths {
         ranks: ranks.len(),
@@ -42,6 +46,8 @@ pub fn lengths_of(
         down: down.len(),
         estimates: estimates.len(),
         elapsed: elapsed.len(),
+        leaving: leaving.len(),
+        groups: groups.len(),
     }
 }
 
@@ -66,6 +72,8 @@ pub fn lengths_fit(s: Sizes, l: Lengths) -> bool
         & (l.down == n)
         & (l.estimates == n)
         & (l.elapsed == n)
+        & (l.leaving == m)
+        & (l.groups == n + 1)
 }
 
 // Question 9, of the header's numbers and the lengths. A header out of range is refused too: no list of calls leaves one.

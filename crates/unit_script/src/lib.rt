@@ -189,13 +189,15 @@ fn make_call(
     down: &mut [TimeWord],
     estimates: &mut [TimeWord],
     elapsed: &mut [TimeWord],
+    leaving: &[u32],
+    groups: &[u32],
     route: &mut [u32],
     log: &mut [u32],
     c: Scripted,
 ) -> Answered
     requires { ⌜ (c .route ≤ length (now route)) × (c .log ≤ length (now log)) ⌝ }
-    ensures { λ r. ⌜ OneContract (now (card .entry)) (headerIn header) (areas ranks pairs live down estimates elapsed) (lent route log)
-        (scriptedIn c) (answeredIn r) ⌝ }
+    ensures { λ r. ⌜ OneContract (now (card .entry)) (headerIn header) (areas ranks pairs live down estimates elapsed leaving groups)
+        (lent route log) (scriptedIn c) (answeredIn r) ⌝ }
 {
     let call = c.call;
     let roads = c.route;
@@ -209,6 +211,8 @@ fn make_call(
         down,
         estimates,
         elapsed,
+        leaving,
+        groups,
         &mut route[..roads],
         &mut log[..logged],
         call,
@@ -225,13 +229,15 @@ fn make_calls(
     down: &mut [TimeWord],
     estimates: &mut [TimeWord],
     elapsed: &mut [TimeWord],
+    leaving: &[u32],
+    groups: &[u32],
     route: &mut [u32],
     log: &mut [u32],
     script: &[u32],
     out: &mut [u64],
 ) -> Header
-    ensures { λ h. ⌜ MakeContract (now (card .entry)) (headerIn start) (areas ranks pairs live down estimates elapsed) (lent route log)
-        (now (script .entry)) (now (out .entry)) (now (out .exit)) (headerIn h) ⌝ }
+    ensures { λ h. ⌜ MakeContract (now (card .entry)) (headerIn start) (areas ranks pairs live down estimates elapsed leaving groups)
+        (lent route log) (now (script .entry)) (now (out .entry)) (now (out .exit)) (headerIn h) ⌝ }
 {
     let room = room_in(out.len());
     let mut h = start;
@@ -248,6 +254,8 @@ fn make_calls(
             down,
             estimates,
             elapsed,
+            leaving,
+            groups,
             route,
             log,
             c,
@@ -271,15 +279,27 @@ pub fn replay(
     down: &mut [TimeWord],
     estimates: &mut [TimeWord],
     elapsed: &mut [TimeWord],
+    leaving: &mut [u32],
+    groups: &mut [u32],
     route: &mut [u32],
     log: &mut [u32],
     script: &[u32],
     out: &mut [u64],
 ) -> Answered
-    ensures { λ r. ⌜ ReplayContract (now (card .entry)) (areas ranks pairs live down estimates elapsed) (lent route log)
+    ensures { λ r. ⌜ ReplayContract (now (card .entry)) (areas ranks pairs live down estimates elapsed leaving groups) (lent route log)
         (now (script .entry)) (now (out .entry)) (now (out .exit)) (answeredIn r) ⌝ }
 {
-    let prepared = unit_switch_on::prepare(card, ranks, pairs, live, down, estimates, elapsed);
+    let prepared = unit_switch_on::prepare(
+        card,
+        ranks,
+        pairs,
+        live,
+        down,
+        estimates,
+        elapsed,
+        leaving,
+        groups,
+    );
     let header = prepared.header;
     let answer = prepared.answer;
     let last = make_calls(
@@ -291,6 +311,8 @@ pub fn replay(
         down,
         estimates,
         elapsed,
+        leaving,
+        groups,
         route,
         log,
         script,

@@ -91,10 +91,21 @@ pub fn prepare(
     down: &mut [TimeWord],
     estimates: &mut [TimeWord],
     elapsed: &mut [TimeWord],
+    leaving: &mut [u32],
+    groups: &mut [u32],
 ) -> Answered
-    ensures { λ r. ⌜ Prepares (now (card .entry)) (areas ranks pairs live down estimates elapsed) (answeredIn r) ⌝ }
+    ensures { λ r. ⌜ Prepares (now (card .entry)) (areas ranks pairs live down estimates elapsed leaving groups) (answeredIn r) ⌝ }
 {
-    let l = unit_questions::lengths_of(ranks, pairs, live, down, estimates, elapsed);
+    let l = unit_questions::lengths_of(
+        ranks,
+        pairs,
+        live,
+        down,
+        estimates,
+        elapsed,
+        leaving,
+        groups,
+    );
     match ask(card, l) {
         Asked::No(q) => unprepared(q),
         Asked::Yes(s) => {
@@ -107,6 +118,8 @@ pub fn prepare(
                 down,
                 estimates,
                 elapsed,
+                leaving,
+                groups,
             );
             prepared(s, z)
         }

@@ -455,11 +455,12 @@ turn, and of each case the least of many runs counts. Made by
 A map file that is named behind it, text as make-card reads it, is measured after the towns, in the order that it gives or, if it gives
 none, in a least-degree one, and has a table of its own at the end, under its name.
 
-- **Rust**: the same step as one would write it in Rust (`rust/src/router.rs`), over structures of its own, which document 01's areas have no
-  place for: where the pairs of each rank begin, adjacency lists, a list of the lower ranks that a row has pairs with, a binary heap.
-- **areas**: the same step in Rust over the areas of document 01 and nothing else (`rust/src/areas.rs`): records of four words in one
+- **Rust**: the same step as one would write it in Rust (`rust/src/router.rs`), over structures of its own. It lists the roads by tail in
+  `prepare`, as the unit does; the rest the unit's areas have no place for: heads beside these roads, the roads by head, where the pairs of
+  each rank begin, a list of the lower ranks that a row has pairs with, a binary heap.
+- **areas**: the same step in Rust over the unit's areas and nothing else (`rust/src/areas.rs`): records of four words in one
   slice, where a bisection finds those of a rank; the order read from the card. With the arguments, the answer and the questions of the unit's
-  function: a header that goes in by value and comes back, so that a call waits for the one before; seven slices; question 9 on their
+  function: a header that goes in by value and comes back, so that a call waits for the one before; nine slices; question 9 on their
   lengths. Of a `set`, which stores one word, that is nearly all; the methods under *Rust* are inlined and have none of it.
 - **Dijkstra**: Dijkstra's algorithm with a binary heap, which finds the total alone.
 - **A\\***: A\\* with each junction's least base total to the target handed to it free. It logs what the unit logs.
@@ -469,6 +470,10 @@ none, in a least-degree one, and has a table of its own at the end, under its na
 
 ";
 
+/// The largest town's ratios as earlier landings left them, in the columns of `Report::landings`.
+const BEFORE: [[&str; 5]; 1] =
+    [["8, before A1", "1.52", "2.65 (3.90)", "1.98 (2.84)", "1.57 (2.33)"]];
+
 impl Display for Report {
     fn fmt(&self, f: &mut Formatter) -> fmt::Result {
         let processors = thread::available_parallelism().map_or(1, usize::from);
@@ -477,6 +482,7 @@ impl Display for Report {
         f.write_str(ABOUT)?;
         Report::table(f, &self.towns)?;
         self.growth(f)?;
+        self.landings(f)?;
         for (name, file) in &self.files {
             let (n, m, pairs) = (file.map.n(), file.map.m(), file.pairs);
             write!(f, "\n## {name}\n\n{n} junctions, {m} roads, {pairs} pairs.\n\n")?;
@@ -543,6 +549,28 @@ impl Report {
             write!(f, " {} times the {what} ({large}){end}", digits(large as f64 / small as f64))?;
         }
         Ok(())
+    }
+}
+
+impl Report {
+    /// The largest town's ratios, under those of the landings before.
+    fn landings(&self, f: &mut Formatter) -> fmt::Result {
+        let large = &self.towns[TOWNS.len() - 1];
+        let ratio = |step: &str| {
+            let Some(line) = large.lines.iter().find(|line| line.step == step) else {
+                return String::new();
+            };
+            let free = |go: &Go| format!(" ({})", digits(line.proved / go.free));
+            digits(line.proved / line.plain) + &line.go.as_ref().map_or(String::new(), free)
+        };
+        let n = large.map.n();
+        write!(f, "\nRatios at {n} junctions by landing, to Rust and in brackets to A\\*:\n\n")?;
+        f.write_str("| landing | prepare | again, 0 % | 1 % | 5 % |\n|:--|--:|--:|--:|--:|\n")?;
+        for cells in BEFORE {
+            writeln!(f, "| {} |", cells.join(" | "))?;
+        }
+        let again = ["0", "1", "5"].map(|part| ratio(&format!("again, {part} % of roads changed")));
+        writeln!(f, "| this run | {} | {} |", ratio("prepare"), again.join(" | "))
     }
 }
 

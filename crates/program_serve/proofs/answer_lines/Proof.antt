@@ -27,14 +27,14 @@ record Talking (card : List ℕ) (first : Held) (l₀ : Talk) (chunk₀ line₀ 
       → Underway card first from start now (l .reader) chunk line
 
 abbrev Inv-loop : tie.InvT-loop
-Inv-loop file ranks pairs live₀ down₀ estimates₀ elapsed₀ route₀ log₀ out₀ chunk₀ line₀ said l₀ live down estimates elapsed route log out
-    chunk line l =
-    Talking file (heldIn l₀ (areasOf ranks pairs live₀ down₀ estimates₀ elapsed₀) (lentOf route₀ log₀) out₀) l₀ chunk₀ line₀
-    (heldIn l (areasOf ranks pairs live down estimates elapsed) (lentOf route log) out) l chunk line
+Inv-loop file ranks pairs live₀ down₀ estimates₀ elapsed₀ leaving groups route₀ log₀ out₀ chunk₀ line₀ said l₀
+    live down estimates elapsed route log out chunk line l =
+    Talking file (heldIn l₀ (areasOf ranks pairs live₀ down₀ estimates₀ elapsed₀ leaving groups) (lentOf route₀ log₀) out₀) l₀ chunk₀ line₀
+    (heldIn l (areasOf ranks pairs live down estimates elapsed leaving groups) (lentOf route log) out) l chunk line
 
 abbrev μ-loop : tie.MeasureT-loop
-μ-loop file ranks pairs live₀ down₀ estimates₀ elapsed₀ route₀ log₀ out₀ chunk₀ line₀ said l₀ live down estimates elapsed route log out
-    chunk line l = stepsLeft (l .reader)
+μ-loop file ranks pairs live₀ down₀ estimates₀ elapsed₀ leaving groups route₀ log₀ out₀ chunk₀ line₀ said l₀
+    live down estimates elapsed route log out chunk line l = stepsLeft (l .reader)
 
 -- ---- the first turn
 
@@ -42,7 +42,7 @@ abbrev after-text-of : tie.After-turn Inv-loop μ-loop → tie.After-text-of Inv
 after-text-of c = c .before .before .before
 
 abbrev start : tie.After-turn Inv-loop μ-loop → tie.Start Inv-loop μ-loop
-start c = after-text-of c .before .before .before .before .before .before .before .before .before .before
+start c = after-text-of c .before .before .before .before .before .before .before .before .before .before .before .before
 
 -- ---- a turn of the loop
 
@@ -81,7 +81,7 @@ loop-again c =
     let loop = in-loop .before .loop in
     let reply = after-answer-line .answer-line in
     let (_, (_, (_, (_, (_, (live-kept, (down-kept, (estimates-kept, (elapsed-kept, _))))))))) = reply .kept in
-    let (_, (_, (_, (_, (_, (_, (_, (_, (_, (_, (_, (out, _)))))))))))) = reply .last in record {
+    let (_, (_, (_, (_, (_, (_, (_, (_, (_, (_, (_, (_, (_, (out, _)))))))))))))) = reply .last in record {
       live-kept = live-kept ∙ loop .inv .live-kept;
       down-kept = down-kept ∙ loop .inv .down-kept;
       estimates-kept = estimates-kept ∙ loop .inv .estimates-kept;

@@ -5,7 +5,7 @@ use Rattle.model.specs.Areas.{areasOf}
 use Rattle.unit_questions.specs.Lending.{lentOf}
 use Rattle.program_shell.specs.Limits.{junctionLimit, roadLimit}
 use Rattle.program_serve.specs.Serving.{heldIn}
-use Rattle.program_serve.proofs.Areas.{lends, lentAreas, part}
+use Rattle.program_serve.proofs.Areas.{lends, lentAreas, part, part-more}
 use borrow.Author.Needs.{needs}
 use Rattle.program_serve.proofs.start.Statement.{statement}
 use Rattle.program_serve.proofs.start.Tie as tie
@@ -35,21 +35,32 @@ elapsed-part c =
     let after-room-for = c .before .before .before .before .before .before in
     part junctionLimit _ (after-room-for .room-for .ensures .0)
 
+leaving-part : tie.Need-slice-aggregate-serve-6
+leaving-part c =
+    let after-room-for = c .before .before .before .before .before .before .before in
+    part roadLimit _ (after-room-for .room-for .ensures .1)
+
+groups-part : tie.Need-slice-aggregate-serve-7
+groups-part c =
+    let after-room-for = c .before .before .before .before .before .before .before .before in
+    part-more junctionLimit _ (after-room-for .room-for .ensures .0)
+
 -- ---- the answer
 
 returns : tie.Need-returns
 returns c =
-    let after-serve = c .before .before .before .before .before in
-    let after-room-for = after-serve .before .before .before .before .before .before .before .before .before .before in
+    let after-serve = c .before .before .before .before .before .before .before in
+    let after-room-for = after-serve .before .before .before .before .before .before .before .before .before .before .before .before in
     let start = after-room-for .before .before in
     let served = after-serve .serve in
     let size = after-room-for .room-for in
     let lent = lends (start .args .file .now) (size .ensures .0) (size .ensures .1) in
-    let (_, (ranks, (pairs, (live, (down, (estimates, (elapsed, (route, (log, (out, _)))))))))) = served .last in record {
+    let (_, (ranks, (pairs, (live, (down, (estimates, (elapsed, (leaving, (groups, lent-last))))))))) = served .last in
+    let (route, (log, (out, _))) = lent-last in record {
       areas = lentAreas (size .result .n) (size .result .m);
       lends = lent;
       lent = lentOf (replicate junctionLimit 0) (replicate junctionLimit 0);
-      left = heldIn (served .result) (areasOf ranks pairs live down estimates elapsed) (lentOf route log) out;
+      left = heldIn (served .result) (areasOf ranks pairs live down estimates elapsed leaving groups) (lentOf route log) out;
       header = refl;
       runs = served .ensures lent;
     }
@@ -69,5 +80,10 @@ start-spec =
     estimates-part
     (λ c. search needs)
     elapsed-part
+    (λ c. search needs)
+    leaving-part
+    (λ c. search needs)
+    (λ c. search needs)
+    groups-part
     (λ c κs. search needs)
     returns)

@@ -16,13 +16,14 @@ use Rattle.program_shell.proofs.answer_line.Tie as tie
 -- ---- what is at hand when the line is read
 
 abbrev start : tie.After-read-line → tie.Start
-start c = c .before .before .before .before .before .before .before .before
+start c = c .before .before .before .before .before .before .before .before .before .before
 
 abbrev state : tie.Start → State
 state c =
     let a = c .args in
-    let areas = areasOf (a .ranks .now) (a .pairs .now) (a .live .now) (a .down .now) (a .estimates .now) (a .elapsed .now) in
-    before (headerIn (a .header)) areas
+    before (headerIn (a .header))
+    (areasOf (a .ranks .now) (a .pairs .now) (a .live .now) (a .down .now) (a .estimates .now) (a .elapsed .now) (a .leaving .now)
+    (a .groups .now))
 
 abbrev lent : tie.Start → Lent
 lent c = lentOf (c .args .route .now) (c .args .log .now)
@@ -70,7 +71,7 @@ returns-2 c =
     let after-read-line = after-c .before .before in
     let start = start after-read-line in
     let roomy = roomy after-call in
-    let (_, (_, (_, (_, (_, (_, (_, (_, (route-kept, _))))))))) = after-call .call .kept in
+    let (_, (_, (_, (_, (_, (_, (_, (_, (_, (_, (route-kept, _))))))))))) = after-call .call .kept in
     let (_, (_, (out-kept, _))) = c .write-answer .kept in (
       call-way (start .args .line .now) (after-read-line .read-line .ensures) (room (c .before .write-answer-arg3 .given .0 .1))
           (after-c .c .given .1) roomy (at-most (route-kept ∙ roomy .0)) (after-call .call .ensures) (c .write-answer .ensures),

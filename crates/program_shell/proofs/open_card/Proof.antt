@@ -9,16 +9,23 @@ use Rattle.program_shell.proofs.open_card.Tie as tie
 
 -- ---- the preparing, and the areas that it was lent
 
+abbrev after-live : tie.After-judge → tie.After-live
+after-live c = c .before .before .before .before .before .before .before .before .before .before .before .before .before
+
 abbrev after-prepare : tie.After-judge → tie.After-prepare
-after-prepare c = c .before .before .before .before .before .before .before .before .before .before .before .before
+after-prepare c = after-live c .before .before .before
+
+abbrev at-hand : tie.After-prepare → tie.After-slice-known7
+at-hand c = c .before .before .before .before .before .before .before .before .before
 
 abbrev start : tie.After-prepare → tie.Start
-start c = c .before .before .before .before .before .before .before .before .before .before .before .before .before
+start c = at-hand c .before .before .before .before .before .before .before .before
 
 abbrev lent : tie.Start → Areas
 lent c =
     let a = c .args in
-    areasOf (a .ranks .now) (a .pairs .now) (a .live .now) (a .down .now) (a .estimates .now) (a .elapsed .now)
+    areasOf (a .ranks .now) (a .pairs .now) (a .live .now) (a .down .now) (a .estimates .now) (a .elapsed .now) (a .leaving .now)
+    (a .groups .now)
 
 -- ---- the answers
 
@@ -40,6 +47,12 @@ estimates-kept c = let (_, (_, (_, (_, (_, (estimates, _)))))) = after-prepare c
 elapsed-kept : tie.Need-same-length-5
 elapsed-kept c = let (_, (_, (_, (_, (_, (_, (elapsed, _))))))) = after-prepare c .prepare .kept in elapsed
 
+leaving-kept : tie.Need-same-length-6
+leaving-kept c = let (_, (_, (_, (_, (_, (_, (_, (leaving, _)))))))) = after-prepare c .prepare .kept in leaving
+
+groups-kept : tie.Need-same-length-7
+groups-kept c = let (_, (_, (_, (_, (_, (_, (_, (_, (groups, _))))))))) = after-prepare c .prepare .kept in groups
+
 returns : tie.Need-returns
 returns c =
     let after-prepare = after-prepare c in
@@ -59,4 +72,6 @@ open-card-spec =
     down-kept
     estimates-kept
     elapsed-kept
+    leaving-kept
+    groups-kept
     returns)

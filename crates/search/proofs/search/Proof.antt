@@ -13,8 +13,11 @@ use Rattle.search.proofs.search.Tie as tie
 
 -- ---- after the run
 
+abbrev after-sizes : tie.After-advance → tie.After-sizes
+after-sizes c = c .before .before .before .before .before .before
+
 abbrev start : tie.After-advance → tie.Start
-start c = c .before .before .before .before .before .before .before .before .before .before .before .before .before .before .before
+start c = after-sizes c .before .before .before .before .before .before .before .before .before .before .before .before .before
 
 -- the areas before it and after it, the roads that gave the times among them
 abbrev entry : tie.After-advance → Written
@@ -24,12 +27,12 @@ entry c =
 
 abbrev exit : tie.After-advance → Written
 exit c =
-    let (_, (_, (_, (_, (_, (_, (_, (_, (estimates, (elapsed, (vias, (log, _)))))))))))) = c .advance .last in
+    let (_, (_, (_, (_, (_, (_, (_, (_, (_, (_, (estimates, (elapsed, (vias, (log, _)))))))))))))) = c .advance .last in
     writtenOf estimates elapsed vias log
 
 long : (c : tie.After-advance) → SameLengths (entry c) (exit c)
 long c =
-    let (_, (_, (_, (_, (_, (_, (_, (_, (estimates-kept, (elapsed-kept, (vias-kept, (log-kept, _)))))))))))) = c .advance .kept in
+    let (_, (_, (_, (_, (_, (_, (_, (_, (_, (_, (estimates-kept, (elapsed-kept, (vias-kept, (log-kept, _)))))))))))))) = c .advance .kept in
     record { estimates-long = estimates-kept; elapsed-long = elapsed-kept; ways-long = vias-kept; log-long = log-kept }
 
 abbrev after-advance : tie.After-is-none → tie.After-advance

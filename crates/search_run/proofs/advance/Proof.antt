@@ -4,10 +4,9 @@
 use borrow.Author.Needs.{needs}
 use native.Mathlib.Omega.{arith}
 use mathlib.Core.Path.{_∙_, _≡_, refl, sym}
-use mathlib.Core.List.{List}
-use Prim.Native.Nat.{_*_, _+_, _-_, _<_, ℕ}
-use lib.ListN.{length, length-replicate}
-use Rattle.model.specs.Limits.{mostJunctions, mostRoads}
+use Prim.Native.Nat.{_*_, _+_, _-_, _<_}
+use lib.ListN.{length}
+use Rattle.model.specs.Limits.{mostJunctions}
 use Rattle.model.specs.Word.{noneWord}
 use Rattle.network.specs.declared.Sizes.{Sizes}
 use Rattle.network.specs.Locals.{counted}
@@ -15,30 +14,29 @@ use Rattle.search_queue.specs.Order.{noKey}
 use Rattle.search_queue.specs.Tree.{nobodyWord}
 use Rattle.search_labels.specs.Labelling.{Labelling, labellingOf}
 use Rattle.search_junctions.specs.State.{givenOf}
-use Rattle.search_junctions.specs.Grouped.{Links}
 use Rattle.search_junctions.specs.Firsts.{begins-first}
 use Rattle.search_run.proofs.Turns.{Settled, standOf, withKeys}
-use Rattle.search_run.proofs.Wholes.{Locals, Running, Turn, advances, asking, blank, first-inside, linked, locals-kept}
+use Rattle.search_run.proofs.Wholes.{Locals, Running, Turn, advances, asking, blank, first-inside, locals-kept}
 use Rattle.search_run.proofs.Wholes.{long-settled, pairs-in, reading, room-blank, room-settled, running-goal}
 use Rattle.search_run.proofs.Wholes.{running-on, running-start, turn-taken}
 use Rattle.search_run.proofs.advance.Statement.{statement}
 use Rattle.search_run.proofs.advance.Tie as tie
 
 abbrev Inv-loop : tie.InvT-loop
-Inv-loop trip budget roads order ranks pairs live down estimates₀ elapsed₀ vias₀ log₀ n m times₀ keys₀ tree₀ rows most c₀ v₀ estimates
-    elapsed vias log times keys tree c v =
-    Running (givenOf (trip .sizes) roads order ranks pairs live down) (trip .start .0) (trip .target .0) most
+Inv-loop trip budget roads order ranks pairs live down leaving groups estimates₀ elapsed₀ vias₀ log₀ n times₀ keys₀ tree₀ most c₀ v₀
+    estimates elapsed vias log times keys tree c v =
+    Running (givenOf (trip .sizes) roads order ranks pairs live down) leaving groups (trip .start .0) (trip .target .0) most
     (standOf estimates₀ elapsed₀ log₀ (labellingOf times₀ keys₀ vias₀ tree₀) c₀ v₀)
     (standOf estimates elapsed log (labellingOf times keys vias tree) c v)
 
 abbrev μ-loop : tie.MeasureT-loop
-μ-loop trip budget roads order ranks pairs live down estimates₀ elapsed₀ vias₀ log₀ n m times₀ keys₀ tree₀ rows most c₀ v₀ estimates elapsed
-    vias log times keys tree c v = most - c
+μ-loop trip budget roads order ranks pairs live down leaving groups estimates₀ elapsed₀ vias₀ log₀ n times₀ keys₀ tree₀ most c₀ v₀
+    estimates elapsed vias log times keys tree c v = most - c
 
 -- ---- before the loop
 
-abbrev start-of : tie.After-group Inv-loop μ-loop → tie.Start Inv-loop μ-loop
-start-of c = c .before .before .before .before .before .before .before .before .before .before .before .before
+abbrev start-of : tie.After-ask-start Inv-loop μ-loop → tie.Start Inv-loop μ-loop
+start-of c = c .before .before .before .before .before .before .before .before .before .before .before .before .before .before
 
 -- from where the first candidate is chosen
 abbrev begun : tie.After-tree3 Inv-loop μ-loop → tie.After-begin Inv-loop μ-loop
@@ -58,11 +56,8 @@ after-begin c = begun (c .before .before)
 abbrev after-ask-start : tie.At-loop Inv-loop μ-loop → tie.After-ask-start Inv-loop μ-loop
 after-ask-start c = after-begin c .before .before .before .before .before .before .before
 
-abbrev after-group : tie.At-loop Inv-loop μ-loop → tie.After-group Inv-loop μ-loop
-after-group c = after-ask-start c .before .before .before
-
 abbrev start : tie.At-loop Inv-loop μ-loop → tie.Start Inv-loop μ-loop
-start c = start-of (after-group c)
+start c = start-of (after-ask-start c)
 
 abbrev sizes : tie.At-loop Inv-loop μ-loop → Sizes
 sizes c = start c .args .trip .sizes
@@ -79,15 +74,6 @@ locals c =
       keys-are = counted mostJunctions noKey keys-kept;
       tree-are = counted (2 * mostJunctions) nobodyWord tree-kept;
     })
-
--- the rows of the roads, once they are grouped
-abbrev rows : tie.At-loop Inv-loop μ-loop → List ℕ
-rows c = let (_, (_, (_, (rows, _)))) = after-group c .group .last in rows
-
-rows-are : (c : tie.At-loop Inv-loop μ-loop) → mostJunctions + mostRoads ≡ length (rows c)
-rows-are c =
-    let (_, (_, (_, (rows-kept, _)))) = after-group c .group .kept in
-    counted (mostJunctions + mostRoads) 0 rows-kept
 
 -- those of the caller are as long as they came
 estimates-long : (c : tie.At-loop Inv-loop μ-loop) → length (c .loop .estimates) ≡ length (start c .args .estimates .now)
@@ -115,12 +101,9 @@ node-small c = omega (arith, turn c .node-in, start (c .before) .pre .sized .n-h
 count-inside : (c : tie.In-loop Inv-loop μ-loop) → c .before .loop .c < sizes (c .before) .n
 count-inside c = omega (arith, turn c .count-in, after-smaller (c .before) .smaller .ensures)
 
--- the roads of the node are linked
-links : (c : tie.In-loop Inv-loop μ-loop) → let at-loop = c .before in
-    Links (start at-loop .args .roads .now) (sizes at-loop .n) (sizes at-loop .m) (rows at-loop) (at-loop .loop .v)
-links c =
-    let sized = start (c .before) .pre .sized in
-    linked (turn c .node-in) (sized .n-high) (sized .m-high) (after-group (c .before) .group .ensures) (rows-are (c .before))
+-- its group starts at an entry of the groups, and ends at the next one
+groups-inside : (c : tie.In-loop Inv-loop μ-loop) → c .before .loop .v + 1 < length (start (c .before) .args .groups .now)
+groups-inside c = omega (arith, turn c .node-in, start (c .before) .pre .groups-are)
 
 -- ---- once the node is settled
 
@@ -136,11 +119,25 @@ settled c =
 locals-settled : (c : tie.After-put Inv-loop μ-loop) → Locals (withKeys (labels (in-loop c .before)) (c .put .last .0) (c .put .last .1 .0))
 locals-settled c = locals-kept (long-settled (settled c)) (locals (in-loop c .before))
 
+-- it is no goal
+abbrev put-before : tie.Else1 Inv-loop μ-loop → tie.After-put Inv-loop μ-loop
+put-before c = c .before .before .before .before
+
+abbrev turn-of : tie.Else1 Inv-loop μ-loop → tie.In-loop Inv-loop μ-loop
+turn-of c = in-loop (put-before c)
+
+-- its group is asked
+abbrev after-group-at : tie.After-ask Inv-loop μ-loop → tie.After-group-at Inv-loop μ-loop
+after-group-at c = c .before .before
+
+abbrev else1 : tie.After-ask Inv-loop μ-loop → tie.Else1 Inv-loop μ-loop
+else1 c = after-group-at c .before .before .before
+
 abbrev after-put : tie.After-ask Inv-loop μ-loop → tie.After-put Inv-loop μ-loop
-after-put c = c .before .before .before .before .before .before .before
+after-put c = put-before (else1 c)
 
 abbrev after-ask : tie.After-relax Inv-loop μ-loop → tie.After-ask Inv-loop μ-loop
-after-ask c = c .before .before .before .before .before .before .before .before .before
+after-ask c = c .before .before .before .before .before .before .before .before
 
 -- from where the next candidate is chosen
 abbrev after-relax : tie.After-tree8 Inv-loop μ-loop → tie.After-relax Inv-loop μ-loop
@@ -148,22 +145,15 @@ after-relax c = c .before .before .before .before .before .before
 
 -- ---- the answers
 
-group-requires : tie.Need-group-requires Inv-loop μ-loop
-group-requires c κs =
-    let start = c .before .before .before .before .before .before .before .before .before .before .before in
-    let sized = start .pre .sized in
-    (omega (arith, sized .roads-are), simp length-replicate (omega (arith, sized .n-high, sized .m-high)))
-
 ask-start-requires : tie.Need-ask-start-requires Inv-loop μ-loop
 ask-start-requires c κs =
-    let after-group = c .before .before in
-    let start = start-of after-group in
+    let start = c .before .before .before .before .before .before .before .before .before .before .before .before .before in
     (start .pre .start-in, pairs-in (start .pre .sized) refl)
 
 begin-requires : tie.Need-begin-requires Inv-loop μ-loop
 begin-requires c κs =
-    let after-group = c .before .before .before .before .before .before .before .before .before in
-    let start = start-of after-group in
+    let after-ask-start = c .before .before .before .before .before .before in
+    let start = start-of after-ask-start in
     (start .pre .start-in, room-blank (start .pre .sized .n-high) (start .pre .ways-long))
 
 slice-aggregate-choose : tie.Need-slice-aggregate-choose Inv-loop μ-loop
@@ -179,8 +169,8 @@ choose-requires c κs =
 loop-holds : tie.Need-loop-holds Inv-loop μ-loop
 loop-holds c =
     let after-begin = begun (c .before) in
-    let after-group = after-begin .before .before .before .before .before .before .before .before .before .before in
-    let start = start-of after-group in
+    let after-ask-start = after-begin .before .before .before .before .before .before .before in
+    let start = start-of after-ask-start in
     let room = after-begin .begin .ensures .room in
     running-start (first-inside room (omega (arith, start .pre .start-in)) (c .choose .ensures)) room
 
@@ -242,16 +232,32 @@ loop-again c =
     let in-loop = in-loop after-put in
     running-goal (in-loop .before .loop .inv) (turn in-loop) (settled after-put) (sym (c .before .is-goal .ensures) ∙ c .if1 .taken)
 
-slice-aggregate-ask : tie.Need-slice-aggregate-ask Inv-loop μ-loop
-slice-aggregate-ask c =
-    let at-loop = c .before .before .before .before .before .before .before .before .before .before in
-    rows-are at-loop
+cast-a : tie.Need-cast-a Inv-loop μ-loop
+cast-a c = omega (arith, node-small (turn-of c))
+
+mul-a : tie.Need-mul-a Inv-loop μ-loop
+mul-a c = omega (arith, node-small (turn-of c))
+
+shared-slice-read-a : tie.Need-shared-slice-read-a Inv-loop μ-loop
+shared-slice-read-a c = omega (arith, groups-inside (turn-of (c .before)))
+
+cast-b : tie.Need-cast-b Inv-loop μ-loop
+cast-b c = omega (arith, node-small (turn-of (c .before)))
+
+add-b : tie.Need-add-b Inv-loop μ-loop
+add-b c = omega (arith, node-small (turn-of (c .before)))
+
+mul-b : tie.Need-mul-b Inv-loop μ-loop
+mul-b c = omega (arith, node-small (turn-of (c .before)))
+
+shared-slice-read-b : tie.Need-shared-slice-read-b Inv-loop μ-loop
+shared-slice-read-b c = omega (arith, groups-inside (turn-of (c .before .before)))
 
 ask-requires : tie.Need-ask-requires Inv-loop μ-loop
 ask-requires c κs =
-    let in-loop = c .before .before .before .before .before .before .before .before .before in
-    let at-loop = in-loop .before in
-    (asking (start at-loop .pre .sized) (estimates-long at-loop), links in-loop)
+    let else1 = c .before .before .before .before in
+    let at-loop = turn-of else1 .before in
+    asking (start at-loop .pre .sized) (estimates-long at-loop)
 
 slice-aggregate-relax : tie.Need-slice-aggregate-relax Inv-loop μ-loop
 slice-aggregate-relax c =
@@ -268,22 +274,16 @@ slice-aggregate-relax-3 c =
     let after-ask = c .before .before .before .before .before .before .before in
     locals-settled (after-put after-ask) .tree-are
 
-slice-aggregate-relax-4 : tie.Need-slice-aggregate-relax-4 Inv-loop μ-loop
-slice-aggregate-relax-4 c =
-    let after-ask = c .before .before .before .before .before .before .before .before in
-    let in-loop = in-loop (after-put after-ask) in
-    rows-are (in-loop .before)
-
 relax-requires : tie.Need-relax-requires Inv-loop μ-loop
 relax-requires c κs =
-    let after-ask = c .before .before .before .before .before .before .before .before in
+    let after-ask = c .before .before .before .before .before .before .before in
     let after-put = after-put after-ask in
     let in-loop = in-loop after-put in
     let at-loop = in-loop .before in
     let (_, (_, (_, (_, (_, (_, (_, (estimates-kept, _)))))))) = after-ask .ask .kept in (
+      turn in-loop .node-in,
       reading (start at-loop .pre .sized) (estimates-kept ∙ estimates-long at-loop),
       room-settled (settled after-put) (at-loop .loop .inv .room),
-      links in-loop,
     )
 
 slice-aggregate-choose-2 : tie.Need-slice-aggregate-choose-2 Inv-loop μ-loop
@@ -307,14 +307,15 @@ loop-again-2 : tie.Need-loop-again-2 Inv-loop μ-loop
 loop-again-2 c =
     let after-relax = after-relax (c .before) in
     let after-ask = after-ask after-relax in
-    let else1 = after-ask .before .before .before in
+    let else1 = else1 after-ask in
     let after-is-goal = else1 .before in
     let after-put = after-put after-ask in
     let in-loop = in-loop after-put in
     let (_, (_, (_, (_, (_, (_, (_, (estimates-kept, _)))))))) = after-ask .ask .kept in
     let (_, (_, (_, (_, (times-kept, (keys-kept, (vias-kept, (tree-kept, _)))))))) = after-relax .relax .kept in
     running-on (in-loop .before .loop .inv) (turn in-loop) (settled after-put) (sym (after-is-goal .is-goal .ensures) ∙ else1 .if1 .left)
-    estimates-kept (record { times-long = times-kept; keys-long = keys-kept; vias-long = vias-kept; tree-long = tree-kept })
+    (after-group-at after-ask .group-at .ensures) estimates-kept
+    (record { times-long = times-kept; keys-long = keys-kept; vias-long = vias-kept; tree-long = tree-kept })
     (after-ask .ask .ensures) (after-relax .relax .ensures) (c .choose2 .ensures)
 
 returns : tie.Need-returns Inv-loop μ-loop
@@ -332,8 +333,6 @@ advance-spec =
     (tie.spec
     Inv-loop
     μ-loop
-    (λ c. refl)
-    group-requires
     ask-start-requires
     (λ c. refl)
     (λ c. refl)
@@ -360,12 +359,18 @@ advance-spec =
     (λ c κs. search needs)
     loop-less
     loop-again
-    slice-aggregate-ask
+    cast-a
+    mul-a
+    shared-slice-read-a
+    cast-b
+    add-b
+    mul-b
+    shared-slice-read-b
+    (λ c κs. search needs)
     ask-requires
     slice-aggregate-relax
     slice-aggregate-relax-2
     slice-aggregate-relax-3
-    slice-aggregate-relax-4
     relax-requires
     slice-aggregate-choose-2
     choose-requires-2

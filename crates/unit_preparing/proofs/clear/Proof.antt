@@ -6,7 +6,9 @@ use Rattle.unit_preparing.proofs.clear.Tie as tie
 
 returns : tie.Need-returns
 returns c =
-    let after-fill6 = c .before .before in
+    let after-fill8 = c .before .before in
+    let after-fill7 = after-fill8 .before .before .before .before in
+    let after-fill6 = after-fill7 .before .before .before .before in
     let after-fill5 = after-fill6 .before .before .before .before in
     let after-fill4 = after-fill5 .before .before .before .before in
     let after-fill3 = after-fill4 .before .before .before .before in
@@ -19,6 +21,8 @@ returns c =
       down = after-fill4 .fill4 .ensures;
       estimates = after-fill5 .fill5 .ensures;
       elapsed = after-fill6 .fill6 .ensures;
+      leaving = after-fill7 .fill7 .ensures;
+      groups = after-fill8 .fill8 .ensures;
     })
 
 pub clear-spec : {M : Type 1} → statement M
@@ -31,6 +35,10 @@ clear-spec =
     (λ c κs. search needs)
     (λ c κs. search needs)
     (λ c κs. search needs)
+    (λ c κs. search needs)
+    (λ c κs. search needs)
+    (λ c. search needs)
+    (λ c. search needs)
     (λ c. search needs)
     (λ c. search needs)
     (λ c. search needs)

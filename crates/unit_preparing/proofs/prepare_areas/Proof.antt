@@ -6,7 +6,8 @@ use Rattle.model.specs.Areas.{Areas}
 use Rattle.pairs_contraction.specs.Contraction.{contraction-prepared}
 use Rattle.unit_preparing.specs.Preparing.{held}
 use Rattle.unit_preparing.proofs.Areas.{alike-same}
-use Rattle.unit_preparing.proofs.Prepares.{Bodies, card-size, no-room, order-long, roads-long, sized, sound, with-room}
+use Rattle.unit_preparing.proofs.Prepares.{Bodies, card-size, groups-asked, no-room, order-long, roads-long, sized, sound}
+use Rattle.unit_preparing.proofs.Prepares.{with-room}
 use borrow.Author.Needs.{needs}
 use Rattle.unit_preparing.proofs.prepare_areas.Statement.{statement}
 use Rattle.unit_preparing.proofs.prepare_areas.Tie as tie
@@ -14,10 +15,10 @@ use Rattle.unit_preparing.proofs.prepare_areas.Tie as tie
 -- ---- the areas that were lent, and the two bodies of the card
 
 abbrev areas : tie.Start → Areas
-areas c = let a = c .args in held (a .ranks) (a .pairs) (a .live) (a .down) (a .estimates) (a .elapsed)
+areas c = let a = c .args in held (a .ranks) (a .pairs) (a .live) (a .down) (a .estimates) (a .elapsed) (a .leaving) (a .groups)
 
 abbrev start : tie.After-roads-of → tie.Start
-start c = c .before .before .before .before .before .before .before .before
+start c = c .before .before .before .before .before .before .before .before .before .before
 
 bodies : (c : tie.After-order-of) → let s = start (c .before) in
     Bodies (s .args .card .now) (s .args .s) (areas s) (c .before .roads-of .result .now) (c .order-of .result .now)
@@ -31,7 +32,7 @@ bodies c = record {
 
 roads-of-requires : tie.Need-roads-of-requires
 roads-of-requires c κs =
-    let start = c .before .before .before .before .before .before .before in
+    let start = c .before .before .before .before .before .before .before .before .before in
     omega (arith, card-size (start .pre))
 
 order-of-requires : tie.Need-order-of-requires
@@ -60,11 +61,18 @@ fill-live-requires c κs =
     let after-contract = c .before .before .before .before .before .before in
     roads-long (bodies (after-order-of after-contract))
 
+group-roads-requires : tie.Need-group-roads-requires
+group-roads-requires c κs =
+    let after-fill = c .before .before .before .before .before .before .before .before .before .before .before .before in
+    let after-contract = after-fill .before .before .before .before .before .before .before .before .before .before .before in
+    groups-asked (bodies (after-order-of after-contract))
+
 -- they do not fit
 returns : tie.Need-returns
 returns c =
-    let after-clear = c .before .before .before .before .before .before .before .before .before .before .before .before in
-    let after-enum-told = after-clear .before .before .before .before .before .before .before in
+    let after-live = c .before .before .before .before .before .before .before .before .before .before .before in
+    let after-clear = after-live .before .before .before .before .before in
+    let after-enum-told = after-clear .before .before .before .before .before .before .before .before .before in
     let after-contract = after-enum-told .before .before .before .before in
     let (_, (ranks-kept, _)) = after-fill-ranks after-contract .fill-ranks .kept in
     let (_, (_, (_, (pairs-kept, _)))) = after-contract .contract .kept in
@@ -75,6 +83,8 @@ returns c =
       down = refl;
       estimates = refl;
       elapsed = refl;
+      leaving = refl;
+      groups = refl;
     }) in
     no-room (bodies (after-order-of after-contract)) (after-contract .contract .ensures) (after-enum-told .enum-told .given .1)
     lengths-kept (after-clear .clear .ensures)
@@ -82,7 +92,8 @@ returns c =
 -- they fit
 returns-2 : tie.Need-returns-2
 returns-2 c =
-    let after-fill3 = c .before .before in
+    let after-group-roads = c .before .before .before .before in
+    let after-fill3 = after-group-roads .before .before .before .before .before in
     let after-fill2 = after-fill3 .before .before .before .before in
     let after-fill = after-fill2 .before .before .before .before in
     let after-fill-live = after-fill .before .before .before .before in
@@ -94,7 +105,7 @@ returns-2 c =
     let (_, (_, (_, (pairs-kept, _)))) = after-contract .contract .kept in
     let made = contraction-prepared (sound b) ranks-are pairs-kept (after-count .count .given .1) (after-contract .contract .ensures) in
     with-room b made pairs-kept (after-fill-live .fill-live .ensures) (after-fill .fill .ensures) (after-fill2 .fill2 .ensures)
-    (after-fill3 .fill3 .ensures)
+    (after-fill3 .fill3 .ensures) (after-group-roads .group-roads .ensures)
 
 pub prepare-areas-spec : {M : Type 1} → statement M
 prepare-areas-spec =
@@ -111,6 +122,9 @@ prepare-areas-spec =
     (λ c κs. search needs)
     (λ c κs. search needs)
     (λ c κs. search needs)
+    group-roads-requires
+    (λ c. search needs)
+    (λ c. search needs)
     (λ c. search needs)
     (λ c. search needs)
     (λ c. search needs)
@@ -118,6 +132,8 @@ prepare-areas-spec =
     (λ c. search needs)
     (λ c. search needs)
     returns
+    (λ c. search needs)
+    (λ c. search needs)
     (λ c. search needs)
     (λ c. search needs)
     (λ c. search needs)

@@ -7,7 +7,7 @@ use Rattle.unit_script.proofs.make_call.Statement.{statement}
 use Rattle.unit_script.proofs.make_call.Tie as tie
 
 abbrev start : tie.After-call-arg5 → tie.Start
-start c = c .before .before .before .before .before .before .before .before .before .before .before .before .before .before
+start c = c .before .before .before .before .before .before .before .before .before .before .before .before .before .before .before .before
 
 slice-aggregate-call : tie.Need-slice-aggregate-call
 slice-aggregate-call c =
@@ -24,7 +24,7 @@ returns : tie.Need-returns
 returns c =
     let after-call = c .before .before .before .before .before .before .before .before .before .before .before .before in
     let (route-fits, log-fits) = start (after-call .before .before) .pre in
-    let (_, (_, (_, (_, (_, (_, (_, (_, (route-kept, (log-kept, _)))))))))) = after-call .call .kept in
+    let (_, (_, (_, (_, (_, (_, (_, (_, (_, (_, (route-kept, (log-kept, _)))))))))))) = after-call .call .kept in
     one-made route-fits log-fits (after-call .call .ensures) route-kept log-kept
 
 pub make-call-spec : {M : Type 1} → statement M

@@ -13,19 +13,20 @@ use Rattle.unit_script.proofs.make_calls.Statement.{statement}
 use Rattle.unit_script.proofs.make_calls.Tie as tie
 
 abbrev Inv-loop : tie.InvT-loop
-Inv-loop card ranks pairs live₀ down₀ estimates₀ elapsed₀ route₀ log₀ script out₀ room h₀ at₀ k₀
+Inv-loop card ranks pairs live₀ down₀ estimates₀ elapsed₀ leaving groups route₀ log₀ script out₀ room h₀ at₀ k₀
     live down estimates elapsed route log out h at k =
-    AtTurn card script room at k out₀ out (holding (headerIn h₀) (areasOf ranks pairs live₀ down₀ estimates₀ elapsed₀) (lentOf route₀ log₀))
-    (holding (headerIn h) (areasOf ranks pairs live down estimates elapsed) (lentOf route log))
+    AtTurn card script room at k out₀ out
+    (holding (headerIn h₀) (areasOf ranks pairs live₀ down₀ estimates₀ elapsed₀ leaving groups) (lentOf route₀ log₀))
+    (holding (headerIn h) (areasOf ranks pairs live down estimates elapsed leaving groups) (lentOf route log))
 
 abbrev μ-loop : tie.MeasureT-loop
-μ-loop card ranks pairs live₀ down₀ estimates₀ elapsed₀ route₀ log₀ script out₀ room h₀ at₀ k₀
+μ-loop card ranks pairs live₀ down₀ estimates₀ elapsed₀ leaving groups route₀ log₀ script out₀ room h₀ at₀ k₀
     live down estimates elapsed route log out h at k = room - k
 
 -- ---- where a call is next
 
 abbrev start : tie.At-loop Inv-loop μ-loop → tie.Start Inv-loop μ-loop
-start c = c .before .before .before .before .before .before .before .before .before .before .before .before .before
+start c = c .before .before .before .before .before .before .before .before .before .before .before .before .before .before .before
 
 next-is : (c : tie.Then1 Inv-loop μ-loop) →
     let at-loop = c .before .before in
@@ -80,7 +81,8 @@ loop-again c =
     let at-put = after-put-answer .before in
     let make-call = after-make-call at-put .make-call in
     let inv = at-loop at-put .loop .inv in
-    let (_, (_, (_, (_, (live-kept, (down-kept, (estimates-kept, (elapsed-kept, (route-kept, (log-kept, _)))))))))) = make-call .kept in
+    let (_, (_, (_, (_, (live-kept, (down-kept, (estimates-kept, (elapsed-kept, kept)))))))) = make-call .kept in
+    let (_, (_, (route-kept, (log-kept, _)))) = kept in
     let (words-kept, _) = after-put-answer .put-answer .kept in
     record {
       within = turn-ends inv (c .end-at .ensures);

@@ -44,17 +44,17 @@ estimate-requires c κs =
     }
 
 returns : tie.Need-returns
-returns c b lengths-are built-is aimed-is k =
+returns c b lengths-are ranks-are pairs-are aimed-is k =
     let after-q = c .before .before in
     let after-estimate-asked = after-q .before .before in
     let says = after-estimate-asked .estimate-asked .ensures (baseOn (start after-estimate-asked .args .card .now)) in
     same-aimed (refused lengths-are (after-q .q .given .1) says (c .answered .ensures)) aimed-is
 
 returns-2 : tie.Need-returns-2
-returns-2 c b lengths-are built-is aimed-is k =
+returns-2 c b lengths-are ranks-are pairs-are aimed-is k =
     let after-estimate = c .before .before .before in
     let after-order-of = after-estimate .before .before in
-    estimate-made lengths-are (passed (after-order-of .before)) built-is aimed-is (after-order-of .order-of .ensures)
+    estimate-made lengths-are (passed (after-order-of .before)) ranks-are pairs-are aimed-is (after-order-of .order-of .ensures)
     (after-estimate .estimate .ensures) (c .answered2 .ensures)
 
 pub estimate-part-spec : {M : Type 1} → statement M

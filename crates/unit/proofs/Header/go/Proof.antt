@@ -25,7 +25,10 @@ abbrev header : tie.Start → Header
 header s = headerIn (s .args .self)
 
 abbrev areas : tie.Start → Areas
-areas s = let a = s .args in areasOf (a .ranks .now) (a .pairs .now) (a .live .now) (a .down .now) (a .estimates .now) (a .elapsed .now)
+areas s =
+    let a = s .args in
+    areasOf (a .ranks .now) (a .pairs .now) (a .live .now) (a .down .now) (a .estimates .now) (a .elapsed .now) (a .leaving .now)
+    (a .groups .now)
 
 abbrev lent : tie.Start → Lent
 lent s = lentOf (s .args .route .now) (s .args .log .now)
@@ -33,7 +36,7 @@ lent s = lentOf (s .args .route .now) (s .args .log .now)
 -- ---- what the questions said
 
 abbrev start : tie.After-go-asked → tie.Start
-start c = c .before .before .before .before .before .before .before .before .before .before .before .before .before
+start c = c .before .before .before .before .before .before .before .before .before .before .before .before .before .before .before
 
 said : (c : tie.After-go-asked) → let s = start c in
     verdictIn (c .go-asked .result) ≡ goVerdict (card s) (header s) (lengths (areas s)) (s .args .start .0) (lent s)
@@ -56,34 +59,36 @@ returns c =
     go-refused (after-q .q .given .1) (said after-go-asked) (c .answered .ensures)
 
 roads-of-requires : tie.Need-roads-of-requires
-roads-of-requires c κs = omega (arith, passed c .sizes .size)
+roads-of-requires c κs = omega (arith, passed (c .before .before) .sizes .size)
 
 order-of-requires : tie.Need-order-of-requires
-order-of-requires c κs = omega (arith, passed (c .before) .sizes .size)
-
-abbrev after-order-of : tie.After-aimed-at → tie.After-order-of
-after-order-of c = c .before .before .before .before .before
+order-of-requires c κs = let after-aimed-at = c .before in omega (arith, passed (after-aimed-at .before .before) .sizes .size)
 
 search-requires : tie.Need-search-requires
 search-requires c κs =
-    let after-roads-of = after-order-of c .before in
-    let after-enum-told = after-roads-of .before in
+    let after-order-of = c .before .before .before .before in
+    let after-roads-of = after-order-of .before in
+    let after-aimed-at = after-roads-of .before in
+    let after-enum-told = after-aimed-at .before .before in
     let s = start (after-enum-told .before .before) in
     let p = passed after-enum-told in record {
       start-in = p .facts .start;
-      target-in = omega (arith, c .aimed-at .ensures, p .target);
+      target-in = omega (arith, after-aimed-at .aimed-at .ensures, p .target);
+      leaving-is = p .sizes .lengths .leaving;
+      groups-are = p .sizes .lengths .groups;
       ways-long = p .facts .route-room;
       log-long = p .facts .log-room;
-      sized = sized (areas s) (p .sizes) (after-roads-of .roads-of .ensures) (after-order-of c .order-of .ensures);
+      sized = sized (areas s) (p .sizes) (after-roads-of .roads-of .ensures) (after-order-of .order-of .ensures);
     }
 
 returns-2 : tie.Need-returns-2
 returns-2 c =
     let after-search = c .before .before .before .before .before .before .before .before .before .before in
-    let after-aimed-at = after-search .before in
-    let after-roads-of = after-order-of after-aimed-at .before in
-    go-handed (passed (after-roads-of .before)) (after-aimed-at .aimed-at .ensures) (after-roads-of .roads-of .ensures)
-    (after-order-of after-aimed-at .order-of .ensures) (after-search .search .ensures) (c .before .gone .ensures) (c .answered2 .ensures)
+    let after-order-of = after-search .before .before .before .before .before in
+    let after-roads-of = after-order-of .before in
+    let after-aimed-at = after-roads-of .before in
+    go-handed (passed (after-aimed-at .before .before)) (after-aimed-at .aimed-at .ensures) (after-roads-of .roads-of .ensures)
+    (after-order-of .order-of .ensures) (after-search .search .ensures) (c .before .gone .ensures) (c .answered2 .ensures)
 
 pub go-spec : {M : Type 1} → statement M
 go-spec =
@@ -94,9 +99,9 @@ go-spec =
     (λ c. search needs)
     (λ c κs. search needs)
     (λ c. search needs)
+    (λ c κs. search needs)
     roads-of-requires
     order-of-requires
-    (λ c κs. search needs)
     search-requires
     (λ c κs. search needs)
     (λ c κs. search needs)

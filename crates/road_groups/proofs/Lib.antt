@@ -1,0 +1,4 @@
+pub mod Counts
+pub mod Sums
+pub mod Places
+pub mod Groups
