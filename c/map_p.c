@@ -1,6 +1,6 @@
 /*
- * Map P of document 01 through route_unit.h: prints cases P1 to P10 and the roads by tail of document 02, A1, and ends with 0 only if
- * all are as the documents have them.
+ * Map P of document 01 through route_unit.h: prints cases P1 to P10, and of document 02 the roads by tail, A1, and previews, A2, and
+ * ends with 0 only if all are as the documents have them.
  */
 #include "route_unit.h"
 
@@ -22,7 +22,7 @@ static const uint32_t BY_TAIL[M] = {0, 2, 1, 3, 4}, STARTS[N + 1] = {0, 2, 3, 4,
 
 static uint8_t card[CARD];
 static uint32_t ranks[N], pairs[4 * PAIRS], live[M], down[N], estimates[N], elapsed[N], leaving[M], groups[N + 1];
-static uint32_t route[LENT], entries[LENT];
+static uint32_t route[LENT], entries[LENT], work[2 * N + 1];
 static UnitHeader header;
 static bool all_right = true;
 
@@ -97,6 +97,34 @@ static bool gone(uint32_t start, uint32_t question, uint64_t total, uint32_t roa
         same(entries, log, count) && filled(entries + count, LENT - count, UNTOUCHED);
 }
 
+/* A preview: the number of its refusal or 0, its two totals, and whether they are compared, with their change. */
+static bool previewed(size_t work_len, uint32_t road, uint32_t time, uint32_t start, uint32_t question, uint64_t total,
+    uint64_t then, uint32_t compared, int64_t change) {
+    uint32_t live_before[M], elapsed_before[N];
+    memcpy(live_before, live, sizeof live);
+    memcpy(elapsed_before, elapsed, sizeof elapsed);
+    fill(work, 2 * N + 1, UNTOUCHED);
+    UnitAnswer answer = unit_preview(header, card, CARD, ranks, N, pairs, 4 * PAIRS, live, M, down, N, estimates, N, elapsed, N,
+        leaving, M, groups, N + 1, work, work_len, road, time, start);
+    return handed(answer) == question && answer.place == 0 && answer.total == total && answer.count == 0 && answer.roads == 0 &&
+        answer.then == then && answer.compared == compared && answer.change == change &&
+        same(live, live_before, M) && same(elapsed, elapsed_before, N) &&
+        filled(work + (question == 0 ? work_len : 0), 2 * N + 1 - (question == 0 ? work_len : 0), UNTOUCHED);
+}
+
+/* The same where no question refuses it. */
+static bool foreseen(uint32_t road, uint32_t time, uint64_t total, uint64_t then, uint32_t compared, int64_t change) {
+    return previewed(2 * N, road, time, 0, 0, total, then, compared, change);
+}
+
+/* Refused by each of its questions; of a road at 60, a time from its base time 10 on is allowed. */
+static bool unforeseen(void) {
+    return prepare(PAIRS) == 0 && previewed(2 * N, 1, 15, 0, 13, 0, 0, 0, 0) && aim(3) == 0 && set(1, 60) == 0 &&
+        previewed(2 * N - 1, M, 9, N, 9, 0, 0, 0, 0) && previewed(2 * N + 1, 1, 15, 0, 9, 0, 0, 0, 0) &&
+        previewed(2 * N, M, 9, N, 10, 0, 0, 0, 0) && previewed(2 * N, 1, 9, N, 11, 0, 0, 0, 0) &&
+        previewed(2 * N, 1, 10, N, 12, 0, 0, 0, 0) && filled(estimates, N, UNIT_UNASKED);
+}
+
 static bool writes_and_reads(void) {
     uint32_t first = UNTOUCHED, second = UNTOUCHED, place = UNTOUCHED;
     bool written = card_write(ROADS, 3 * M, ORDER, N, card, CARD, &place) == 0 && place == 0;
@@ -123,11 +151,12 @@ static bool listed(void) {
     return same(leaving, BY_TAIL, M) && same(groups, STARTS, N + 1);
 }
 
-/* The roads by tail after preparing, and after each of the four calls. */
+/* The roads by tail after preparing, and after each of the five calls. */
 static bool by_tail(void) {
     static const uint32_t road_1[] = {1}, log_13[] = {1, 3};
     return prepare(PAIRS) == 0 && listed() && aim(3) == 0 && listed() && set(3, UNIT_CLOSED) == 0 && listed() &&
-        estimated(0, 20) && listed() && gone(1, 0, 10, 1, road_1, 2, log_13) && listed();
+        estimated(0, 20) && listed() && gone(1, 0, 10, 1, road_1, 2, log_13) && listed() &&
+        foreseen(1, 16, 20, 26, 1, 6) && listed();
 }
 
 static bool p9(void) {
@@ -136,25 +165,29 @@ static bool p9(void) {
 }
 
 /*
- * The program's example as one script: aim 3, est 0, go 0, set 1 closed, go 0, set 1 9. Between them a go with too short a log. Then a
- * kind that is none, which ends the script: the aim behind it is not made, and its answer's words are as they were.
+ * The program's example as one script: aim 3, est 0, go 0, set 1 closed, go 0, set 1 9. Between them a go with too short a log, and
+ * previews: a shorter, a missing and a refused one. Then a kind that is none, which ends the script: the aim behind it is not made, and
+ * its answer's words are as they were.
  */
 static bool replayed(void) {
     static const uint32_t log_4[] = {0, 1, 2, 3}, roads_23[] = {2, 3};
-    static const uint32_t script[25] = {
-        1, 3, 2, 0, 3, 0, N, LENT, 0, 1, UNIT_CLOSED, 3, 0, N, N - 1, 3, 0, LENT + 1, N, 0, 1, 9, 4, 1, 0,
+    static const uint32_t script[37] = {
+        1, 3, 2, 0, 3, 0, N, LENT, 0, 1, UNIT_CLOSED, 3, 0, N, N - 1, 3, 0, LENT + 1, N,
+        4, 1, 10, 0, 4, 2, UNIT_CLOSED, 0, 4, 1, 9, 0, 0, 1, 9, 5, 1, 0,
     };
-    static const uint64_t wanted[32] = {
-        0, 0, 0, 0, 0, 20, 0, 0, 0, 20, 3, 2, 0, 0, 0, 0, 14, 0, 0, 0, 0, 25, 4, 2, 11, 0, 0, 0, 7, 7, 7, 7,
+    static const uint64_t wanted[44] = {
+        0, 0, 0, 0, 0, 20, 0, 0, 0, 20, 3, 2, 0, 0, 0, 0, 14, 0, 0, 0, 0, 25, 4, 2,
+        0, 25, 20, (uint64_t)-5, 0, 25, UNIT_NONE, 0, 11, 0, 0, 0, 11, 0, 0, 0, 7, 7, 7, 7,
     };
-    uint64_t out[32] = {[28] = 7, 7, 7, 7};
+    uint64_t out[44] = {[40] = 7, 7, 7, 7};
     fill(route, LENT, UNTOUCHED);
     fill(entries, LENT, UNTOUCHED);
+    fill(work, 2 * N + 1, UNTOUCHED);
     UnitAnswer answer = unit_replay(card, CARD, ranks, N, pairs, 4 * PAIRS, live, M, down, N, estimates, N, elapsed, N, leaving, M,
-        groups, N + 1, route, LENT, entries, LENT, script, 25, out, 32);
+        groups, N + 1, route, LENT, entries, LENT, work, 2 * N, script, 37, out, 44);
     return handed(answer) == 0 && header.target == 3 && header.aimed == 1 && memcmp(out, wanted, sizeof out) == 0 &&
         same(route, roads_23, 2) && filled(route + 2, LENT - 2, UNTOUCHED) && same(entries, log_4, 4) &&
-        filled(entries + 4, LENT - 4, UNTOUCHED);
+        filled(entries + 4, LENT - 4, UNTOUCHED) && work[2 * N] == UNTOUCHED;
 }
 
 int main(void) {
@@ -177,6 +210,15 @@ int main(void) {
     told("P10 roads 1 and 2 closed: 15, count 2",
         prepared_at(3) && set(1, UNIT_CLOSED) == 0 && set(2, UNIT_CLOSED) == 0 && gone(0, 15, 0, 0, NULL, 2, log_2));
     told("A1  roads by tail: 0, 2, 1, 3, 4; groups from 0, 2, 3, 4, 5", by_tail());
-    told("replay: the program's example as one script", replayed());
+    told("A2  road 1 at 15: 20, then 25: 5 more", prepared_at(3) && foreseen(1, 15, 20, 25, 1, 5));
+    told("A2  road 4 at 30: 20, then 20: 0", prepared_at(3) && foreseen(4, 30, 20, 20, 1, 0));
+    told("A2  road 1 closed; at 10: 25, then 20: 5 less",
+        prepared_at(3) && set(1, UNIT_CLOSED) == 0 && foreseen(1, 10, 25, 20, 1, -5));
+    told("A2  road 1 closed; road 2 too: 25, then none",
+        prepared_at(3) && set(1, UNIT_CLOSED) == 0 && foreseen(2, UNIT_CLOSED, 25, UNIT_NONE, 0, 0));
+    told("A2  roads 1 and 2 closed; road 2 at 15: none, then 25",
+        prepared_at(3) && set(1, UNIT_CLOSED) == 0 && set(2, UNIT_CLOSED) == 0 && foreseen(2, 15, UNIT_NONE, 25, 0, 0));
+    told("A2  refused by 9 to 13, by the first that says no", unforeseen());
+    told("replay: the program's example and previews as one script", replayed());
     return all_right ? 0 : 1;
 }

@@ -1,9 +1,9 @@
 /*
- * The route unit for C and C++: reading and writing a card, preparing it, the four calls, and a script of calls.
+ * The route unit for C and C++: reading and writing a card, preparing it, the five calls, and a script of calls.
  *
  * Link with libunit_c.a (`rt staticlib unit_c` leaves it in target/staticlib). Words as "none" and "question 9" are
- * those of document 01, the areas leaving and groups those of document 02, A1; the contract of each function, for every
- * input, stands at its namesake in crates/unit_c.
+ * those of document 01, the areas leaving and groups and the call preview those of document 02, A1 and A2; the contract of
+ * each function, for every input, stands at its namesake in crates/unit_c.
  *
  * Areas. A slice is a pointer and, right after it, its length in elements (bytes of a card, words of all others). Each
  * pointer is aligned for its type, is not null even where the length is 0, and points at as many elements as the length
@@ -12,12 +12,12 @@
  * given, and writes only through pointers that are not const. No function keeps a pointer, has a state of its own or
  * allocates.
  *
- * Stack. Nothing proves how deep it goes: an estimate may ask for 4,095 others, one within the other, and so may a go. On the
- * deepest map that is tried, a line of 4,096 junctions in rank order, 2 MiB are enough for every function.
+ * Stack. Nothing proves how deep it goes: an estimate may ask for 4,095 others, one within the other, and so may a go and a
+ * preview. On the deepest map that is tried, a line of 4,096 junctions in rank order, 2 MiB are enough for every function.
  *
  * Lengths. With n junctions and m roads: card 28 + 12 m + 4 n bytes; ranks, down, estimates, elapsed n words; live, leaving m
  * words; groups n + 1 words; pairs a multiple of 4 words, four for each pair there is to be room for, at most 262,144; route and
- * log at least n words.
+ * log at least n words; work 2 n words.
  *
  * Refusals, by the number of the question that is answered with no, in order:
  *    1  card: at least 28 bytes?
@@ -28,14 +28,15 @@
  *    6  card: is each entry of the order below n and new? With the first place, from 0, where it is not.
  *    7  prepare, write: has each area its length?
  *    8  prepare: do all kept pairs fit? If not, every area is filled with 0.
- *    9  calls: have the card and the eight areas the lengths that the header calls for, of at most 4,096 junctions and 16,384 roads?
- *   10  set: is the road below m?
- *   11  set: is the time from the road's base time to 1,000,000, or closed?
- *   12  aim, estimate, go: is the junction below n?
- *   13  estimate, go: is there a target?
+ *    9  calls: have the card and the eight areas, and of a preview its work area, the lengths that the header calls for, of at most
+ *       4,096 junctions and 16,384 roads?
+ *   10  set, preview: is the road below m?
+ *   11  set, preview: is the time from the road's base time to 1,000,000, or closed?
+ *   12  aim, estimate, go, preview: is the junction below n?
+ *   13  estimate, go, preview: is there a target?
  *   14  go: have route and log at least n words?
  *   15  go: does a chain of open roads exist? If not: with the count; log, elapsed and estimates as the search leaves them.
- * All but 8 and 15 leave every area as it was, and a refused call leaves the header as it was.
+ * All but 8 and 15 leave every area as it was, lent ones too, and a refused call leaves the header as it was.
  */
 #ifndef ROUTE_UNIT_H
 #define ROUTE_UNIT_H
@@ -48,8 +49,8 @@ extern "C" {
 #endif
 
 /* The marks that stand in the place of a time. */
-#define UNIT_NONE 4294967295u    /* there is no chain: pairs, down, estimates, elapsed, an estimate's answer */
-#define UNIT_CLOSED 4294967295u  /* the road is closed: live, the time of a set */
+#define UNIT_NONE 4294967295u    /* there is no chain: pairs, down, estimates, elapsed, the answers of estimate and preview */
+#define UNIT_CLOSED 4294967295u  /* the road is closed: live, the time of a set or a preview */
 #define UNIT_UNASKED 4294967294u /* not asked since the last aim: estimates */
 
 /*
@@ -66,19 +67,23 @@ typedef struct UnitHeader {
 
 /* What preparing and the calls hand back. What does not apply is 0. */
 typedef struct UnitAnswer {
-    UnitHeader header; /* for the next call */
-    uint32_t question; /* 0 if accepted, or the number of the refusal */
-    uint32_t place;    /* the road of 5, the place of 6 */
-    uint64_t total;    /* go: the total; estimate: the least base total, or UNIT_NONE */
-    uint32_t count;    /* go: how many junctions stand first in log, also with 15 */
-    uint32_t roads;    /* go: how many roads stand first in route */
+    UnitHeader header;  /* for the next call */
+    uint32_t question;  /* 0 if accepted, or the number of the refusal */
+    uint32_t place;     /* the road of 5, the place of 6 */
+    uint32_t compared;  /* preview: 1 if both totals exist, so that there is a change, else 0 */
+    uint64_t total;     /* go: the total; estimate: the least base total, or UNIT_NONE; preview: the present total, or UNIT_NONE */
+    uint32_t count;     /* go: how many junctions stand first in log, also with 15 */
+    uint32_t roads;     /* go: how many roads stand first in route */
+    uint64_t then;      /* preview: the total with the time set, or UNIT_NONE */
+    int64_t change;     /* preview: then minus total, if compared */
 } UnitAnswer;
 
 /* The layout that the archive was built for; an array of -1 elements if a compiler has another. */
 typedef char UnitHeader_is_20_bytes[sizeof(UnitHeader) == 20 && offsetof(UnitHeader, target) == 16 ? 1 : -1];
-typedef char UnitAnswer_is_48_bytes[sizeof(UnitAnswer) == 48 && offsetof(UnitAnswer, question) == 20 &&
-    offsetof(UnitAnswer, place) == 24 && offsetof(UnitAnswer, total) == 32 && offsetof(UnitAnswer, count) == 40 &&
-    offsetof(UnitAnswer, roads) == 44 ? 1 : -1];
+typedef char UnitAnswer_is_64_bytes[sizeof(UnitAnswer) == 64 && offsetof(UnitAnswer, question) == 20 &&
+    offsetof(UnitAnswer, place) == 24 && offsetof(UnitAnswer, compared) == 28 && offsetof(UnitAnswer, total) == 32 &&
+    offsetof(UnitAnswer, count) == 40 && offsetof(UnitAnswer, roads) == 44 && offsetof(UnitAnswer, then) == 48 &&
+    offsetof(UnitAnswer, change) == 56 ? 1 : -1];
 
 /*
  * Reads a card: questions 1 to 6. Returns 0 and writes n and m to *first and *second; or returns the refusal and writes
@@ -106,7 +111,7 @@ UnitAnswer unit_prepare(const uint8_t *card, size_t card_len, uint32_t *ranks, s
     uint32_t *leaving, size_t leaving_len, uint32_t *groups, size_t groups_len);
 
 /*
- * The four calls. They are handed the header that the last call handed back and the card and the eight areas it belongs to; none
+ * The five calls. They are handed the header that the last call handed back and the card and the eight areas it belongs to; none
  * writes ranks, pairs, leaving or groups. Where question 9 passes but these are not what a list of calls has left together, the
  * answer is free, 9 included.
  */
@@ -141,19 +146,33 @@ UnitAnswer unit_go(UnitHeader header, const uint8_t *card, size_t card_len, cons
     uint32_t *route, size_t route_len, uint32_t *log, size_t log_len, uint32_t start);
 
 /*
+ * What if that road took longer, or less, or were closed or open: the total of a go from the start now, and with that time set.
+ * Questions 9 (work has just 2 n words), 10, 11 (by the road's base time, as set asks it), 12, 13; that there is no chain is an answer:
+ * UNIT_NONE in the place of that total, with compared and change 0. Sets nothing. Writes estimates, those that a go from the start
+ * fills now and those that it fills with that time set; and work, whose words before do not matter and after an acceptance are any.
+ */
+UnitAnswer unit_preview(UnitHeader header, const uint8_t *card, size_t card_len, const uint32_t *ranks, size_t ranks_len,
+    const uint32_t *pairs, size_t pairs_len, const uint32_t *live, size_t live_len, const uint32_t *down, size_t down_len,
+    uint32_t *estimates, size_t estimates_len, const uint32_t *elapsed, size_t elapsed_len,
+    const uint32_t *leaving, size_t leaving_len, const uint32_t *groups, size_t groups_len,
+    uint32_t *work, size_t work_len, uint32_t road, uint32_t time, uint32_t start);
+
+/*
  * Prepares a card and makes a list of calls. A call in script is its kind and as many words as that call has: 0, road, time for set;
- * 1, junction for aim; 2, junction for estimate; 3, start, entries of route, entries of log for go. A go is lent the first so many
- * entries of route and log, or all of them where there are fewer; what lies behind them is as it was. The script ends with its last
- * word, at any other kind, or at a call that is cut short: no call from there on is made. The answer is four words of out: the
- * refusal or 0; estimate or total; count; number of roads. No more calls are made than there are four words in out; the rest of out is
- * as it was. What is handed back is preparing's answer, with the header after the last call. After a refused preparing the calls are
+ * 1, junction for aim; 2, junction for estimate; 3, start, entries of route, entries of log for go; 4, road, time, start for preview. A
+ * go is lent the first so many entries of route and log, or all of them where there are fewer; what lies behind them is as it was. A
+ * preview is lent all of work. The script ends with its last word, at any other kind, or at a call that is cut short: no call from
+ * there on is made. The answer is four words of out: the refusal or 0; estimate or total; count; number of roads; of a preview 0, its
+ * two totals, and its change as a two's complement of 64 bits. No more calls are made than there are four words in out; the rest of out
+ * is as it was. What is handed back is preparing's answer, with the header after the last call. After a refused preparing the calls are
  * made all the same, on its header of zeros.
  */
 UnitAnswer unit_replay(const uint8_t *card, size_t card_len, uint32_t *ranks, size_t ranks_len,
     uint32_t *pairs, size_t pairs_len, uint32_t *live, size_t live_len, uint32_t *down, size_t down_len,
     uint32_t *estimates, size_t estimates_len, uint32_t *elapsed, size_t elapsed_len,
     uint32_t *leaving, size_t leaving_len, uint32_t *groups, size_t groups_len, uint32_t *route, size_t route_len,
-    uint32_t *log, size_t log_len, const uint32_t *script, size_t script_len, uint64_t *out, size_t out_len);
+    uint32_t *log, size_t log_len, uint32_t *work, size_t work_len, const uint32_t *script, size_t script_len,
+    uint64_t *out, size_t out_len);
 
 #ifdef __cplusplus
 }

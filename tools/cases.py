@@ -36,7 +36,7 @@ def use(module, names):
 
 REFUSALS = ["Short", "Kinds", "Starts", "Sizes", "Road", "Place", "AreaLengths", "Room", "Lengths",
             "NoRoad", "NotAllowed", "NoJunction", "NoTarget", "LentLengths", "NoPath"]
-CALLS = {"set": "setCall", "aim": "aimCall", "est": "estimateCall"}
+CALLS = {"set": "setCall", "aim": "aimCall", "est": "estimateCall", "preview": "previewCall"}
 
 
 def number(word):
@@ -65,6 +65,15 @@ def road_rows(roads):
 
 def refusal_text(refusal):
     return applied(REFUSALS[refusal[0] - 1], *refusal[1:])
+
+
+def total_text(total):
+    return "none" if total is None else f"some {total}"
+
+
+def change_text(change):
+    """A change of so many seconds, or that there is none."""
+    return "none" if change is None else f"less {-change}" if change < 0 else f"more {change}"
 
 
 def call_text(call):
@@ -114,6 +123,9 @@ def turn_text(turn):
         return says(turn, f"{applied(kind, place)} {down}", place, down=areas.down, estimates=[UNASKED] * len(areas.down))
     if kind == "est":
         return says(turn, f"{applied(kind, place, answer[1])} {estimates}", estimates=areas.estimates)
+    if kind == "preview":
+        totals = " ".join(argument(total_text(total)) for total in answer[1:3])
+        return says(turn, f"{applied(kind, place, *rest[:2])} {totals} {argument(change_text(answer[3]))} {estimates}", estimates=areas.estimates)
     route, log = turn.lent[0][:answer[3] if answer[0] == "go" else 0], turn.lent[1][:answer[2]]
     assert turn.lent == (route + rest[0][len(route):], log + rest[1][len(log):])
     start = f"{place} ({applied('lent', *map(len, rest))})"
@@ -155,10 +167,11 @@ script-{index} = refl
 NOTATION = "Rattle.model_cases.specs.Notation"
 RANDOM = f"""-- Maps and calls, some made for a purpose and some random, with what the reference model answers and leaves. Made by tools/cases.py.
 use mathlib.Core.Path.{{refl}}
+use mathlib.Core.Option.{{none, some}}
 use mathlib.Core.List.{{[], _∷_}}
-use Rattle.model.specs.Types.{{LentLengths, NoJunction, NoRoad, NoTarget, NotAllowed}}
-use Rattle.model.specs.Calls.{{aimCall, estimateCall, goCall, setCall}}
-{use(NOTATION, "Holds _–_–_ aim est go lent lost no pair played set ∞ □".split())}"""
+use Rattle.model.specs.Types.{{Lengths, LentLengths, NoJunction, NoRoad, NoTarget, NotAllowed}}
+use Rattle.model.specs.Calls.{{aimCall, estimateCall, goCall, previewCall, setCall}}
+{use(NOTATION, "Holds _–_–_ aim est go lent less lost more no pair played preview set ∞ □".split())}"""
 
 
 # ---- Cards.antt: what is given, in groups with a comment each
@@ -235,8 +248,9 @@ PREPARINGS = {
     "an area before the room": [(SMALL, FITTING._replace(pairs=0, elapsed=1)), (SMALL, FITTING._replace(pairs=0, groups=2))],
     "the room": [(SMALL, FITTING._replace(pairs=0)), (MAP_P, Areas(4, 16, 5, 4, 4, 4, 5, 5))],
 }
-SETS = [("set", 0, 5), ("set", 1, 0)]
+CHANGES = [("set", 0, 5), ("set", 1, 0), ("preview", 0, 5, 0, 0), ("preview", 1, 0, 2, 0)]
 OTHERS = [("aim", 1), ("aim", 2), ("est", 0), ("go", 0, [60, 61], [80, 81, 82]), ("go", 2, [], [])]
+WORKS = [("preview", 0, 5, 0, 1), ("preview", 0, 5, 0, 3), ("preview", 1, 0, 2, 5), ("preview", 1, 0, 2, 8)]
 FORGED = [(1, 1, 1), (3, 1, 1), (2, 0, 1), (2, 2, 1), (2, 1, 2), (0, 0, 0), (2 ** 30 + 2, 1, 1), (2, 2 ** 30 + 1, 1), (2, 1, 2 ** 30 + 1)]
 UNMAPPED = Areas(0, 8, 0, 0, 0, 0, 0, 1)
 CALLINGS = {
@@ -245,7 +259,9 @@ CALLINGS = {
     "fewer pairs than the header has": [("all", (2, 1, 1), None, 48, FITTING._replace(pairs=0))],
     "forged headers": [("all", numbers, 0, 48, FITTING) for numbers in FORGED],
     "the header of a refused preparing, with areas that it calls for": [
-        ("sets", (0, 0, 0), None, 28, UNMAPPED), ("others", (0, 0, 0), None, 28, UNMAPPED)],
+        ("changes", (0, 0, 0), None, 28, UNMAPPED), ("others", (0, 0, 0), None, 28, UNMAPPED)],
+    "the same with a work area": [("works", (0, 0, 0), None, 28, UNMAPPED)],
+    "a work area of another length": [("works", (2, 1, 1), target, 48, FITTING) for target in (0, None)],
     "the same with no start of a group, and with two": [
         ("all", (0, 0, 0), None, 28, UNMAPPED._replace(groups=0)), ("all", (0, 0, 0), None, 28, UNMAPPED._replace(groups=2))],
 }
@@ -306,7 +322,7 @@ def preparing_line(given):
 def calling_line(given):
     name, numbers, target, length, lengths = given
     header, areas, questions = Header(*numbers, target), Areas(*[[7] * length for length in lengths]), set()
-    for call in {"sets": SETS, "others": OTHERS, "all": SETS + OTHERS}[name]:
+    for call in {"changes": CHANGES, "others": OTHERS, "works": WORKS, "all": CHANGES + OTHERS}[name]:
         answer, *left = model.step(bytes([7] * length), header, areas, call)
         assert answer[0] == "no" and left == [header, areas, call[2:] if call[0] == "go" else ([], [])]
         questions.add(answer[1])
@@ -362,7 +378,7 @@ use Rattle.model.specs.Bytes.{{wordAt}}
 use Rattle.model.specs.Card.{{Written, cardRefusal, readCard, sizesOk}}
 use Rattle.model.specs.Areas.{{areasOf}}
 use Rattle.model.specs.State.{{Step, inRange, question9}}
-use Rattle.model.specs.Calls.{{Call, aimCall, estimateCall, goCall, setCall}}
+use Rattle.model.specs.Calls.{{Call, aimCall, estimateCall, goCall, previewCall, setCall}}
 {use(NOTATION, CARDS_NOTATION.split())}
 -- document 01's number of each refusal
 numbers :
@@ -379,14 +395,19 @@ bytes-of = refl
 abbrev small : List ℕ
 small = {card([(0, 1, 5)], [1, 0]).text}
 
-abbrev sets : List Call
-sets = {listed(map(call_text, SETS))}
+-- calls that ask for a road
+abbrev changes : List Call
+changes = {listed(map(call_text, CHANGES))}
 
 abbrev others : List Call
 others = {listed(map(call_text, OTHERS))}
 
 abbrev all : List Call
-all = sets ++ others
+all = changes ++ others
+
+-- previews with a work area that fits neither of the headers below
+abbrev works : List Call
+works = {listed(map(call_text, WORKS))}
 """
 
 

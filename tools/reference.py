@@ -1,9 +1,10 @@
-"""Document 01, with A1 of document 02, as a plain model: the card, preparing, the four calls and the machine to compare with.
+"""Document 01, with A1 and A2 of document 02, as a plain model: the card, preparing, the five calls and the machine to compare with.
 
 It is written from the paper alone and shares nothing with the definitions of crates/model. Each least total comes from
 one function, which relaxes arcs until nothing changes; candidates, fillings and routes are read off the paper's sentences.
 A refusal is a tuple: the question's number and, after 5, 6 and 15, the place or count. A call is ("set", road, time),
-("aim", junction), ("est", junction) or ("go", start, route area, log area).
+("aim", junction), ("est", junction), ("go", start, route area, log area) or ("preview", road, time, start, words of its
+work area). A preview's totals and change are numbers, or None.
 """
 import math
 from collections import namedtuple
@@ -146,6 +147,14 @@ def search(arcs, estimate, start, target):
     return times, choices
 
 
+def searched(chart, live, start, target):
+    """The open roads, the logged junctions' times, and the junctions that the search asks for an estimate: the start, and the heads
+    of open roads from logged ones other than the target."""
+    arcs = chart.open_roads(live)
+    times = search(arcs, least_totals(chart.roads, target), start, target)[0]
+    return arcs, times, [start, *[head for tail, head, *_ in arcs if tail in times and tail != target]]
+
+
 def route_back(arcs, times, target):
     """Into each junction the smallest-numbered open road from an earlier logged one that gives its time."""
     log, route, at = list(times), [], target
@@ -159,13 +168,27 @@ def route_back(arcs, times, target):
 
 # ---- the plain machine
 
+def time_refusal(base, road, time):
+    """Questions 10 and 11."""
+    if road >= len(base):
+        return (10,)
+    return None if time == CLOSED or base[road] <= time <= SLOWEST else (11,)
+
+
+def work_right(n, call):
+    """Question 9 of a preview's work area: twice elapsed's entries."""
+    return call[0] != "preview" or call[4] == 2 * n
+
+
 def call_refusal(n, base, target, call):
-    """Questions 10 to 14."""
+    """Questions 10 to 14, and 9 of a work area."""
     kind, place = call[:2]
+    if not work_right(n, call):
+        return (9,)
     if kind == "set":
-        if place >= len(base):
-            return (10,)
-        return None if call[2] == CLOSED or base[place] <= call[2] <= SLOWEST else (11,)
+        return time_refusal(base, place, call[2])
+    if kind == "preview":
+        return time_refusal(base, place, call[2]) or call_refusal(n, base, target, ("est", call[3]))
     if place >= n:
         return (12,)
     if kind != "aim" and target is None:
@@ -175,8 +198,17 @@ def call_refusal(n, base, target, call):
     return None
 
 
+def replaced(live, road, time):
+    return live[:road] + [time] + live[road + 1:]
+
+
+def preview_answer(present, new):
+    """Both totals and, where both exist, the new one less the present one."""
+    return "preview", present, new, None if present is None or new is None else new - present
+
+
 class Machine:
-    """It has live times and a target of its own, and is fed the map, the calls and the lengths of go's two areas."""
+    """It has live times and a target of its own, and is fed the map, the calls and the lengths of what is lent with them."""
 
     def __init__(self, chart):
         self.chart, self.live, self.target = chart, list(chart.base), None
@@ -193,6 +225,9 @@ class Machine:
         if kind == "aim":
             self.target = place
             return ("ok",), [], []
+        if kind == "preview":
+            return preview_answer(*[least_totals(chart.open_roads(live), self.target).get(call[3])
+                                    for live in (self.live, replaced(self.live, place, call[2]))]), [], []
         estimate = least_totals(chart.roads, self.target)
         if kind == "est":
             return ("est", estimate.get(place, NONE)), [], []
@@ -269,24 +304,27 @@ def step(card, header, areas, call):
     """The answer, the header, the areas, and go's two areas (empty for another call)."""
     kind, place = call[:2]
     lent = call[2:] if kind == "go" else ([], [])
-    if not all_lengths_right([*map(len, areas)], len(card), *header[:3]):
+    if not all_lengths_right([*map(len, areas)], len(card), *header[:3]) or not work_right(header.n, call):
         return ("no", 9), header, areas, lent
     chart, target = Map(card) if header.n else None, header.target  # no map after a refused preparing
     refusal = call_refusal(header.n, chart.base if chart else [], target, call)
     if refusal:
         return ("no", *refusal), header, areas, lent
     if kind == "set":
-        return ("ok",), header, areas._replace(live=areas.live[:place] + [call[2]] + areas.live[place + 1:]), lent
+        return ("ok",), header, areas._replace(live=replaced(areas.live, place, call[2])), lent
     if kind == "aim":
         areas = areas._replace(down=down_totals(chart, header, areas, place), estimates=[UNASKED] * header.n)
         return ("ok",), header._replace(target=place), areas, lent
     if kind == "est":
         areas = areas._replace(estimates=filled(chart, header, areas, [place]))
         return ("est", areas.estimates[place]), header, areas, lent
-    arcs = chart.open_roads(areas.live)
-    times = search(arcs, least_totals(chart.roads, target), place, target)[0]
-    heads = [head for tail, head, *_ in arcs if tail in times and tail != target]
-    areas = areas._replace(estimates=filled(chart, header, areas, [place, *heads]),
+    if kind == "preview":
+        both = [searched(chart, live, call[3], target) for live in (areas.live, replaced(areas.live, place, call[2]))]
+        asked = [junction for _, _, some in both for junction in some]
+        areas = areas._replace(estimates=filled(chart, header, areas, asked))
+        return preview_answer(*[times.get(target) for _, times, _ in both]), header, areas, lent
+    arcs, times, asked = searched(chart, areas.live, place, target)
+    areas = areas._replace(estimates=filled(chart, header, areas, asked),
                            elapsed=[times.get(junction, NONE) for junction in range(header.n)])
     log = list(times) + lent[1][len(times):]
     if target not in times:

@@ -204,7 +204,7 @@ UNREADABLE = [
     "Aim 3", "AIM 3", "aIm 3", "Est 0", "Go 0", "Set 1 20", "estimate 0", "ai 3", "aimm 3", "im 3", "a 3", "gone 0", "g 0", "goo 0", "sets 1 20", "se 1 20", "est0", "go0", "set1 20", "set 1,20",
     "aim /", "aim :", "aim 3/", "aim 3:", "aim 0/3", "ok", "no", "no 0", "none", "est none", "quit", "help", "exit", "aim three", "go 0 1", "est 0 0", "set 1 closed", "set closed",
     "\u00e9", "aim \u0663", "aim \uff13", "\u00a0aim 3", "aim\u00a03", "\x7f", "\x1b[A", "\ufeffaim 3", "-", "aim -1", "go -0", "set -1 20", "set 1 -20", "set 1 +20",
-    "set 1 4294967296", "set 99 4294967296", "set 4294967296 20", "set 000000000000000000001 20", "set 1 000000000000000000020",
+    "set 1 4294967296", "set 99 4294967296", "set 4294967296 20", "set 000000000000000000001 20", "set 1 000000000000000000020", "preview 1 15 0", "preview 0",
 ]
 LONGEST = "set 00000000000000000001 00000000000000000020"  # 45 bytes, readable
 

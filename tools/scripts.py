@@ -1,10 +1,10 @@
-"""Scripts for the four calls: maps with lists of calls, random and made for a purpose, chosen so that each kind of case occurs."""
+"""Scripts for the five calls: maps with lists of calls, random and made for a purpose, chosen so that each kind of case occurs."""
 from collections import Counter, namedtuple
 
 import reference as model
 from reference import CLOSED, NONE, SLOWEST, UNASKED, Areas
 
-POOL, TURNS = 400, 40  # random scripts to choose from, and how many turns each has at first
+POOL, TURNS = 800, 40  # random scripts to choose from, and how many turns each has at first
 
 
 # ---- scripts: a map, the room for pairs, and turns
@@ -90,12 +90,15 @@ def random_script(seed):
 
 def random_call(dice, script):
     n, m, live, base = script.header.n, script.header.m, script.areas.live, script.chart.base
-    kind = dice.pick("set", "set", "set", "aim", "est", "go", "go", "go", "go")
+    kind = dice.pick("set", "set", "set", "aim", "est", "go", "go", "go", "go", "preview", "preview", "preview")
     junction = dice.below(n) if dice.below(20) else dice.pick(n, UNASKED)
-    if kind == "set":
+    if kind in ("set", "preview"):
         road = dice.pick(*[road for road in range(m) if live[road] != base[road]] or range(m), *range(m), m, NONE)
         slow = base[road] if road < m else SLOWEST
-        return kind, road, dice.pick(slow, slow, slow, slow + 1, slow + 1, slow + 2, CLOSED, CLOSED, SLOWEST, slow - 1, SLOWEST + 1, UNASKED)
+        time = dice.pick(slow, slow, slow, slow + 1, slow + 1, slow + 2, CLOSED, CLOSED, SLOWEST, slow - 1, SLOWEST + 1, UNASKED)
+        if kind == "set":
+            return kind, road, time
+        return kind, road, time, junction, 2 * n if dice.below(12) else dice.pick(0, n, 2 * n - 1, 2 * n + 1)
     if kind == "go":
         return kind, junction, *[n + dice.pick(0, 0, 1, 2) - (dice.below(20) == 0) for _ in range(2)]
     if kind == "aim" and script.header.target is not None and dice.below(4) == 0:
@@ -114,6 +117,14 @@ def chosen_scripts():
         Script("road 0, from 2 to 1, gives the time of 1, but 2 is logged after 1", [(2, 1, 1), (0, 1, 2), (0, 2, 1), (1, 3, 1)], [3, 1, 0, 2], 0,
                ("est", 0), ("go", 4, 4, 4), ("go", 0, 0, 0), ("est", 4), ("aim", 3), ("go", 0, 4, 5), ("set", 0, 2), ("go", 0, 5, 4),
                ("set", 0, 1), ("go", 2, 4, 4), ("aim", 4), ("set", 4, 0)),
+        Script("map P of document 01, and previews on it", *MAP_P, 0,
+               ("preview", 1, 15, 0, 8), ("aim", 3), ("go", 0, 4, 4), ("preview", 1, 15, 0, 8), ("preview", 4, 30, 0, 8), ("set", 1, CLOSED),
+               ("preview", 1, 10, 0, 8), ("preview", 2, CLOSED, 0, 8), ("set", 2, CLOSED), ("preview", 2, 15, 0, 8), ("preview", 2, CLOSED, 3, 8),
+               ("preview", 5, 9, 4, 7), ("preview", 5, 9, 4, 8), ("preview", 1, 9, 4, 8), ("preview", 1, 10, 4, 8)),
+        Script("previews of which one search alone asks for junction 3", [(0, 1, 1), (0, 2, 1), (2, 3, 1), (3, 1, 1)], [3, 0, 1, 2], 0,
+               ("aim", 1), ("preview", 3, CLOSED, 0, 8), ("preview", 0, 9, 0, 8), ("set", 0, CLOSED), ("aim", 1), ("preview", 0, 1, 0, 8), ("aim", 1),
+               ("set", 3, CLOSED), ("preview", 2, CLOSED, 0, 8), ("set", 2, CLOSED), ("aim", 1), ("preview", 2, CLOSED, 0, 8), ("preview", 2, 1, 0, 8),
+               ("aim", 1), ("preview", 2, 3, 0, 8)),
     ]
     pool, chosen = [random_script(seed) for seed in range(POOL)], []
     while seldom := too_seldom(made + chosen):
@@ -131,10 +142,13 @@ def chosen_scripts():
     return made + chosen
 
 
+MAP_P = [(0, 1, 10), (1, 3, 10), (0, 2, 15), (2, 3, 10), (3, 0, 20)], [1, 2, 0, 3]
+
+
 # ---- kinds of maps and calls, each with whether it occurs here
 
 # How often a kind must occur at least, by its name or its first word; others four times.
-MINIMA = {"map": 3, "map of one junction": 1, "map without roads": 2, "room": 1, "go": 5, "go that finds a route": 50}
+MINIMA = {"map": 3, "map of one junction": 1, "map without roads": 2, "room": 1, "go": 5, "go that finds a route": 50, "preview": 3}
 
 
 def minimum(kind):
@@ -304,4 +318,55 @@ def route_kinds(script, arcs, times, route):
     return kinds
 
 
-KINDS = {"set": set_kinds, "aim": aim_kinds, "est": est_kinds, "go": go_kinds}
+def preview_kinds(script, turn, no):
+    (road, time, start, work), (n, m, _, target) = turn.call[1:], script.header
+    base, live = (script.chart.base[road], script.areas.live[road]) if road < m else (SLOWEST, CLOSED)
+    kinds = {
+        "preview: 9 by a short work area": no == 9 and work < 2 * n,
+        "preview: 9 by a long work area": no == 9 and work > 2 * n,
+        "preview: 9 where 10 or 11 would refuse too": no == 9 and model.time_refusal(script.chart.base, road, time),
+        "preview: 10": no == 10,
+        "preview: 10 where 12 would refuse too": no == 10 and start >= n,
+        "preview: 11": no == 11,
+        "preview: 11 where 12 would refuse too": no == 11 and start >= n,
+        "preview: 11 below the base time of a delayed road": no == 11 and time < base < live < CLOSED,
+        "preview: 12": no == 12,
+        "preview: 12 where there is no target either": no == 12 and target is None,
+        "preview: 13": no == 13,
+        "preview that finds a chain both ways": not no and turn.answer[3] is not None,
+    }
+    return kinds if no else kinds | outlook_kinds(script, turn, base, live)
+
+
+def outlook_kinds(script, turn, base, live):
+    (road, time, start, _), (_, present, new, change) = turn.call[1:], turn.answer
+    before, after, target = script.areas, turn.areas.estimates, script.header.target
+    fills = []
+    for times in (before.live, model.replaced(before.live, road, time)):
+        asked = model.searched(script.chart, times, start, target)[2]
+        estimates = model.filled(script.chart, script.header, before, asked)
+        fills.append({junction for junction, old in enumerate(before.estimates) if estimates[junction] != old})
+    return {
+        "preview of more": change and change > 0,
+        "preview of less": change and change < 0,
+        "preview of as much": change == 0 and time != live,
+        "preview of about 1,000,000 more or less": change and abs(change) >= SLOWEST - 5,
+        "preview at the present time": time == live and present is not None,
+        "preview with a chain now alone": present is not None and new is None,
+        "preview with a chain then alone": present is None and new is not None,
+        "preview without a chain": present is None and new is None,
+        "preview from the target": start == target,
+        "preview that would open a road": time < live == CLOSED,
+        "preview that would close a road": live < time == CLOSED,
+        "preview of a time below the live one": time < live < CLOSED,
+        "preview whose first search alone fills some": fills[0] - fills[1],
+        "preview whose second search alone fills some": fills[1] - fills[0],
+        "preview whose second search fills some, the first without a chain": present is None and fills[1] - fills[0],
+        "preview whose searches both fill some": fills[0] & fills[1],
+        "preview that meets estimates filled": any(word != UNASKED for word in before.estimates),
+        "preview that leaves estimates unasked": UNASKED in after,
+        "preview where elapsed has times": set(before.elapsed) - {NONE},
+    }
+
+
+KINDS = {"set": set_kinds, "aim": aim_kinds, "est": est_kinds, "go": go_kinds, "preview": preview_kinds}

@@ -1,13 +1,16 @@
-//! Aim, estimate and set in plain Rust over the unit's areas, and nothing else: records of four words in one
-//! slice, with no place for where each rank's begin. Each is a function with the arguments, the answer and the
-//! questions of its export: a header by value that is handed back, and nine slices.
+//! Aim, estimate, set and preview in plain Rust over the unit's areas, and nothing else: records of four words
+//! in one slice, with no place for where each rank's begin. Each is a function with the arguments, the answer
+//! and the questions of its export: a header by value that is handed back, and nine slices, of a preview its
+//! work area too.
 #![allow(improper_ctypes_definitions, clippy::too_many_arguments)]
 
-use crate::calls::Refusal;
+use crate::calls::{Previewed, Refusal};
 use crate::card::{self, LONGEST, MOST_JUNCTIONS, MOST_ROADS};
 use crate::order::MOST_PAIRS;
 use crate::time::{add, Time, CLOSED, NONE, UNASKED};
 use crate::unit::{Header, Returned, Unit};
+use std::cmp::Reverse;
+use std::collections::BinaryHeap;
 
 /// Lends a unit's areas to a function.
 macro_rules! lend {
@@ -30,6 +33,17 @@ pub fn estimate(unit: &mut Unit, junction: u32) -> Result<Time, Refusal> {
 
 pub fn set(unit: &mut Unit, road: u32, time: Time) -> Result<(), Refusal> {
     lend!(set_on(unit, &mut unit.live, &unit.down, &unit.estimates, road, time))?.done()
+}
+
+pub fn preview(
+    unit: &mut Unit,
+    road: u32,
+    time: Time,
+    start: u32,
+    work: &mut [Time],
+) -> Result<Previewed, Refusal> {
+    let (live, down) = (&unit.live, &unit.down);
+    lend!(preview_on(unit, live, down, &mut unit.estimates, work, road, time, start))?.previewed()
 }
 
 fn answer(header: Header, question: u32) -> Returned {
@@ -185,16 +199,122 @@ extern "C" fn set_on(
     if !fits(header, card, pairs, of_n, of_m, groups) {
         return answer(header, 9);
     }
-    if road >= header.m {
-        return answer(header, 10);
-    }
-    let words = card[card::len(0, 0)..].as_chunks().0;
-    let base = u32::from_le_bytes(words[3 * road as usize + 2]);
-    if time != CLOSED && !(base..=LONGEST).contains(&time) {
-        return answer(header, 11);
+    if let Some(question) = refused_time(header, card, road, time) {
+        return answer(header, question);
     }
     live[road as usize] = time;
     answer(header, 0)
+}
+
+/// Questions 10 and 11.
+fn refused_time(header: Header, card: &[u8], road: u32, time: Time) -> Option<u32> {
+    if road >= header.m {
+        return Some(10);
+    }
+    let base = u32::from_le_bytes(roads(card)[road as usize][2]);
+    (time != CLOSED && !(base..=LONGEST).contains(&time)).then_some(11)
+}
+
+/// The roads of a card, and what follows them: tail, head and base time.
+fn roads(card: &[u8]) -> &[[[u8; 4]; 3]] {
+    card[card::len(0, 0)..].as_chunks().0.as_chunks().0
+}
+
+#[inline(never)]
+extern "C" fn preview_on(
+    header: Header,
+    card: &[u8],
+    ranks: &[u32],
+    pairs: &[u32],
+    live: &[Time],
+    down: &[Time],
+    estimates: &mut [Time],
+    elapsed: &[Time],
+    leaving: &[u32],
+    groups: &[u32],
+    work: &mut [Time],
+    road: u32,
+    time: Time,
+    start: u32,
+) -> Returned {
+    let (of_n, of_m) = ([ranks, down, estimates, elapsed], [live, leaving]);
+    let fits = fits(header, card, pairs, of_n, of_m, groups);
+    if !fits || work.len() != 2 * header.n as usize {
+        return answer(header, 9);
+    }
+    if let Some(question) = refused_time(header, card, road, time) {
+        return answer(header, question);
+    }
+    if start >= header.n {
+        return answer(header, 12);
+    }
+    if header.aimed == 0 {
+        return answer(header, 13);
+    }
+    let (order, records) = (order(card, header), records(pairs, header));
+    let prepared = Prepared { order, ranks, records, down };
+    let ways = Ways { prepared, roads: roads(card), live, leaving, groups, target: header.target };
+    let [total, then] = [live[road as usize], time]
+        .map(|time| u64::from(ways.total(estimates, work, start, road, time)));
+    let compared = total != NONE.into() && then != NONE.into();
+    let change = if compared { then as i64 - total as i64 } else { 0 };
+    Returned { total, then, compared: compared.into(), change, ..answer(header, 0) }
+}
+
+/// What a search reads.
+struct Ways<'a> {
+    prepared: Prepared<'a>,
+    roads: &'a [[[u8; 4]; 3]],
+    live: &'a [Time],
+    leaving: &'a [u32],
+    groups: &'a [u32],
+    target: u32,
+}
+
+impl Ways<'_> {
+    /// The total of a go with a road's time replaced, or none. The work area has the candidates' times, then
+    /// those of the logged junctions.
+    fn total(
+        &self,
+        estimates: &mut [Time],
+        work: &mut [Time],
+        start: u32,
+        changed: u32,
+        time: Time,
+    ) -> Time {
+        work.fill(NONE);
+        let (times, logged) = work.split_at_mut(work.len() / 2);
+        let mut queue = BinaryHeap::new();
+        let ahead = self.prepared.estimate(estimates, start as usize);
+        if ahead != NONE {
+            times[start as usize] = 0;
+            queue.push(Reverse((u64::from(ahead), start)));
+        }
+        while let Some(Reverse((_, junction))) = queue.pop() {
+            let at = junction as usize;
+            if logged[at] != NONE {
+                continue;
+            }
+            logged[at] = times[at];
+            if junction == self.target {
+                break;
+            }
+            for &road in &self.leaving[self.groups[at] as usize..self.groups[at + 1] as usize] {
+                let live = if road == changed { time } else { self.live[road as usize] };
+                if live == CLOSED {
+                    continue;
+                }
+                let head = u32::from_le_bytes(self.roads[road as usize][1]);
+                let ahead = self.prepared.estimate(estimates, head as usize);
+                let sum = logged[at] + live;
+                if ahead != NONE && sum < times[head as usize] {
+                    times[head as usize] = sum;
+                    queue.push(Reverse((u64::from(sum) + u64::from(ahead), head)));
+                }
+            }
+        }
+        logged[self.target as usize]
+    }
 }
 
 #[cfg(test)]
@@ -229,6 +349,16 @@ mod tests {
                 }
                 assert_eq!(unit.estimate(asked), estimate(&mut plain, asked));
                 assert_eq!(unit.set(road, time), set(&mut plain, road, time));
+                let mut work = vec![NONE; (2 * map.n()).saturating_sub(random.below(8) / 7)];
+                assert_eq!(
+                    unit.preview(road, time, asked, &mut work.clone()),
+                    preview(&mut plain, road, time, asked, &mut work)
+                );
+                let road = random.below(map.m() + 1) as u32;
+                assert_eq!(
+                    unit.preview(road, CLOSED, asked, &mut work.clone()),
+                    preview(&mut plain, road, CLOSED, asked, &mut work)
+                );
                 assert!(unit == plain, "the areas differ");
             }
         }

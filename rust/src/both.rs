@@ -8,7 +8,7 @@ use crate::machine::Reply;
 use crate::maps::Map;
 use crate::random::setting;
 use crate::router::Router;
-use crate::unit::{lent_areas, Area, Header, Unit};
+use crate::unit::{Area, Header, LentAreas, Unit};
 use std::panic::resume_unwind;
 use std::sync::mpsc::{self, RecvTimeoutError};
 use std::thread;
@@ -59,18 +59,22 @@ impl Both {
 
     /// Makes a call on both, which answer and leave the same.
     pub fn call(&mut self, call: Call) -> Reply {
-        let (mut route, mut log) = lent_areas(call);
-        let (mut plain_route, mut plain_log) = (route.clone(), log.clone());
-        let answer = self.unit.call(call, &mut route, &mut log);
-        let want = self.router.call(call, &mut plain_route, &mut plain_log);
+        let mut lent = LentAreas::of(call);
+        let mut plain = lent.clone();
+        let answer = self.unit.call(call, lent.lend());
+        let want = self.router.call(call, plain.lend());
         assert_eq!(answer, want, "{call:?}: proved (left), plain (right)");
-        // The plain one writes the route and the log and nothing else.
-        same("the route area", &route, &plain_route);
-        same("the log area", &log, &plain_log);
-        assert!(route.guarded() && log.guarded(), "no call alters guard words");
+        // The plain one writes the route and the log and nothing else; so of the work area, whose words are
+        // free after a preview that is accepted, it says what a refusal leaves.
+        same("the route area", &lent.route, &plain.route);
+        same("the log area", &lent.log, &plain.log);
+        if answer.is_err() {
+            same("the work area", &lent.work, &plain.work);
+        }
+        assert!(lent.guarded(), "no call alters guard words");
         self.check();
         let (roads, count) = lengths(answer);
-        Reply { answer, route: route[..roads].to_vec(), log: log[..count].to_vec() }
+        Reply { answer, route: lent.route[..roads].to_vec(), log: lent.log[..count].to_vec() }
     }
 
     /// Header, areas and card are as they are to be.

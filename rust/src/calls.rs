@@ -1,4 +1,4 @@
-//! The calls of the unit and what they answer, in document 01's terms.
+//! The calls of the unit and what they answer, in the terms of documents 01 and 02.
 
 use crate::time::Time;
 
@@ -21,7 +21,7 @@ pub enum Refusal {
     AreaLengths,
     /// 8: the kept pairs do not fit.
     Room,
-    /// 9: the card or an area has another length than the header calls for.
+    /// 9: the card, an area or preview's work area has another length than the header calls for.
     Lengths,
     /// 10: the road is not below m.
     NoRoad,
@@ -78,6 +78,27 @@ pub struct Trip {
     pub roads: u32,
 }
 
+/// Preview's answer: go's total now and with the time set. Where both exist, the change is the new one less
+/// the present one.
+#[derive(Clone, Copy, Debug, PartialEq, Eq)]
+pub struct Previewed {
+    pub present: Option<u64>,
+    pub new: Option<u64>,
+    pub change: Option<i64>,
+}
+
+impl Previewed {
+    /// Two totals and their change.
+    pub fn of(present: Option<Time>, new: Option<Time>) -> Previewed {
+        let change = |(new, present): (Time, Time)| i64::from(new) - i64::from(present);
+        Previewed {
+            present: present.map(u64::from),
+            new: new.map(u64::from),
+            change: new.zip(present).map(change),
+        }
+    }
+}
+
 /// A call with its arguments.
 #[derive(Clone, Copy, Debug, PartialEq, Eq)]
 pub enum Call {
@@ -97,6 +118,21 @@ pub enum Call {
         route: usize,
         log: usize,
     },
+    /// With the length of the work area that is lent.
+    Preview {
+        road: u32,
+        time: Time,
+        start: u32,
+        work: usize,
+    },
+}
+
+/// What is lent with a call beside the unit's areas: go's route and log, and preview's work area. What a
+/// call does not take may have any length.
+pub struct Lent<'a> {
+    pub route: &'a mut [u32],
+    pub log: &'a mut [u32],
+    pub work: &'a mut [u32],
 }
 
 /// What an accepted call answers.
@@ -106,6 +142,7 @@ pub enum Accepted {
     Done,
     Estimate(Time),
     Trip(Trip),
+    Previewed(Previewed),
 }
 
 pub type Answer = Result<Accepted, Refusal>;
@@ -116,14 +153,24 @@ pub trait Calls {
     fn aim(&mut self, junction: u32) -> Result<(), Refusal>;
     fn estimate(&mut self, junction: u32) -> Result<Time, Refusal>;
     fn go(&mut self, start: u32, route: &mut [u32], log: &mut [u32]) -> Result<Trip, Refusal>;
+    fn preview(
+        &mut self,
+        road: u32,
+        time: Time,
+        start: u32,
+        work: &mut [u32],
+    ) -> Result<Previewed, Refusal>;
 
-    /// Makes a call. A go is lent the two areas, which have the lengths that it says.
-    fn call(&mut self, call: Call, route: &mut [u32], log: &mut [u32]) -> Answer {
+    /// Makes a call. What is lent has the lengths that the call says.
+    fn call(&mut self, call: Call, Lent { route, log, work }: Lent) -> Answer {
         match call {
             Call::Set { road, time } => self.set(road, time).map(|()| Accepted::Done),
             Call::Aim { junction } => self.aim(junction).map(|()| Accepted::Done),
             Call::Estimate { junction } => self.estimate(junction).map(Accepted::Estimate),
             Call::Go { start, .. } => self.go(start, route, log).map(Accepted::Trip),
+            Call::Preview { road, time, start, .. } => {
+                self.preview(road, time, start, work).map(Accepted::Previewed)
+            }
         }
     }
 }

@@ -1,7 +1,7 @@
 //! The proved unit beside independent implementations of documents 01 and 02 in plain Rust.
 //!
 //! `unit` calls the archive that `rt staticlib unit_c` builds. `card`, `hierarchy`, `by_tail`, `search`,
-//! `dijkstra` and `machine` are written from the documents alone; `router` puts them together to the unit as
+//! `dijkstra`, `brute` and `machine` are written from the documents alone; `router` puts them together to the unit as
 //! one would write it in plain Rust, `both` has the two side by side, and `areas` has some steps in plain Rust
 //! over the unit's own areas. `maps`, `order`, `traffic` and
 //! `damage` make what they are tried on, by fixed seeds. From the repository's root:
@@ -14,8 +14,7 @@
 
 pub mod areas;
 pub mod both;
-#[cfg(test)]
-mod brute;
+pub mod brute;
 pub mod by_tail;
 pub mod calls;
 pub mod card;

@@ -1,7 +1,7 @@
 //! The plain machine that document 01 compares the unit with: a live time of its own for each road, and
-//! a target. It is fed the map, each call's arguments and the lengths of go's two areas.
+//! a target. It is fed the map, each call's arguments and the lengths of what is lent with it.
 
-use crate::calls::{Accepted, Answer, Call, Refusal, Trip};
+use crate::calls::{Accepted, Answer, Call, Previewed, Refusal, Trip};
 use crate::card::LONGEST;
 use crate::dijkstra;
 use crate::graph::Graph;
@@ -38,11 +38,21 @@ impl Machine<'_> {
                 Ok(target) => return self.go(start, target),
                 Err(refusal) => Err(refusal),
             },
+            Call::Preview { road, time, start, work } => {
+                self.preview(road, time, start, work).map(Accepted::Previewed)
+            }
         };
         Reply { answer, route: Vec::new(), log: Vec::new() }
     }
 
     fn set(&mut self, road: u32, time: Time) -> Result<(), Refusal> {
+        self.ask_time(road, time)?;
+        self.live[road as usize] = time;
+        Ok(())
+    }
+
+    /// Questions 10 and 11.
+    fn ask_time(&self, road: u32, time: Time) -> Result<(), Refusal> {
         let road = road as usize;
         if road >= self.map.m() {
             return Err(Refusal::NoRoad);
@@ -50,7 +60,6 @@ impl Machine<'_> {
         if time != CLOSED && (time < self.map.roads[road].base || time > LONGEST) {
             return Err(Refusal::NotAllowed);
         }
-        self.live[road] = time;
         Ok(())
     }
 
@@ -64,6 +73,29 @@ impl Machine<'_> {
         self.ask_junction(junction)?;
         let target = self.target.ok_or(Refusal::NoTarget)?;
         Ok(self.estimates(target)[junction as usize])
+    }
+
+    /// The least totals at the times in force, and at these with one replaced.
+    fn preview(
+        &self,
+        road: u32,
+        time: Time,
+        start: u32,
+        work: usize,
+    ) -> Result<Previewed, Refusal> {
+        if work != 2 * self.map.n() {
+            return Err(Refusal::Lengths);
+        }
+        self.ask_time(road, time)?;
+        self.ask_junction(start)?;
+        let target = self.target.ok_or(Refusal::NoTarget)?;
+        let mut replaced = self.live.clone();
+        replaced[road as usize] = time;
+        let [present, new] = [&self.live, &replaced].map(|live| {
+            let total = dijkstra::between(&self.graph, live, start, target).0;
+            (total != NONE).then_some(total)
+        });
+        Ok(Previewed::of(present, new))
     }
 
     /// Question 12.
@@ -166,6 +198,7 @@ mod tests {
     use crate::maps;
     use crate::random::Random;
     use crate::router::Router;
+    use crate::unit::LentAreas;
 
     /// Cases P3 to P10, each from a machine of map P.
     #[test]
@@ -201,6 +234,30 @@ mod tests {
         assert_eq!((lost.answer, &lost.log[..]), (Err(Refusal::NoPath(2)), &[0, 1][..]));
     }
 
+    /// The previews of map P that document 02's reading has, each after some roads are closed.
+    #[test]
+    fn previews_of_map_p() {
+        let map = maps::map_p();
+        for (closed, road, time, present, new, change) in [
+            (&[][..], 1, 15, Some(20), Some(25), Some(5)),
+            (&[], 4, 30, Some(20), Some(20), Some(0)),
+            (&[1], 1, 10, Some(25), Some(20), Some(-5)),
+            (&[1], 2, CLOSED, Some(25), None, None),
+            (&[1, 2], 2, 15, None, Some(25), None),
+            (&[1, 2], 4, CLOSED, None, None, None),
+        ] {
+            let mut machine = Machine::new(&map);
+            machine.answer(Call::Aim { junction: 3 });
+            for &road in closed {
+                machine.answer(Call::Set { road, time: CLOSED });
+            }
+            let (live, target) = (machine.live.clone(), machine.target);
+            let answer = machine.answer(Call::Preview { road, time, start: 0, work: 8 }).answer;
+            assert_eq!(answer, Ok(Accepted::Previewed(Previewed { present, new, change })));
+            assert_eq!((machine.live, machine.target), (live, target));
+        }
+    }
+
     #[test]
     fn as_the_router_answers() {
         let mut random = Random::new(1);
@@ -212,21 +269,21 @@ mod tests {
             let mut router = Router::new(&map.card().unwrap(), usize::MAX).unwrap();
             for _ in 0..20 {
                 let junction = random.below(n + 1) as u32;
-                let call = match random.below(4) {
-                    0 => {
-                        let time = random.pick(&[1, 3, 12, LONGEST, LONGEST + 1, CLOSED]);
-                        Call::Set { road: random.below(map.m() + 1) as u32, time }
-                    }
+                let road = random.below(map.m() + 1) as u32;
+                let time = random.pick(&[1, 3, 12, LONGEST, LONGEST + 1, CLOSED]);
+                let less = random.below(8) / 7;
+                let call = match random.below(5) {
+                    0 => Call::Set { road, time },
                     1 => Call::Aim { junction },
                     2 => Call::Estimate { junction },
-                    _ => Call::Go { start: junction, route: n, log: n - random.below(8) / 7 },
+                    3 => Call::Preview { road, time, start: junction, work: 2 * n - less },
+                    _ => Call::Go { start: junction, route: n, log: n - less },
                 };
-                let (mut route, mut log) = (vec![NONE; n], vec![NONE; n]);
-                let log_len = if let Call::Go { log, .. } = call { log } else { n };
-                let answer = router.call(call, &mut route, &mut log[..log_len]);
+                let mut lent = LentAreas::of(call);
+                let answer = router.call(call, lent.lend());
                 let reply = machine.answer(call);
                 assert_eq!(answer, reply.answer);
-                assert!(route.starts_with(&reply.route) && log.starts_with(&reply.log));
+                assert!(lent.route.starts_with(&reply.route) && lent.log.starts_with(&reply.log));
                 *if answer.is_ok() { &mut accepted } else { &mut refused } += 1;
             }
         }

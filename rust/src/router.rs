@@ -1,12 +1,13 @@
 //! The unit as one would write it in plain Rust: the same algorithms, over structures of its own.
 
-use crate::calls::{Calls, Refusal, Trip};
+use crate::calls::{Calls, Previewed, Refusal, Trip};
 use crate::card::{self, LONGEST};
 use crate::graph::Graph;
 use crate::hierarchy::Hierarchy;
 use crate::maps::Map;
 use crate::search;
 use crate::time::{Time, CLOSED, NONE, UNASKED};
+use std::mem;
 
 #[derive(Clone, Debug)]
 pub struct Router {
@@ -45,14 +46,28 @@ impl Router {
             Err(Refusal::NoJunction)
         }
     }
+
+    /// Questions 10 and 11.
+    fn check_time(&self, road: u32, time: Time) -> Result<(), Refusal> {
+        let base = *self.base.get(road as usize).ok_or(Refusal::NoRoad)?;
+        if time == CLOSED || (base..=LONGEST).contains(&time) {
+            Ok(())
+        } else {
+            Err(Refusal::NotAllowed)
+        }
+    }
+
+    /// The total of a go at the times in force, with the estimates that it asks for.
+    fn total(&mut self, start: u32, target: u32) -> Option<Time> {
+        search::total(&self.graph, &self.live, start, target, |junction| {
+            self.hierarchy.estimate(&self.down, &mut self.estimates, junction)
+        })
+    }
 }
 
 impl Calls for Router {
     fn set(&mut self, road: u32, time: Time) -> Result<(), Refusal> {
-        let base = *self.base.get(road as usize).ok_or(Refusal::NoRoad)?;
-        if time != CLOSED && !(base..=LONGEST).contains(&time) {
-            return Err(Refusal::NotAllowed);
-        }
+        self.check_time(road, time)?;
         self.live[road as usize] = time;
         Ok(())
     }
@@ -86,5 +101,26 @@ impl Calls for Router {
         let (total, roads) = search.found.ok_or(Refusal::NoPath(count))?;
         route[..roads.len()].copy_from_slice(&roads);
         Ok(Trip { total: total.into(), count, roads: roads.len() as u32 })
+    }
+
+    /// It needs no work area, and asks for its length alone.
+    fn preview(
+        &mut self,
+        road: u32,
+        time: Time,
+        start: u32,
+        work: &mut [u32],
+    ) -> Result<Previewed, Refusal> {
+        if work.len() != 2 * self.graph.n() {
+            return Err(Refusal::Lengths);
+        }
+        self.check_time(road, time)?;
+        self.check_junction(start)?;
+        let target = self.target.ok_or(Refusal::NoTarget)?;
+        let present = self.total(start, target);
+        let old = mem::replace(&mut self.live[road as usize], time);
+        let new = self.total(start, target);
+        self.live[road as usize] = old;
+        Ok(Previewed::of(present, new))
     }
 }

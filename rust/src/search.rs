@@ -23,8 +23,34 @@ pub fn search(
     live: &[Time],
     start: u32,
     target: u32,
-    mut estimate: impl FnMut(u32) -> Time,
+    estimate: impl FnMut(u32) -> Time,
 ) -> Search {
+    let (log, elapsed) = logged(graph, live, start, target, estimate);
+    let total = elapsed[target as usize];
+    let found = (total != NONE).then(|| (total, route(graph, live, &log, &elapsed, target)));
+    Search { log, elapsed, found }
+}
+
+/// The total alone of the same search, if there is a chain.
+pub fn total(
+    graph: &Graph,
+    live: &[Time],
+    start: u32,
+    target: u32,
+    estimate: impl FnMut(u32) -> Time,
+) -> Option<Time> {
+    let total = logged(graph, live, start, target, estimate).1[target as usize];
+    (total != NONE).then_some(total)
+}
+
+/// The log, and the times of what is logged.
+fn logged(
+    graph: &Graph,
+    live: &[Time],
+    start: u32,
+    target: u32,
+    mut estimate: impl FnMut(u32) -> Time,
+) -> (Vec<u32>, Vec<Time>) {
     let mut log = Vec::new();
     let mut elapsed = vec![NONE; graph.n()];
     // Times of candidates. One is queued again whenever its time falls; the first to come up counts.
@@ -59,9 +85,7 @@ pub fn search(
             }
         }
     }
-    let total = elapsed[target as usize];
-    let found = (total != NONE).then(|| (total, route(graph, live, &log, &elapsed, target)));
-    Search { log, elapsed, found }
+    (log, elapsed)
 }
 
 /// Back from the target: into each junction, the smallest-numbered open road from an earlier logged

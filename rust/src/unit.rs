@@ -3,8 +3,8 @@
 //! The declarations stand in the order of `unit_c`'s exports. The header file for C has the same, with the same
 //! assertions on layout; `tests/c.rs` compares that one with `unit_c`.
 
-use crate::calls::{Call, Calls, Refusal, Trip};
-use crate::time::Time;
+use crate::calls::{Call, Calls, Lent, Previewed, Refusal, Trip};
+use crate::time::{Time, NONE};
 use std::mem::offset_of;
 use std::ops::{Deref, DerefMut};
 
@@ -23,26 +23,33 @@ pub struct Header {
 
 /// What preparing and the calls return. A word that has nothing to say is 0.
 #[repr(C)]
-#[derive(Clone, Copy, Debug, Default)]
+#[derive(Clone, Copy, Debug, Default, PartialEq, Eq)]
 pub(crate) struct Returned {
     pub header: Header,
     /// 0 for accepted.
     pub question: u32,
     pub place: u32,
-    /// A go's total, or an estimate.
+    /// 1 if a preview has a change.
+    pub compared: u32,
+    /// A go's total, an estimate, or a preview's present total.
     pub total: u64,
     pub count: u32,
     pub roads: u32,
+    pub then: u64,
+    pub change: i64,
 }
 
 const _: () = assert!(size_of::<Header>() == 20 && offset_of!(Header, target) == 16);
 const _: () = assert!(
-    size_of::<Returned>() == 48
+    size_of::<Returned>() == 64
         && offset_of!(Returned, question) == 20
         && offset_of!(Returned, place) == 24
+        && offset_of!(Returned, compared) == 28
         && offset_of!(Returned, total) == 32
         && offset_of!(Returned, count) == 40
         && offset_of!(Returned, roads) == 44
+        && offset_of!(Returned, then) == 48
+        && offset_of!(Returned, change) == 56
 );
 
 extern "C" {
@@ -143,6 +150,22 @@ exports! {
         log: mut u32;
         start
     );
+    fn unit_preview(
+        header;
+        card: const u8,
+        ranks: const u32,
+        pairs: const u32,
+        live: const Time,
+        down: const Time,
+        estimates: mut Time,
+        elapsed: const Time,
+        leaving: const u32,
+        groups: const u32,
+        work: mut Time;
+        road,
+        time,
+        start
+    );
     fn unit_replay(
         ;
         card: const u8,
@@ -156,6 +179,7 @@ exports! {
         groups: mut u32,
         route: mut u32,
         log: mut u32,
+        work: mut Time,
         script: const u32,
         out: mut u64;
     );
@@ -251,16 +275,38 @@ impl Area {
     }
 }
 
-/// The two areas that a call is lent to write a route and a log; empty ones if it is no go.
-pub fn lent_areas(call: Call) -> (Area, Area) {
-    match call {
-        Call::Go { route, log, .. } => (Area::new(route), Area::new(log)),
-        _ => (Area::new(0), Area::new(0)),
+/// The areas that are lent with a call.
+#[derive(Clone, Debug, PartialEq, Eq)]
+pub struct LentAreas {
+    pub route: Area,
+    pub log: Area,
+    pub work: Area,
+}
+
+impl LentAreas {
+    /// Areas that nothing was written to, of the lengths that a call says; those that it does not take are
+    /// empty.
+    pub fn of(call: Call) -> LentAreas {
+        let (route, log, work) = match call {
+            Call::Go { route, log, .. } => (route, log, 0),
+            Call::Preview { work, .. } => (0, 0, work),
+            _ => (0, 0, 0),
+        };
+        LentAreas { route: Area::new(route), log: Area::new(log), work: Area::new(work) }
+    }
+
+    pub fn lend(&mut self) -> Lent<'_> {
+        Lent { route: &mut self.route, log: &mut self.log, work: &mut self.work }
+    }
+
+    /// Are the guard words as they were?
+    pub fn guarded(&self) -> bool {
+        [&self.route, &self.log, &self.work].iter().all(|area| area.guarded())
     }
 }
 
 /// A script of calls: of each its kind, and as many words as that call has. A go's lengths are those that it
-/// asks for.
+/// asks for; a preview has none.
 pub fn spelled(calls: &[Call]) -> Vec<u32> {
     let entries = |len: usize| u32::try_from(len).expect("a length of 32 bits");
     let mut words = Vec::new();
@@ -272,6 +318,7 @@ pub fn spelled(calls: &[Call]) -> Vec<u32> {
             Call::Go { start, route, log } => {
                 words.extend([3, start, entries(route), entries(log)]);
             }
+            Call::Preview { road, time, start, .. } => words.extend([4, road, time, start]),
         }
     }
     words
@@ -384,11 +431,11 @@ impl Unit {
     }
 
     /// Prepares, and makes the calls of a script, as [`spelled`] has them; a go is lent the first entries of
-    /// route and log, as many as its last two words say, or all. The answers go to `out`, four words each.
+    /// route and log, as many as its last two words say, or all, and a preview all of the work area. The
+    /// answers go to `out`, four words each.
     pub fn replay(
         &mut self,
-        route: &mut [u32],
-        log: &mut [u32],
+        Lent { route, log, work }: Lent,
         script: &[u32],
         out: &mut [u64],
     ) -> Result<(), Refusal> {
@@ -405,6 +452,7 @@ impl Unit {
             self.groups => as_mut_ptr,
             route => as_mut_ptr,
             log => as_mut_ptr,
+            work => as_mut_ptr,
             script => as_ptr,
             out => as_mut_ptr;
         ));
@@ -414,36 +462,47 @@ impl Unit {
     /// Takes the header back, and an answer that refuses.
     pub(crate) fn hand_back(&mut self, returned: Returned) -> Result<Returned, Refusal> {
         self.header = returned.header;
-        match returned {
-            Returned { question: 0, .. } => Ok(returned),
-            Returned { question, place, total: 0, count, roads: 0, .. } => {
-                Err(refusal(question, place, count))
-            }
-            _ => panic!("no refusal: {returned:?}"),
+        let Returned { question, place, count, .. } = returned;
+        if question == 0 {
+            return Ok(returned);
         }
+        returned.says(Returned { question, place, count, ..Returned::default() });
+        Err(refusal(question, place, count))
     }
 }
 
 impl Returned {
+    /// There are these words beside the header, and none that have nothing to say.
+    fn says(self, words: Returned) {
+        assert_eq!(self, Returned { header: self.header, ..words }, "more than it has to say");
+    }
+
     pub(crate) fn done(self) -> Result<(), Refusal> {
-        match self {
-            Returned { place: 0, total: 0, count: 0, roads: 0, .. } => Ok(()),
-            _ => panic!("more than an acceptance: {self:?}"),
-        }
+        self.says(Returned::default());
+        Ok(())
     }
 
     pub(crate) fn estimate(self) -> Result<Time, Refusal> {
-        match (self, Time::try_from(self.total)) {
-            (Returned { place: 0, count: 0, roads: 0, .. }, Ok(estimate)) => Ok(estimate),
-            _ => panic!("no estimate: {self:?}"),
-        }
+        let total = self.total;
+        self.says(Returned { total, ..Returned::default() });
+        Ok(Time::try_from(total).expect("an estimate of 32 bits"))
     }
 
     fn trip(self) -> Result<Trip, Refusal> {
-        match self {
-            Returned { place: 0, total, count, roads, .. } => Ok(Trip { total, count, roads }),
-            _ => panic!("no trip: {self:?}"),
-        }
+        let Returned { total, count, roads, .. } = self;
+        self.says(Returned { total, count, roads, ..Returned::default() });
+        Ok(Trip { total, count, roads })
+    }
+
+    pub(crate) fn previewed(self) -> Result<Previewed, Refusal> {
+        let Returned { compared, total, then, change, .. } = self;
+        let [present, new] =
+            [total, then].map(|total| (total != NONE.into()).then_some(total));
+        let both = present.is_some() && new.is_some();
+        let change = if both { change } else { 0 };
+        assert_eq!(compared, both.into(), "compared where both totals exist: {self:?}");
+        self.says(Returned { compared, total, then, change, ..Returned::default() });
+        Ok(Previewed { present, new, change: both.then_some(change) })
     }
 }
 
@@ -517,5 +576,31 @@ impl Calls for Unit {
             start
         ));
         self.hand_back(returned)?.trip()
+    }
+
+    fn preview(
+        &mut self,
+        road: u32,
+        time: Time,
+        start: u32,
+        work: &mut [u32],
+    ) -> Result<Previewed, Refusal> {
+        let returned = lend!(unit_preview(
+            self.header;
+            self.card => as_ptr,
+            self.ranks => as_ptr,
+            self.pairs => as_ptr,
+            self.live => as_ptr,
+            self.down => as_ptr,
+            self.estimates => as_mut_ptr,
+            self.elapsed => as_ptr,
+            self.leaving => as_ptr,
+            self.groups => as_ptr,
+            work => as_mut_ptr;
+            road,
+            time,
+            start
+        ));
+        self.hand_back(returned)?.previewed()
     }
 }

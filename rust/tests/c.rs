@@ -34,6 +34,7 @@ fn declared(item: &str) -> String {
     let (name, kind) = item.trim().trim_start_matches("pub ").split_once(": ").unwrap();
     let number = |kind: &str| match kind {
         "u8" | "u32" | "u64" => format!("uint{}_t", &kind[1..]),
+        "i64" => "int64_t".to_string(),
         other => other.to_string(),
     };
     let slice = |kind: &str| kind.strip_suffix(']').map(number);
@@ -103,7 +104,7 @@ fn declarations() -> Vec<String> {
 #[test]
 fn header_declares_the_exports() {
     let exports = exports();
-    assert_eq!(exports.len(), 2 + 8);
+    assert_eq!(exports.len(), 2 + 9);
     assert_eq!(declarations(), exports, "c/route_unit.h (left), crates/unit_c (right)");
 }
 
@@ -147,11 +148,11 @@ fn map_p() {
     let output = run("right", &read("c/map_p.c"));
     let said = told(&output.stdout);
     assert_eq!(output.status.code(), Some(0), "{said}");
-    assert_eq!((said.matches(" ok\n").count(), said.lines().count()), (13, 13), "{said}");
+    assert_eq!((said.matches(" ok\n").count(), said.lines().count()), (19, 19), "{said}");
     for case in 1..=10 {
         assert!(said.contains(&format!("P{case} ")), "{said}");
     }
-    assert!(said.contains("A1 "), "{said}");
+    assert_eq!((said.matches("A1 ").count(), said.matches("A2 ").count()), (1, 6), "{said}");
 }
 
 /// The C program sees an answer that is not the one it waits for, in each case.
@@ -172,7 +173,15 @@ fn map_p_with_another_answer() {
         ("P10 ", "gone(0, 15,", "gone(0, 0,"),
         ("A1 ", "{0, 2, 1, 3, 4}", "{0, 1, 2, 3, 4}"),
         ("A1 ", "{0, 2, 3, 4, 5}", "{0, 2, 3, 4, 4}"),
-        ("replay", "25, 4, 2, 11,", "25, 4, 2, 12,"),
+        ("A2  road 1 at 15", "20, 25, 1, 5)", "20, 25, 1, -5)"),
+        ("A2  road 4", "20, 20, 1, 0)", "20, 20, 0, 0)"),
+        ("A2  road 1 closed; at 10", "25, 20, 1, -5)", "25, 20, 1, 5)"),
+        ("A2  road 1 closed; road 2", "25, UNIT_NONE, 0, 0)", "25, 0, 0, 0)"),
+        ("A2  roads 1 and 2", "UNIT_NONE, 25, 0, 0)", "UNIT_NONE, 25, 1, 0)"),
+        ("A2  refused", "1, 9, N, 11,", "1, 9, N, 12,"),
+        ("A2  refused", "2 * N + 1, 1, 15, 0, 9,", "2 * N + 1, 1, 15, 0, 0,"),
+        ("replay", "14, 0, 0, 0, 0, 25,", "14, 0, 0, 0, 0, 26,"),
+        ("replay", "(uint64_t)-5", "5"),
     ]
     .into_iter()
     .enumerate()

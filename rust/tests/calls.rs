@@ -1,4 +1,4 @@
-//! Lists of random calls on the proved unit, beside document 01's plain machine and the plain router.
+//! Lists of random calls on the proved unit, beside the plain machine of documents 01 and 02 and the plain router.
 //!
 //! With another seed and as many calls as you like, from the repository's root:
 //!
@@ -8,14 +8,14 @@
 
 use harness::both::{with_stack, Both};
 use harness::by_tail::Listed;
-use harness::calls::{Accepted, Answer, Call, Calls, Refusal};
+use harness::calls::{Accepted, Answer, Call, Calls, Lent, Previewed, Refusal};
 use harness::card::{LONGEST, MOST_JUNCTIONS, MOST_ROADS};
 use harness::machine::Machine;
 use harness::maps::{self, Map, Streets};
 use harness::order::{self, MOST_PAIRS};
 use harness::random::{setting, Random};
 use harness::time::{Time, CLOSED, NONE, UNASKED};
-use harness::unit::{lent_areas, spelled, Area, Unit};
+use harness::unit::{spelled, Area, LentAreas, Unit};
 use std::thread;
 
 /// How often each call was answered with each number, 0 for accepted, and estimates with none.
@@ -25,7 +25,9 @@ struct Tally {
     aim: [usize; 16],
     estimate: [usize; 16],
     go: [usize; 16],
+    preview: [usize; 16],
     none: usize,
+    previews: Previews,
     /// How often each area had a wrong length, and at last the card.
     lengths: [usize; 9],
     /// The roads by tail, which are compared after every call.
@@ -39,13 +41,15 @@ impl Tally {
             Call::Aim { .. } => &mut self.aim,
             Call::Estimate { .. } => &mut self.estimate,
             Call::Go { .. } => &mut self.go,
+            Call::Preview { .. } => &mut self.preview,
         };
         met[answer.map_or_else(|refusal| refusal.number() as usize, |_| 0)] += 1;
         self.none += (answer == Ok(Accepted::Estimate(NONE))) as usize;
+        self.previews.count(answer);
     }
 
     fn calls(&self) -> usize {
-        [self.set, self.aim, self.estimate, self.go].iter().flatten().sum()
+        [self.set, self.aim, self.estimate, self.go, self.preview].iter().flatten().sum()
     }
 
     /// Each answer that a call can have was met at least so often.
@@ -56,10 +60,44 @@ impl Tally {
                 && met(&self.aim, &[0, 9, 12])
                 && met(&self.estimate, &[0, 9, 12, 13])
                 && met(&self.go, &[0, 9, 12, 13, 14, 15])
+                && met(&self.preview, &[0, 9, 10, 11, 12, 13])
                 && self.none >= least
                 && self.lengths.iter().all(|&met| met >= least),
             "too few of one kind: {self:?}"
         );
+    }
+}
+
+/// How often a preview had each outcome.
+#[derive(Debug, Default)]
+struct Previews {
+    less: usize,
+    as_much: usize,
+    more: usize,
+    /// No chain now, with the time set, and either way.
+    opened: usize,
+    closed: usize,
+    neither: usize,
+}
+
+impl Previews {
+    fn count(&mut self, answer: Answer) {
+        let Ok(Accepted::Previewed(Previewed { present, new, change })) = answer else { return };
+        *match (present, new) {
+            (Some(_), Some(_)) => match change.expect("a change where both totals exist") {
+                ..0 => &mut self.less,
+                0 => &mut self.as_much,
+                1.. => &mut self.more,
+            },
+            (None, Some(_)) => &mut self.opened,
+            (Some(_), None) => &mut self.closed,
+            (None, None) => &mut self.neither,
+        } += 1;
+    }
+
+    fn all(&self) -> [usize; 6] {
+        let Previews { less, as_much, more, opened, closed, neither } = *self;
+        [less, as_much, more, opened, closed, neither]
     }
 }
 
@@ -96,17 +134,44 @@ fn lent(random: &mut Random, n: usize) -> usize {
     }
 }
 
+/// A length for a work area, which is to have just 2n entries.
+fn work(random: &mut Random, n: usize) -> usize {
+    match random.below(30) {
+        0 => random.pick(&[0, 1, n, 2 * n - 1, 2 * n + 1, 3 * n + 1, 4 * n]),
+        1 => random.below(4 * n),
+        _ => 2 * n,
+    }
+}
+
+/// A road, and a time for it. Where a junction is given, often one that leaves it.
+fn change(random: &mut Random, map: &Map, near: Option<u32>) -> (u32, Time) {
+    let leaves = |road: &u32| Some(map.roads[*road as usize].tail) == near;
+    let roads: Vec<u32> = (0..map.m() as u32).filter(leaves).collect();
+    let road = match roads.is_empty() || random.chance(30) {
+        true => number(random, map.m()),
+        false => random.pick(&roads),
+    };
+    let base = map.roads.get(road as usize).map_or(1, |road| road.base);
+    (road, time(random, base))
+}
+
 fn random_call(random: &mut Random, map: &Map) -> Call {
     let n = map.n();
     match random.below(100) {
-        0..40 => {
-            let road = number(random, map.m());
-            let base = map.roads.get(road as usize).map_or(1, |road| road.base);
-            Call::Set { road, time: time(random, base) }
+        0..35 => {
+            let (road, time) = change(random, map, None);
+            Call::Set { road, time }
         }
-        40..50 => Call::Aim { junction: number(random, n) },
-        50..70 => Call::Estimate { junction: number(random, n) },
-        _ => Call::Go { start: number(random, n), route: lent(random, n), log: lent(random, n) },
+        35..45 => Call::Aim { junction: number(random, n) },
+        45..60 => Call::Estimate { junction: number(random, n) },
+        60..80 => {
+            Call::Go { start: number(random, n), route: lent(random, n), log: lent(random, n) }
+        }
+        _ => {
+            let start = number(random, n);
+            let (road, time) = change(random, map, Some(start));
+            Call::Preview { road, time, start, work: work(random, n) }
+        }
     }
 }
 
@@ -134,11 +199,11 @@ fn wrong_length(random: &mut Random, unit: &mut Unit) -> usize {
 /// Question 9: the call is refused, and nothing is altered.
 fn refused_lengths(unit: &mut Unit, call: Call) -> Answer {
     let before = unit.clone();
-    let (mut route, mut log) = lent_areas(call);
-    let answer = unit.call(call, &mut route, &mut log);
+    let mut lent = LentAreas::of(call);
+    let answer = unit.call(call, lent.lend());
     assert_eq!(answer, Err(Refusal::Lengths), "{call:?}");
     assert!(*unit == before, "{call:?} with wrong lengths alters the unit");
-    assert!((route, log) == lent_areas(call), "{call:?} with wrong lengths alters a lent area");
+    assert!(lent == LentAreas::of(call), "{call:?} with wrong lengths alters a lent area");
     answer
 }
 
@@ -217,6 +282,7 @@ fn lists() {
             run_list(&mut random, &map, calls, &mut tally);
         }
         tally.at_least(length / 1_000);
+        assert!(tally.previews.all().iter().all(|&met| met > length / 1_000), "{tally:?}");
         let Listed { empty, several, moved, not_by_head, .. } = tally.listed;
         assert!(
             empty.iter().all(|&met| met > length / 2_000)
@@ -253,11 +319,15 @@ fn lists_on_the_largest_maps() {
     });
 }
 
-/// The call as it is made: a go is lent what it asks for of areas of these lengths, or all of them.
-fn lent_of(call: Call, route_len: usize, log_len: usize) -> Call {
+/// The call as it is made: a go is lent what it asks for of areas of these lengths, or all of them, a preview
+/// the whole of its own.
+fn lent_of(call: Call, LentAreas { route: route_area, log: log_area, work }: &LentAreas) -> Call {
     match call {
         Call::Go { start, route, log } => {
-            Call::Go { start, route: route.min(route_len), log: log.min(log_len) }
+            Call::Go { start, route: route.min(route_area.len()), log: log.min(log_area.len()) }
+        }
+        Call::Preview { road, time, start, .. } => {
+            Call::Preview { road, time, start, work: work.len() }
         }
         call => call,
     }
@@ -269,6 +339,10 @@ fn answer_words(answer: Answer) -> [u64; 4] {
         Ok(Accepted::Done) => [0; 4],
         Ok(Accepted::Estimate(estimate)) => [0, estimate.into(), 0, 0],
         Ok(Accepted::Trip(trip)) => [0, trip.total, trip.count.into(), trip.roads.into()],
+        Ok(Accepted::Previewed(Previewed { present, new, change })) => {
+            let [present, new] = [present, new].map(|total| total.unwrap_or(NONE.into()));
+            [0, present, new, change.unwrap_or(0) as u64]
+        }
         Err(Refusal::NoPath(count)) => [15, 0, count.into(), 0],
         Err(refusal) => [refusal.number().into(), 0, 0, 0],
     }
@@ -330,8 +404,8 @@ impl Tail {
                 words
             }
             Tail::Unknown => {
-                let any = random.word().max(4);
-                let kind = random.pick(&[4, 5, 256, 65_536, 1 << 31, u32::MAX, any]);
+                let any = random.word().max(5);
+                let kind = random.pick(&[5, 6, 256, 65_536, 1 << 31, u32::MAX, any]);
                 let behind: Vec<Call> = (0..3).map(|_| random_call(random, map)).collect();
                 [vec![kind], spelled(&behind)].concat()
             }
@@ -342,12 +416,12 @@ impl Tail {
 /// A script of calls and other words behind them, through the one function that makes all the calls, as
 /// many as `room` words of answers hold. The answers, routes and logs are the machine's; the header, every
 /// area, and route and log, beyond what was lent too, are those that the same calls leave when they are made
-/// one by one.
+/// one by one. The work area is as it was where every preview is refused.
 fn run_script(
     map: &Map,
     calls: &[Call],
     tail: &[u32],
-    mut lent: [Area; 2],
+    mut lent: LentAreas,
     room: usize,
 ) -> Vec<(Call, Answer)> {
     let script = [&spelled(calls)[..], tail].concat();
@@ -361,26 +435,30 @@ fn run_script(
     let mut machine = Machine::new(map);
     let mut answers = Vec::new();
     for (&call, words) in calls.iter().zip(want_out.chunks_exact_mut(4)) {
-        let call = lent_of(call, lent[0].len(), lent[1].len());
+        let call = lent_of(call, &lent);
         let reply = both.call(call);
         assert_eq!(reply, machine.answer(call), "{call:?}: proved (left), machine (right)");
-        want[0][..reply.route.len()].copy_from_slice(&reply.route);
-        want[1][..reply.log.len()].copy_from_slice(&reply.log);
-        let [route, log] = &mut one_by_one;
-        let (route, log) = match call {
-            Call::Go { route: r, log: l, .. } => (&mut route[..r], &mut log[..l]),
-            _ => (&mut route[..], &mut log[..]),
-        };
-        assert_eq!(single.call(call, route, log), reply.answer, "{call:?}");
+        want.route[..reply.route.len()].copy_from_slice(&reply.route);
+        want.log[..reply.log.len()].copy_from_slice(&reply.log);
+        let mut some = one_by_one.lend();
+        if let Call::Go { route, log, .. } = call {
+            some = Lent { route: &mut some.route[..route], log: &mut some.log[..log], ..some };
+        }
+        assert_eq!(single.call(call, some), reply.answer, "{call:?}");
         words.copy_from_slice(&answer_words(reply.answer));
         answers.push((call, reply.answer));
     }
-    let [route, log] = &mut lent;
-    unit.replay(route, log, &script, &mut out).unwrap();
+    unit.replay(lent.lend(), &script, &mut out).unwrap();
     assert_eq!(out, want_out, "{calls:?} and the words {tail:?}");
     assert!(unit == single && unit == both.unit, "the unit is left otherwise than by single calls");
-    assert!(lent == want, "route and log are left otherwise than by the machine");
-    assert!(lent == one_by_one, "route and log are left otherwise than by single calls");
+    if answers.iter().any(|(_, answer)| matches!(answer, Ok(Accepted::Previewed(_)))) {
+        assert!(lent.guarded() && lent.work.len() == want.work.len(), "words beside the work area");
+        for work in [&mut want.work, &mut one_by_one.work] {
+            work.copy_from_slice(&lent.work);
+        }
+    }
+    assert!(lent == want, "what is lent is left otherwise than by the machine");
+    assert!(lent == one_by_one, "what is lent is left otherwise than by single calls");
     answers
 }
 
@@ -403,20 +481,25 @@ fn scripts() {
     with_stack(|| {
         let mut random = Random::new(4);
         let mut gos = Gos::default();
+        let mut previews = Previews::default();
+        let (mut foreseen, mut refused_by_9) = (0, 0);
         // How many scripts of each tail were made to their last call, with room for an answer more.
         let mut ended = [0; 3];
         for most in [12; 400].into_iter().chain([200; 20]).chain([MOST_JUNCTIONS]) {
             let map = random_map(&mut random, most);
             let (n, len) = (map.n(), random.below(80));
-            let lent = [0; 2].map(|_| {
+            let [route, log] = [0; 2].map(|_| {
                 let more = random.below(9);
                 let len = random.pick(&[n - 1, n, n, n, n + 1, n + more, n + more, 2 * n]);
                 any_area(&mut random, len)
             });
+            let len_of_work = work(&mut random, n);
+            let lent = LentAreas { route, log, work: any_area(&mut random, len_of_work) };
             let calls: Vec<Call> = (0..len)
                 .map(|_| match random_call(&mut random, &map) {
                     Call::Go { start, .. } => {
-                        let [route, log] = [0, 1].map(|i| asked(&mut random, n, lent[i].len()));
+                        let [route, log] =
+                            [&lent.route, &lent.log].map(|area| asked(&mut random, n, area.len()));
                         Call::Go { start, route, log }
                     }
                     call => call,
@@ -429,22 +512,43 @@ fn scripts() {
             };
             ended[tail as usize] += (room >= 4 * len + 4) as usize;
             let tail = tail.words(&mut random, &map);
-            gos.count(&run_script(&map, &calls, &tail, lent, room));
+            let answers = run_script(&map, &calls, &tail, lent, room);
+            gos.count(&answers);
+            for &(call, answer) in &answers {
+                let right = len_of_work == 2 * n;
+                if matches!(call, Call::Preview { .. }) {
+                    assert_eq!(answer == Err(Refusal::Lengths), !right, "{call:?}: {answer:?}");
+                    *if right { &mut foreseen } else { &mut refused_by_9 } += 1;
+                }
+                previews.count(answer);
+            }
         }
+        assert!(
+            foreseen > 1_000 && refused_by_9 > 50 && previews.all().iter().all(|&met| met > 10),
+            "{foreseen}, {refused_by_9}, {previews:?}"
+        );
         assert!(
             gos.calls > 10_000
                 && gos.refused_by_14 > 1_000
-                && gos.found > 800
-                && gos.lost > 200
+                && gos.found > 600
+                && gos.lost > 150
                 && gos.mixed > 150,
             "too few of one kind: {gos:?}"
         );
         assert!(ended.iter().all(|&met| met > 60), "too few of one end: {ended:?}");
         let mut refused = Unit::new(&[0; 28], 0, 0, 0);
-        let mut out = [1; 8];
-        let calls = [Call::Set { road: 0, time: 0 }, Call::Go { start: 0, route: 0, log: 0 }];
-        let answer = refused.replay(&mut [], &mut [], &spelled(&calls), &mut out);
-        assert_eq!((answer, out), (Err(Refusal::Kinds), [10, 0, 0, 0, 12, 0, 0, 0]));
+        let calls = [
+            Call::Set { road: 0, time: 0 },
+            Call::Go { start: 0, route: 0, log: 0 },
+            Call::Preview { road: 0, time: 0, start: 0, work: 0 },
+        ];
+        for (work, question) in [(0, 10), (1, 9)] {
+            let mut lent = LentAreas::of(Call::Preview { road: 0, time: 0, start: 0, work });
+            let mut out = [1; 12];
+            let answer = refused.replay(lent.lend(), &spelled(&calls), &mut out);
+            let want = [10, 0, 0, 0, 12, 0, 0, 0, question, 0, 0, 0];
+            assert_eq!((answer, out), (Err(Refusal::Kinds), want));
+        }
     });
 }
 
@@ -460,8 +564,9 @@ fn scripts_of_each_length() {
         for most in [12; 40].into_iter().chain([200; 5]) {
             let map = random_map(&mut random, most);
             let n = map.n();
-            let lent = [n + 3, n + 4].map(|len| any_area(&mut random, len));
-            let [route_len, log_len] = [lent[0].len(), lent[1].len()];
+            let [route_len, log_len] = [n + 3, n + 4];
+            let [route, log] = [route_len, log_len].map(|len| any_area(&mut random, len));
+            let lent = LentAreas { route, log, work: Area::new(0) };
             let lengths = |len: usize| [0, n - 1, n, n + 1, len, len + 1, u32::MAX as usize];
             let mut calls = vec![Call::Aim { junction: random.below(n) as u32 }];
             for route in lengths(route_len) {
@@ -505,12 +610,14 @@ fn scripts_that_end_early() {
         Call::Estimate { junction: 0 },
         Call::Set { road: 0, time: 9 },
         go(0, 9, 4),
+        Call::Preview { road: 1, time: 15, start: 0, work: 8 },
         Call::Aim { junction: 1 },
         go(3, 4, 4),
+        Call::Preview { road: 4, time: CLOSED, start: 3, work: 8 },
     ];
     let script = spelled(&calls);
-    assert_eq!(script.len(), 2 * 3 + 4 * 2 + 4 * 4);
-    let lent = || [Area::new(6), Area::new(5)];
+    assert_eq!(script.len(), 2 * 3 + 4 * 2 + 4 * 4 + 2 * 4);
+    let lent = || LentAreas { route: Area::new(6), log: Area::new(5), work: Area::new(8) };
     let (mut cuts, mut kinds, mut made) = (0, 0, 0);
     for whole in 0..=calls.len() {
         let (before, behind) = calls.split_at(whole);
@@ -520,13 +627,13 @@ fn scripts_that_end_early() {
             made += run_script(&map, before, &rest[..cut], lent(), 4 * calls.len()).len();
             cuts += 1;
         }
-        for kind in [4, 5, 259, 65_539, u32::MAX] {
+        for kind in [5, 6, 260, 65_540, u32::MAX] {
             let tail = [&[kind][..], rest.get(1..).unwrap_or(&[])].concat();
             made += run_script(&map, before, &tail, lent(), 4 * calls.len() + 4).len();
             kinds += 1;
         }
     }
-    assert_eq!((cuts, kinds, made), (script.len() + 1, 11 * 5, 5 * 55 + 153));
+    assert_eq!((cuts, kinds, made), (script.len() + 1, 13 * 5, 5 * 78 + 237));
 }
 
 /// Changes to lengths, each of which question 9 refuses, by the call's header.
@@ -570,7 +677,7 @@ fn wrong_lengths_are_refused_first() {
         for _ in 0..2 {
             for (_, mut unit) in wrong_lengths(&both.unit) {
                 let n = map.n();
-                for [road, junction, entries] in [[0, 0, n], [map.m(), n, n - 1]] {
+                for [road, junction, entries, work] in [[0, 0, n, 2 * n], [map.m(), n, n - 1, 0]] {
                     let (road, junction) = (road as u32, junction as u32);
                     for call in [
                         Call::Set { road, time: CLOSED },
@@ -578,6 +685,7 @@ fn wrong_lengths_are_refused_first() {
                         Call::Aim { junction },
                         Call::Estimate { junction },
                         Call::Go { start: junction, route: entries, log: entries },
+                        Call::Preview { road, time: CLOSED, start: junction, work },
                     ] {
                         refused_lengths(&mut unit, call).unwrap_err();
                         refusals += 1;
@@ -587,7 +695,7 @@ fn wrong_lengths_are_refused_first() {
             both.call(Call::Aim { junction: 1 });
         }
     }
-    assert_eq!(refusals, 3 * 2 * (10 + 8 * 8) * 2 * 5);
+    assert_eq!(refusals, 3 * 2 * (10 + 8 * 8) * 2 * 6);
 }
 
 /// The deepest map, a line in rank order, with no more stack than c/route_unit.h says.
@@ -606,6 +714,11 @@ fn on_a_small_stack() {
             assert_eq!((trip.count, trip.roads), (4_096, 4_095));
             unit.aim(last).unwrap();
             assert_eq!(u64::from(unit.estimate(first).unwrap()), trip.total);
+            unit.aim(last).unwrap();
+            let mut work = vec![0; 2 * map.n()];
+            let previewed = unit.preview(0, CLOSED, first, &mut work).unwrap();
+            let want = Previewed { present: Some(trip.total), new: None, change: None };
+            assert_eq!(previewed, want, "a line without its first road");
         }
     };
     thread::Builder::new().stack_size(2 << 20).spawn(calls).unwrap().join().unwrap();
@@ -624,6 +737,10 @@ fn after_a_refused_preparing() {
             assert_eq!(unit.aim(argument), Err(Refusal::NoJunction));
             assert_eq!(unit.estimate(argument), Err(Refusal::NoJunction));
             assert_eq!(unit.go(argument, &mut [], &mut []), Err(Refusal::NoJunction));
+            let answer = unit.preview(argument, CLOSED, argument, &mut []);
+            assert_eq!(answer, Err(Refusal::NoRoad));
+            let answer = unit.preview(argument, CLOSED, argument, &mut [1, 2]);
+            assert_eq!(answer, Err(Refusal::Lengths));
         }
         assert!(unit == before, "a refused call alters the unit");
         for len in [0, 2] {
@@ -633,6 +750,7 @@ fn after_a_refused_preparing() {
                 Call::Aim { junction: 0 },
                 Call::Estimate { junction: 0 },
                 Call::Go { start: 0, route: 0, log: 0 },
+                Call::Preview { road: 0, time: CLOSED, start: 0, work: 0 },
             ] {
                 refused_lengths(&mut unit, call).unwrap_err();
             }

@@ -1,17 +1,19 @@
 //! Calls on states that no list of calls leaves: areas, headers and cards of right lengths and any
 //! contents. The answer is free, but the call ends, writes only in the areas that it is lent to write, leaves
-//! each estimate that is filled, but for an aim, and hands the header back as it was, but for its target. Only
-//! a header out of range is refused, by 9, whatever the lengths.
+//! each estimate that is filled, but for an aim, and hands the header back as it was, but for its target. A
+//! preview's change is right wherever both totals are answered, and its questions are asked of whatever words
+//! there are. A header out of range is refused, by 9, whatever the lengths.
 
 use harness::both::with_stack;
-use harness::calls::{Accepted, Answer, Call, Calls, Refusal};
+use harness::calls::{Accepted, Answer, Call, Calls, Previewed, Refusal};
 use harness::card::{self, LONGEST, MOST_JUNCTIONS, MOST_ROADS};
 use harness::damage::CardDamage;
 use harness::maps::{self, Streets};
 use harness::order::{self, MOST_PAIRS};
 use harness::random::{setting, Random};
 use harness::time::{CLOSED, NONE, UNASKED};
-use harness::unit::{lent_areas, Header, Unit};
+use harness::traffic;
+use harness::unit::{Header, LentAreas, Unit};
 
 /// What the words of an area are taken from.
 #[derive(Clone, Copy, Debug)]
@@ -157,6 +159,9 @@ fn used(random: &mut Random) -> Unit {
     let (n, m) = (map.n(), map.m());
     let mut unit = Unit::new(&map.card().expect("a map in range"), n, m, order::pairs(&map) + 3);
     unit.prepare().expect("room for the pairs");
+    for (road, time) in (0..).zip(traffic::live_times(random, &map)) {
+        unit.set(road, time).expect("an allowed time");
+    }
     unit.aim(random.below(n) as u32).expect("a junction");
     unit.estimate(random.below(n) as u32).expect("a junction");
     unit
@@ -200,6 +205,14 @@ fn damage_groups(random: &mut Random) -> Unit {
     unit
 }
 
+/// Tail, head and base time of a road as they stand on the card, if it is below m.
+fn road_on(unit: &Unit, road: u32) -> Option<[u32; 3]> {
+    let m = unit.header.m as usize;
+    let roads = unit.card.get(card::len(0, 0)..card::len(0, m))?.as_chunks::<12>().0;
+    let words = roads.get(road as usize)?.as_chunks().0;
+    Some([words[0], words[1], words[2]].map(u32::from_le_bytes))
+}
+
 fn call(random: &mut Random, unit: &Unit) -> Call {
     let n = unit.header.n as usize;
     match random.below(10) {
@@ -208,7 +221,15 @@ fn call(random: &mut Random, unit: &Unit) -> Call {
             Call::Set { road: number(random, unit.header.m as usize), time: random.pick(&time) }
         }
         1 => Call::Aim { junction: number(random, n) },
-        2..5 => Call::Estimate { junction: number(random, n) },
+        2..4 => Call::Estimate { junction: number(random, n) },
+        4..6 => {
+            let (road, any) = (number(random, unit.header.m as usize), number(random, n));
+            let [tail, _, base] = road_on(unit, road).unwrap_or([any, any, LONGEST]);
+            let times = [base, base, CLOSED, CLOSED, random.within(1..=LONGEST), random.word()];
+            let (time, start) = (random.pick(&times), random.pick(&[tail, any]));
+            let work = 2 * n + random.pick(&[0, 0, 0, 0, 0, 0, 0, 1, n]);
+            Call::Preview { road, time, start, work }
+        }
         _ => {
             let start = number(random, n);
             Call::Go { start, route: n + random.below(3), log: n + random.below(3) }
@@ -225,7 +246,66 @@ struct Met {
     kept_by_estimates: usize,
     /// The same of the goes that searched.
     kept_by_goes: usize,
+    /// The same of the previews that searched.
+    kept_by_previews: usize,
     groups: Groups,
+    previews: Previews,
+}
+
+/// How the previews were answered.
+#[derive(Debug, Default)]
+struct Previews {
+    /// Refused with each number, 0 for accepted.
+    refusals: [usize; 16],
+    /// With two totals: a change below 0, 0, and above.
+    changes: [usize; 3],
+    /// With no total now, with the time set, and either way.
+    absent: [usize; 3],
+}
+
+impl Previews {
+    /// What the questions refuse by the header, the lengths, the road's words on the card and the arguments.
+    /// A target out of range, which no list of calls leaves, is refused by 9 behind them.
+    fn refusal(unit: &Unit, call: Call) -> Option<Refusal> {
+        let Call::Preview { road, time, start, work } = call else { panic!("no preview") };
+        let Header { n, m, aimed, target, .. } = unit.header;
+        let allowed = |[_, _, base]: [u32; 3]| (base..=LONGEST).contains(&time) || time == CLOSED;
+        if work != 2 * n as usize {
+            Some(Refusal::Lengths)
+        } else if road >= m {
+            Some(Refusal::NoRoad)
+        } else if !road_on(unit, road).is_some_and(allowed) {
+            Some(Refusal::NotAllowed)
+        } else if start >= n {
+            Some(Refusal::NoJunction)
+        } else if aimed == 0 {
+            Some(Refusal::NoTarget)
+        } else {
+            (target >= n).then_some(Refusal::Lengths)
+        }
+    }
+
+    /// An answer, which is refused as it is to be, or has the change of its totals.
+    fn check(&mut self, unit: &Unit, call: Call, answer: Answer) {
+        let refusal = Previews::refusal(unit, call);
+        assert_eq!(answer.err(), refusal, "{call:?}, {:?}", unit.header);
+        self.refusals[refusal.map_or(0, Refusal::number) as usize] += 1;
+        let Ok(answer) = answer else { return };
+        let Accepted::Previewed(Previewed { present, new, change }) = answer else {
+            panic!("{call:?}: {answer:?}")
+        };
+        match (present, new) {
+            (Some(present), Some(new)) => {
+                let difference = i128::from(new) - i128::from(present);
+                assert_eq!(change.map(i128::from), Some(difference), "{present}, {new}");
+                self.changes[(1 + difference.signum()) as usize] += 1;
+            }
+            (present, new) => {
+                assert_eq!(change, None, "{present:?}, {new:?}");
+                self.absent[if new.is_some() { 0 } else { 1 + present.is_none() as usize }] += 1;
+            }
+        }
+    }
 }
 
 /// What the groups of logged junctions were, where they are to be gone on from.
@@ -284,10 +364,9 @@ fn count_of(answer: Answer) -> usize {
 /// Makes a call, and looks at what it may not alter.
 fn free_call(unit: &mut Unit, call: Call, met: &mut Met) {
     let before = unit.clone();
-    let (mut route, mut log) = lent_areas(call);
-    let answer = unit.call(call, &mut route, &mut log);
-    let guarded = unit.guarded() && route.guarded() && log.guarded();
-    assert!(guarded, "{call:?} alters guard words");
+    let mut lent = LentAreas::of(call);
+    let answer = unit.call(call, lent.lend());
+    assert!(unit.guarded() && lent.guarded(), "{call:?} alters guard words");
 
     let Header { n, m, pairs, aimed, target } = unit.header;
     let old = before.header;
@@ -302,6 +381,7 @@ fn free_call(unit: &mut Unit, call: Call, met: &mut Met) {
         Call::Aim { .. } => &["down totals", "estimates"],
         Call::Estimate { .. } => &["estimates"],
         Call::Go { .. } => &["estimates", "elapsed"],
+        Call::Preview { .. } => &["estimates"],
     };
     assert!(unit.card == before.card, "{call:?} alters the card");
     for ((name, area), (_, old)) in unit.areas().into_iter().zip(before.areas()) {
@@ -310,14 +390,22 @@ fn free_call(unit: &mut Unit, call: Call, met: &mut Met) {
 
     let refusal = answer.map_or_else(|refusal| refusal.number() as usize, |_| 0);
     met.refusals[refusal] += 1;
+    if matches!(call, Call::Preview { .. }) {
+        met.previews.check(&before, call, answer);
+        if refusal != 0 {
+            assert!(lent == LentAreas::of(call), "{call:?}, refused, alters its work area");
+            assert!(unit.estimates == before.estimates, "{call:?}, refused, alters estimates");
+        }
+    }
     if !matches!(call, Call::Aim { .. }) {
         let kept = kept(&before.estimates, &unit.estimates, call);
         match (call, refusal) {
             (Call::Estimate { .. }, 0) => met.kept_by_estimates += kept,
             (Call::Go { .. }, 0 | 15) => {
                 met.kept_by_goes += kept;
-                met.groups.count(unit, &log[..count_of(answer)]);
+                met.groups.count(unit, &lent.log[..count_of(answer)]);
             }
+            (Call::Preview { .. }, 0) => met.kept_by_previews += kept,
             _ => (),
         }
     }
@@ -356,9 +444,18 @@ fn noise_in_every_area() {
         let met = free_calls(1, calls, forge);
         let [accepted, no_junction, no_path] = [0, 12, 15].map(|number| met.refusals[number]);
         let enough = accepted > calls / 4 && no_junction > calls / 20 && no_path > calls / 100;
-        let kept = met.kept_by_estimates > 10 * calls && met.kept_by_goes > 10 * calls;
-        assert!(enough && kept, "{met:?}");
-        met.groups.at_least(calls / 100);
+        let kept = [met.kept_by_estimates, met.kept_by_goes, met.kept_by_previews];
+        assert!(enough && kept.iter().all(|&kept| kept > 5 * calls), "{met:?}");
+        met.groups.at_least(calls / 200);
+        let Previews { refusals, changes, absent } = met.previews;
+        let refused = [9, 10, 11, 12, 13].map(|number| refusals[number]);
+        assert!(
+            refusals[0] > calls / 50
+                && refused.iter().all(|&met| met > calls / 500)
+                && changes[1] > calls / 1_000
+                && absent[2] > calls / 100,
+            "{met:?}"
+        );
     });
 }
 
@@ -368,8 +465,11 @@ fn damaged_states() {
         let calls = setting("CALLS_LENGTH", 60_000);
         let met = free_calls(2, calls, damage);
         let enough = met.refusals[0] > calls / 3 && met.refusals[15] > calls / 50;
-        let kept = met.kept_by_estimates > calls && met.kept_by_goes > calls;
-        assert!(enough && kept, "{met:?}");
+        let kept = [met.kept_by_estimates, met.kept_by_goes, met.kept_by_previews];
+        assert!(enough && kept.iter().all(|&kept| kept > calls), "{met:?}");
+        let Previews { refusals, changes, absent } = met.previews;
+        let met_each = changes.iter().chain(&absent).all(|&met| met > calls / 5_000);
+        assert!(refusals[0] > calls / 20 && met_each, "{met:?}");
     });
 }
 
@@ -406,6 +506,8 @@ fn all_roads_from_every_other_junction() {
             }
             for start in [1, 2] {
                 free_call(&mut unit, Call::Go { start, route: n, log: n }, &mut met);
+                let preview = Call::Preview { road: 0, time: CLOSED, start, work: 2 * n };
+                free_call(&mut unit, preview, &mut met);
             }
         }
         assert!(met.groups.crossed > 1_000 && met.groups.stray > 10_000_000, "{met:?}");
@@ -433,6 +535,9 @@ fn no_entry_is_asked_twice() {
             free_call(&mut unit, Call::Estimate { junction: 0 }, &mut met);
             unit.estimates.fill(UNASKED);
             free_call(&mut unit, Call::Go { start: 0, route: n, log: n }, &mut met);
+            unit.estimates.fill(UNASKED);
+            let preview = Call::Preview { road: 0, time: CLOSED, start: 0, work: 2 * n };
+            free_call(&mut unit, preview, &mut met);
         }
     });
 }
@@ -484,14 +589,23 @@ fn headers_of_any_size() {
             Call::Aim { junction: 0 },
             Call::Estimate { junction: 0 },
             Call::Go { start: 0, route: n, log: n },
+            Call::Preview { road: 0, time: CLOSED, start: 0, work: 2 * n },
+            // With the length that the header calls for.
+            Call::Preview {
+                road: 0,
+                time: CLOSED,
+                start: 0,
+                work: 2 * header.n.min(9_999) as usize,
+            },
         ] {
             if fits {
                 free_call(&mut unit, call, &mut met);
                 continue;
             }
-            let (mut route, mut log) = lent_areas(call);
-            let answer = unit.call(call, &mut route, &mut log);
+            let mut lent = LentAreas::of(call);
+            let answer = unit.call(call, lent.lend());
             assert_eq!(answer.err(), Some(Refusal::Lengths), "{header:?}");
+            assert!(lent == LentAreas::of(call), "{header:?}: a lent area is altered");
             refusals += 1;
         }
         if !fits {
@@ -521,11 +635,11 @@ fn headers_out_of_range() {
         let before = unit.clone();
         for _ in 0..10 {
             let call = call(&mut random, &unit);
-            let (mut route, mut log) = lent_areas(call);
-            let answer = unit.call(call, &mut route, &mut log);
+            let mut lent = LentAreas::of(call);
+            let answer = unit.call(call, lent.lend());
             assert_eq!(answer.err(), Some(Refusal::Lengths), "{call:?}, {:?}", unit.header);
             assert!(unit == before, "{call:?} alters the unit");
-            assert!((route, log) == lent_areas(call), "{call:?} alters a lent area");
+            assert!(lent == LentAreas::of(call), "{call:?} alters a lent area");
             refused[which] += 1;
         }
     }

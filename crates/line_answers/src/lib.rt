@@ -69,7 +69,7 @@ fn put_trip(total: u64, count: u32, roads: &[u32], out: &mut [u8]) -> usize
     line_texts::put_words(roads, out, last)
 }
 
-// Puts an answer without the end of its line.
+// Puts an answer without the end of its line. No line asks for a preview.
 pub fn put_answer(answer: Answer, route: &[u32], out: &mut [u8]) -> usize
     ensures { λ r. ⌜ Puts (worded (answerIn answer) (now (route .entry))) (now (out .entry)) 0 (now (out .exit)) r ⌝ }
 {
@@ -78,5 +78,6 @@ pub fn put_answer(answer: Answer, route: &[u32], out: &mut [u8]) -> usize
         Answer::Accepted => line_texts::put(b"ok", out, 0),
         Answer::Estimated(t) => put_estimate(t, out),
         Answer::Gone(total, count, roads) => put_trip(total, count, first_roads(route, roads), out),
+        Answer::Previewed(_, _, _) => line_texts::put(b"ok", out, 0),
     }
 }

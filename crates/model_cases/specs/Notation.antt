@@ -2,20 +2,23 @@
 -- `played`. Definitions only.
 use mathlib.Core.Path.{_≡_}
 use mathlib.Core.Bool.{Bool}
+use mathlib.Core.Option.{Option, some}
 use mathlib.Core.List.{List, [], _++_, _∷_, map}
 use Prim.Native.Nat.{_%_, _*_, _+_, _-_, _/_, suc, zero, ℕ}
+use lib.IntN.{negℤ, pos, ℤ}
 use lib.ListN.{drop, getD, length, replicate, take}
+use Rattle.graph.specs.Total.{Total}
 use Rattle.graph.specs.Least.{measured}
 use Rattle.graph.specs.Pairs.{down, up}
 use Rattle.graph.specs.Reach.{upTotal}
 use Rattle.graph.specs.Search.{back, backStep, before, below-or, bestBelow, better, consider, extend, firstVia, hasGoal, is, next}
 use Rattle.graph.specs.Search.{offerVia, offered, push, run, totalIn, wayIn}
-use Rattle.model.specs.Types.{Absent, Accepted, Answer, At, Estimated, Gone, Header, NoPath, Refusal, Refused, Target}
+use Rattle.model.specs.Types.{Absent, Accepted, Answer, At, Estimated, Gone, Header, NoPath, Previewed, Refusal, Refused, Target}
 use Rattle.model.specs.Bytes.{wordAt}
 use Rattle.model.specs.Card.{Rows, Written, writeCard, writeRefusal}
 use Rattle.model.specs.Areas.{Areas, areasOf}
 use Rattle.model.specs.State.{Lent, State, Step, prepare}
-use Rattle.model.specs.Calls.{Call, aimCall, estimateCall, goCall, setCall, step, steps}
+use Rattle.model.specs.Calls.{Call, aimCall, estimateCall, goCall, previewCall, setCall, step, steps}
 
 -- ---- words and cards
 
@@ -194,6 +197,22 @@ abbrev pub est : (junction time : ℕ) → (estimates : List ℕ) → Turn
 est j t estimates = record {
   call = estimateCall j;
   answer = Estimated t;
+  after = λ s. becoming s (s .header .target) (s .areas .live) (s .areas .aimed .down) estimates (s .areas .trip .elapsed);
+  holds = nothing;
+}
+
+-- a change of so many seconds
+abbrev pub more : ℕ → Option ℤ
+more k = some (pos k)
+
+abbrev pub less : ℕ → Option ℤ
+less k = some (negℤ (pos k))
+
+-- an accepted preview, lent twice n words: its totals now and with that time set and their change, with the estimates after it
+abbrev pub preview : (road time start : ℕ) → (present new : Total) → (change : Option ℤ) → (estimates : List ℕ) → Turn
+preview i t j present new change estimates = record {
+  call = previewCall i t j (2 * length estimates);
+  answer = Previewed present new change;
   after = λ s. becoming s (s .header .target) (s .areas .live) (s .areas .aimed .down) estimates (s .areas .trip .elapsed);
   holds = nothing;
 }

@@ -16,7 +16,7 @@ use Rattle.model.specs.State.{Lent, State, Step, answering, prepare}
 use Rattle.model.specs.Machine.{Machine, Told, knownTo, started, targetOf, unlessAsked}
 use Rattle.model.specs.Go.{foundTold, plainSearch}
 use Rattle.model.specs.Calls as calls
-use Rattle.model.specs.Calls.{Aim, Asked, Estimate, Go, Plain, Set, calling, machineStep, plain, refusalOf}
+use Rattle.model.specs.Calls.{Aim, Asked, Estimate, Go, Plain, Preview, Set, calling, machineStep, plain, refusalOf}
 use Rattle.model.specs.Demand3.{Demand3}
 use Rattle.model.specs.Chain.{Chain, chain-demand3}
 use Rattle.unit_answers.specs.Shape.{callIn}
@@ -134,6 +134,7 @@ machine-text M m (Estimate j) r l route h = unless-text (refusalOf (knownTo M m)
 machine-text M m (Go j) r l route h =
     let z = targetOf (m .target) in
     go-text (refusalOf (knownTo M m) (Go j) r l) (timeOf M (m .live) j z) (plainSearch M (m .live) j z) m route h
+machine-text M m (Preview i t j w) r l route h = unless-text (refusalOf (knownTo M m) (Preview i t j w) r l) m _ route refl
 
 texts : (M : Map) (turns : List Turn) (m : Machine) (r : List Step) → Demand3 M m (callsOf turns) r → Prints turns r
     → textsIn turns ≡ machineTexts (linesIn turns) M m

@@ -129,6 +129,11 @@ fn judge(bytes: usize, answered: Answered, out: &mut [u8]) -> Opened
             length: 0,
             prepared: true,
         },
+        Answer::Previewed(_, _, _) => Opened {
+            header: header,
+            length: 0,
+            prepared: true,
+        },
     }
 }
 

@@ -1,7 +1,7 @@
 -- The end of a search: its answer and its areas are those of the definitions. Assumes nothing.
 use mathlib.Core.Path.{_∙_, _≡_, ap, refl, sym}
 use mathlib.Core.Logic.{_⊎_, inl, inr}
-use mathlib.Core.Bool.{Bool, _&&_, _||_, false, not, true}
+use mathlib.Core.Bool.{Bool, _&&_, false, not, true}
 use mathlib.Core.Option.{none, some}
 use mathlib.Core.List.{List, [], _∷_}
 use Prim.Native.Nat.{_*_, _<_, _≤_, ℕ}
@@ -26,7 +26,7 @@ use Rattle.model.specs.Bytes.{listed, wordAt}
 use Rattle.model.specs.State.{first}
 use Rattle.model.specs.Estimate.{filled}
 use Rattle.model.specs.Go.{asks, goAsks, goFills, goRoute, liveOf}
-use Rattle.model.specs.Laws.{listed-at, true-and}
+use Rattle.model.specs.Laws.{listed-at, or-true, true-and, true-or-right}
 use Rattle.model.specs.Ends.{filled-is}
 use Rattle.search_labels.specs.Ways.{arcsBack, wayOf}
 use Rattle.search_labels.specs.Ended.{arcs-back, start-no-later, way-back-is}
@@ -34,18 +34,14 @@ use Rattle.search_junctions.specs.State.{Given, Ready, goGiven, mapGiven}
 use Rattle.search_junctions.specs.Asking.{Asked, asked-head, asked-start}
 use Rattle.search_junctions.specs.Ways.{stepBack}
 use Rattle.search_junctions.specs.Facts.{codes, ready-time}
-use Rattle.search_run.specs.Runs.{Advanced, Written}
-use Rattle.search.specs.Searches.{Found}
+use Rattle.search_run.specs.Runs.{Advanced, Written, writtenOf}
+use Rattle.search.specs.Searches.{Found, FoundTotal}
 
 -- ---- who was asked: the definition's test
 module _ (g : Given) (s z : ℕ) (H : List Entry) where
-  or-cases : (a b : Bool) → a || b ≡ true → (a ≡ true) ⊎ (b ≡ true)
-  or-cases true b h = inl refl
-  or-cases false b h = inr h
-
   asked-of : (a : ℕ) → goAsks (mapGiven g) (liveOf (g .live)) s z H a ≡ true → Asked (goGiven g s z) s z H a
   unfolding goAsks goOf
-  asked-of a h = go (or-cases (eqb s a) (anyBelow (mapGiven g .base .arcs) road) h)
+  asked-of a h = go (or-true (eqb s a) (anyBelow (mapGiven g .base .arcs) road) h)
     where
       N : Map
       N = mapGiven g
@@ -90,11 +86,7 @@ module _ (g : Given) (s z : ℕ) (H : List Entry) where
         true-isNumber (timeIn H (N .base .tail i)) t (ap (timeIn H) (x .from) ∙ h),
         ne-eqb (N .base .tail i) z (λ q. nz (sym (x .from) ∙ q)),
       ) in
-      or-right (eqb s a) (true-anyBelow (N .base .arcs) road i (x .inside) one)
-    where
-      or-right : (b : Bool) {c : Bool} → c ≡ true → b || c ≡ true
-      or-right true q = refl
-      or-right false q = q
+      true-or-right (eqb s a) (true-anyBelow (N .base .arcs) road i (x .inside) one)
 
 -- ---- total and route by the time of the target
 module _ (G : Problem) (z : ℕ) (goals : (v : ℕ) → G .goal v ≡ eqb v z) where
@@ -138,6 +130,10 @@ step-is {g} {s} {z} r vias v li =
     let t = k .reads .tails i lm in
     let b : wordAt (g .roads) (roadSize * i) < g .sizes .n = omega (arith, k .ok .well-formed .inside .tails i li, t, k .reads .size-is) in
     rw (lt-ltb i (g .sizes .m) lm, lt-ltb (wordAt (g .roads) (roadSize * i)) (g .sizes .n) b) (sym t)
+
+-- what a search writes of its own: of what the run leaves, all but the roads that gave the times, and the route in their place
+abbrev pub routed : Written → (route : List ℕ) → Written
+routed w route = writtenOf (w .estimates) (w .elapsed) route (w .log)
 
 -- ---- from what a whole run leaves to the answer
 module _ {g : Given} {s z : ℕ} (r : Ready g s z) {l l′ : Written} {c : ℕ} {complete : Bool}
@@ -183,6 +179,10 @@ module _ {g : Given} {s z : ℕ} (r : Ready g s z) {l l′ : Written} {c : ℕ} 
           (λ a la y f. true-false (true-anyBelow (M .vertices) (λ a. asked a && fills M a v) a la
           (true-and (asked a) (fills M a v) (asks-of g s z H a y) f)) q)
 
+  -- the total alone
+  pub answer-total : {total : ℕ} → total ≡ getD (l′ .elapsed) z 0 → FoundTotal g s z (l .estimates) (l′ .estimates) total
+  answer-total {total} read = record { total-is = total-word total read; fits = total-fits; estimates-are = estimates-are }
+
   -- the start's time is its start time, and no other junction has one
   begins-is : (v t : ℕ) → timeIn (history (goGiven g s z)) v ≡ some t → eqb v s ≡ is (goGiven g s z .start v) t
   unfolding is
@@ -199,23 +199,19 @@ module _ {g : Given} {s z : ℕ} (r : Ready g s z) {l l′ : Written} {c : ℕ} 
     -- what does not depend on the route
     found-with : {number : ℕ} {route : List ℕ} → number ≡ length (routeOf (goGiven g s z))
         → route ≡ goRoute (totalOf (goGiven g s z)) (routeOf (goGiven g s z)) route₀
-        → Found (g .roads) (g .order) (g .live) s z (l .estimates) route₀ (l .log) (l′ .estimates) (l′ .elapsed) route (l′ .log)
-        total c number
+        → Found g s z (routed l route₀) (routed l′ route) total c number
     unfolding logOf
     found-with a b = record {
-      total-is = total-word total read;
-      fits = total-fits;
+      least = answer-total read;
       count-is = x .count-is ∙ count-is (codes r .ok .well-formed);
       number-is = a;
-      estimates-are = estimates-are;
       elapsed-is = elapsed-is;
       route-is = b;
       log-is = x .log-is;
     }
 
     -- no path
-    pub answer-lost : eqb total noneWord ≡ true
-        → Found (g .roads) (g .order) (g .live) s z (l .estimates) route₀ (l .log) (l′ .estimates) (l′ .elapsed) route₀ (l′ .log) total c 0
+    pub answer-lost : eqb total noneWord ≡ true → Found g s z (routed l route₀) (routed l′ route₀) total c 0
     unfolding routeOf
     answer-lost q =
         let p = word-none total (totalOf (goGiven g s z)) (total-word total read) (λ t e. omega (arith, total-fits t e))
@@ -228,8 +224,7 @@ module _ {g : Given} {s z : ℕ} (r : Ready g s z) {l l′ : Written} {c : ℕ} 
     pub answer-found : {number : ℕ} {route : List ℕ} → eqb total noneWord ≡ false
         → number ≡ arcsBack (λ u. eqb u s) (stepBack (g .roads) (l′ .ways) (g .sizes .n) (g .sizes .m)) (g .sizes .n) z
         → route ≡ first (wayOf (λ u. getD (l′ .ways) u 0) (stepBack (g .roads) (l′ .ways) (g .sizes .n) (g .sizes .m)) number z) route₀
-        → Found (g .roads) (g .order) (g .live) s z (l .estimates) route₀ (l .log) (l′ .estimates) (l′ .elapsed) route (l′ .log)
-        total c number
+        → Found g s z (routed l route₀) (routed l′ route) total c number
     unfolding routeOf
     answer-found {number} q a b =
         let k = codes r in

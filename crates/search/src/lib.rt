@@ -1,11 +1,15 @@
-// The search of a go (document 01: the search log): a run whose budget never ends it, its total and its route.
+// The search of a go (document 01: the search log): a run whose budget never ends it, its total and its route. The two searches of a
+// preview (document 02, A2): the total alone, twice.
+ghost use lib.ListN.{length};
+ghost use Rattle.search_junctions.specs.Views.{seen};
 ghost use Rattle.search_junctions.specs.State.{given};
-ghost use Rattle.search_run.specs.Runs.{Lends, written};
-ghost use Rattle.search.specs.Searches.{SearchesIn};
+ghost use Rattle.search_run.specs.Runs.{Lends, Within, written};
+ghost use Rattle.search.specs.Searches.{FindsBoth, FindsTotal, LendsBoth, Searches};
 use network::MOST_JUNCTIONS;
 use network::Time;
 use network::TimeWord;
 use search_junctions::Trip;
+use search_junctions::View;
 use search_run::advance;
 use search_run::way_back;
 
@@ -35,9 +39,9 @@ pub fn search(
     route: &mut [u32],
     log: &mut [u32],
 ) -> Searched
-    requires { ⌜ Lends (given (trip .sizes) roads order ranks pairs live down) (now leaving) (now groups) (trip .start .0) (trip .target .0)
+    requires { ⌜ Lends (given trip roads order ranks pairs live down) (now leaving) (now groups) (trip .start .0) (trip .target .0)
         (written estimates elapsed route log) ⌝ }
-    ensures { λ r. ⌜ SearchesIn (given (trip .sizes) (roads .entry) (order .entry) (ranks .entry) (pairs .entry) (live .entry)
+    ensures { λ r. ⌜ Searches (given trip (roads .entry) (order .entry) (ranks .entry) (pairs .entry) (live .entry)
         (down .entry)) (now (leaving .entry)) (now (groups .entry)) (trip .start .0) (trip .target .0)
         (written (estimates .entry) (elapsed .entry) (route .entry) (log .entry))
         (written (estimates .exit) (elapsed .exit) (route .exit) (log .exit)) (r .total .0) (r .count) (r .roads) ⌝ }
@@ -77,5 +81,121 @@ pub fn search(
         total: total,
         count: logged.count,
         roads: number,
+    }
+}
+
+// ---- the two searches of a preview
+
+// The total of a search, whose log and route are not kept.
+fn least_total(
+    trip: Trip,
+    roads: &[u8],
+    order: &[u8],
+    ranks: &[u32],
+    pairs: &[u32],
+    live: &[TimeWord],
+    down: &[TimeWord],
+    leaving: &[u32],
+    groups: &[u32],
+    estimates: &mut [TimeWord],
+    elapsed: &mut [TimeWord],
+) -> Time
+    requires { ⌜ Within (given trip roads order ranks pairs live down) (now leaving) (now groups) (trip .start .0) (trip .target .0)
+        (length (now estimates)) (length (now elapsed)) ⌝ }
+    ensures { λ r. ⌜ FindsTotal (given trip (roads .entry) (order .entry) (ranks .entry) (pairs .entry) (live .entry) (down .entry))
+        (now (leaving .entry)) (now (groups .entry)) (trip .start .0) (trip .target .0)
+        (now (estimates .entry)) (now (estimates .exit)) (r .0) ⌝ }
+{
+    let mut vias = [0u32; JUNCTIONS];
+    let mut log = [0u32; JUNCTIONS];
+    let target = trip.target;
+    // no junction is logged twice
+    let budget = trip.sizes.n;
+    advance(
+        trip,
+        budget,
+        roads,
+        order,
+        ranks,
+        pairs,
+        live,
+        down,
+        leaving,
+        groups,
+        estimates,
+        elapsed,
+        &mut vias,
+        &mut log,
+    );
+    Time::of_word(elapsed[target.0 as usize])
+}
+
+// The totals of a preview, each none where there is no chain.
+pub struct TwoTotals {
+    pub present: Time,
+    pub new: Time,
+}
+
+// The total of a trip at its times, and at those of another view: one search after the other, each with its half of the work area in
+// elapsed's place.
+pub fn totals(
+    trip: Trip,
+    view: View,
+    roads: &[u8],
+    order: &[u8],
+    ranks: &[u32],
+    pairs: &[u32],
+    live: &[TimeWord],
+    down: &[TimeWord],
+    leaving: &[u32],
+    groups: &[u32],
+    estimates: &mut [TimeWord],
+    work: &mut [TimeWord],
+) -> TwoTotals
+    requires { ⌜ LendsBoth (given trip roads order ranks pairs live down) (now leaving) (now groups) (trip .start .0) (trip .target .0)
+        (now estimates) (now work) ⌝ }
+    ensures { λ r. ⌜ FindsBoth (given trip (roads .entry) (order .entry) (ranks .entry) (pairs .entry) (live .entry) (down .entry))
+        (seen view (now (live .entry))) (now (leaving .entry)) (now (groups .entry)) (trip .start .0) (trip .target .0)
+        (now (estimates .entry)) (now (estimates .exit)) (r .present .0) (r .new .0) ⌝ }
+{
+    let sizes = trip.sizes;
+    let start = trip.start;
+    let target = trip.target;
+    let n = sizes.n as usize;
+    let present = least_total(
+        trip,
+        roads,
+        order,
+        ranks,
+        pairs,
+        live,
+        down,
+        leaving,
+        groups,
+        estimates,
+        &mut work[..n],
+    );
+    let other = Trip {
+        sizes: sizes,
+        start: start,
+        target: target,
+        view: view,
+    };
+    let new = least_total(
+        other,
+        roads,
+        order,
+        ranks,
+        pairs,
+        live,
+        down,
+        leaving,
+        groups,
+        estimates,
+        &mut work[n..],
+    );
+    TwoTotals {
+        present: present,
+        new: new,
     }
 }

@@ -1,4 +1,5 @@
 pub mod Groups
+pub mod Seeing
 pub mod Opens
 pub mod Heads
 pub mod Roads

@@ -13,6 +13,8 @@ use Rattle.model.specs.Set.{settable}
 use Rattle.model.specs.Go.{liveOf, searchOf}
 use Rattle.network.specs.declared.Sizes.{Sizes}
 use Rattle.network.specs.Bodies.{Prepared, mapIn}
+use Rattle.search_junctions.specs.declared.Trip.{Trip}
+use Rattle.search_junctions.specs.Views.{seen}
 
 -- ---- what is given to the search: it reads this, and alters nothing of it
 pub record Given : Type 0 where
@@ -21,15 +23,16 @@ pub record Given : Type 0 where
   pub order : List ℕ
   pub ranks : List ℕ
   pub pairs : List ℕ
+  -- the times that it goes by
   pub live : List ℕ
   pub down : List ℕ
 
 abbrev pub givenOf : Sizes → (roads order ranks pairs live down : List ℕ) → Given
 givenOf n a b c d e f = record { sizes = n; roads = a; order = b; ranks = c; pairs = d; live = e; down = f }
 
--- the same of what is lent to a function
-abbrev pub given : Sizes → (roads order ranks pairs live down : RefT (List ℕ)) → Given
-given n a b c d e f = givenOf n (a .now) (b .now) (c .now) (d .now) (e .now) (f .now)
+-- the same of what is lent to a function, at the times that the trip goes by
+abbrev pub given : Trip → (roads order ranks pairs live down : RefT (List ℕ)) → Given
+given t a b c d e f = givenOf (t .sizes) (a .now) (b .now) (c .now) (d .now) (seen (t .view) (e .now)) (f .now)
 
 -- the map that the bodies hold, and document 01's search on it
 abbrev pub mapGiven : Given → Map
@@ -57,9 +60,9 @@ pub record Sized (n m count : ℕ) (roads order ranks pairs live down estimates 
   pub estimates-are : estimates ≡ n
   pub elapsed-is : elapsed ≡ n
 
-abbrev pub SizedIn : Given → (estimates elapsed : List ℕ) → Type 0
-SizedIn g e t = Sized (g .sizes .n) (g .sizes .m) (g .sizes .pairs) (length (g .roads)) (length (g .order)) (length (g .ranks))
-    (length (g .pairs)) (length (g .live)) (length (g .down)) (length e) (length t)
+abbrev pub SizedIn : Given → (estimates elapsed : ℕ) → Type 0
+SizedIn g = Sized (g .sizes .n) (g .sizes .m) (g .sizes .pairs) (length (g .roads)) (length (g .order)) (length (g .ranks))
+    (length (g .pairs)) (length (g .live)) (length (g .down))
 
 -- ---- what the search relies on
 

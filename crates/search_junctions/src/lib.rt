@@ -9,6 +9,7 @@ ghost use Rattle.model.specs.Bytes.{wordAt};
 ghost use Rattle.pairs_hierarchy.specs.Estimates.{Estimated};
 ghost use Rattle.search_labels.specs.Labelling.{Room, Taken, labelling};
 ghost use Rattle.search_junctions.specs.Groups.{partOf};
+ghost use Rattle.search_junctions.specs.Views.{seen};
 ghost use Rattle.search_junctions.specs.State.{given};
 ghost use Rattle.search_junctions.specs.Asking.{Asks, AsksGroup, EstimatesIn, PairsIn};
 ghost use Rattle.search_junctions.specs.Relaxing.{ReadIn, Relaxes, RelaxesGroup, readOf};
@@ -40,18 +41,42 @@ pub fn group_at(leaving: &[u32], a: u32, b: u32) -> &[u32]
     &leaving[start..end]
 }
 
-// The time of a road in force, none where it is closed: a road is open if it has one.
-fn cost_of(live: &[TimeWord], i: u32) -> Time
-    requires { ⌜ i < length (now live) ⌝ }
-    ensures { λ r. ⌜ r .0 ≡ getD (now (live .entry)) i 0 ⌝ }
-{
-    let k = i as usize;
-    Time::of_word(live[k])
+// ---- a trip
+
+// The times that a trip goes by: the live times, or these with one road's time set (document 02, A2).
+pub enum View {
+    Live,
+    Set(u32, Time),
 }
+
+impl View {
+    // The time of a road in force, none where it is closed: a road is open if it has one.
+    fn time_of(self, live: &[TimeWord], i: u32) -> Time
+        requires { ⌜ i < length (seen self (now live)) ⌝ }
+        ensures { λ r. ⌜ r .0 ≡ getD (seen self (now (live .entry))) i 0 ⌝ }
+    {
+        let k = i as usize;
+        let time = Time::of_word(live[k]);
+        match self {
+            View::Live => time,
+            View::Set(road, other) => if road == i { other } else { time },
+        }
+    }
+}
+
+// A trip on a map of so many junctions and roads, from the start to the target.
+pub struct Trip {
+    pub sizes: Sizes,
+    pub start: Junction,
+    pub target: Junction,
+    pub view: View,
+}
+
+// ---- one road
 
 // Asks the estimate of the head of road i, if the road is open. Most are known, and need no call.
 fn ask_head(
-    sizes: Sizes,
+    trip: Trip,
     roads: &[u8],
     order: &[u8],
     ranks: &[u32],
@@ -61,11 +86,13 @@ fn ask_head(
     estimates: &mut [TimeWord],
     i: u32,
 )
-    requires { ⌜ (i < sizes .m) × EstimatesIn (given sizes roads order ranks pairs live down) (now estimates) ⌝ }
-    ensures { λ _. ⌜ Asks (given sizes (roads .entry) (order .entry) (ranks .entry) (pairs .entry) (live .entry) (down .entry))
+    requires { ⌜ (i < trip .sizes .m) × EstimatesIn (given trip roads order ranks pairs live down) (now estimates) ⌝ }
+    ensures { λ _. ⌜ Asks (given trip (roads .entry) (order .entry) (ranks .entry) (pairs .entry) (live .entry) (down .entry))
         (wordAt (now (roads .entry)) (roadSize * i)) i (i + 1) (now (estimates .entry)) (now (estimates .exit)) ⌝ }
 {
-    let cost = cost_of(live, i);
+    let sizes = trip.sizes;
+    let view = trip.view;
+    let cost = view.time_of(live, i);
     if cost.is_closed() {
         return;
     }
@@ -82,7 +109,7 @@ fn ask_head(
 
 // Relaxes road i, whose tail has the time `from`: if it is open, it offers its head a time.
 fn relax_road(
-    sizes: Sizes,
+    trip: Trip,
     roads: &[u8],
     live: &[TimeWord],
     estimates: &[TimeWord],
@@ -93,13 +120,16 @@ fn relax_road(
     i: u32,
     from: Time,
 )
-    requires { ⌜ (i < sizes .m) × ReadIn (readOf sizes roads live estimates) × Room (sizes .n) (labelling times keys vias tree) ⌝ }
-    ensures { λ _. ⌜ Relaxes (readOf sizes (roads .entry) (live .entry) (estimates .entry))
+    requires { ⌜ (i < trip .sizes .m) × ReadIn (readOf trip roads live estimates)
+        × Room (trip .sizes .n) (labelling times keys vias tree) ⌝ }
+    ensures { λ _. ⌜ Relaxes (readOf trip (roads .entry) (live .entry) (estimates .entry))
         (wordAt (now (roads .entry)) (roadSize * i)) (from .0) i (i + 1)
         (labelling (times .entry) (keys .entry) (vias .entry) (tree .entry))
         (labelling (times .exit) (keys .exit) (vias .exit) (tree .exit)) ⌝ }
 {
-    let cost = cost_of(live, i);
+    let sizes = trip.sizes;
+    let view = trip.view;
+    let cost = view.time_of(live, i);
     if cost.is_closed() {
         return;
     }
@@ -113,13 +143,6 @@ fn relax_road(
 }
 
 // ---- where a trip leads
-
-// A trip on a map of so many junctions and roads, from the start to the target.
-pub struct Trip {
-    pub sizes: Sizes,
-    pub start: Junction,
-    pub target: Junction,
-}
 
 impl Trip {
     // Asks the start's estimate.
@@ -171,19 +194,18 @@ impl Trip {
         estimates: &mut [TimeWord],
         group: &[u32],
     )
-        requires { ⌜ EstimatesIn (given (self .sizes) roads order ranks pairs live down) (now estimates) ⌝ }
+        requires { ⌜ EstimatesIn (given self roads order ranks pairs live down) (now estimates) ⌝ }
         ensures { λ _. ⌜ AsksGroup
-            (given (self .sizes) (roads .entry) (order .entry) (ranks .entry) (pairs .entry) (live .entry) (down .entry))
+            (given self (roads .entry) (order .entry) (ranks .entry) (pairs .entry) (live .entry) (down .entry))
             (now (group .entry)) (now (estimates .entry)) (now (estimates .exit)) ⌝ }
     {
-        let sizes = self.sizes;
-        let m = sizes.m;
+        let m = self.sizes.m;
         let mut k = 0;
         while k < group.len() {
             let i = group[k];
             k += 1;
             if i < m {
-                ask_head(sizes, roads, order, ranks, pairs, live, down, estimates, i);
+                ask_head(self, roads, order, ranks, pairs, live, down, estimates, i);
             }
         }
     }
@@ -201,15 +223,14 @@ impl Trip {
         group: &[u32],
         u: u32,
     )
-        requires { ⌜ (u < self .sizes .n) × ReadIn (readOf (self .sizes) roads live estimates)
+        requires { ⌜ (u < self .sizes .n) × ReadIn (readOf self roads live estimates)
             × Room (self .sizes .n) (labelling times keys vias tree) ⌝ }
-        ensures { λ _. ⌜ RelaxesGroup (readOf (self .sizes) (roads .entry) (live .entry) (estimates .entry))
+        ensures { λ _. ⌜ RelaxesGroup (readOf self (roads .entry) (live .entry) (estimates .entry))
             (now (group .entry)) u (getD (now (times .entry)) u 0)
             (labelling (times .entry) (keys .entry) (vias .entry) (tree .entry))
             (labelling (times .exit) (keys .exit) (vias .exit) (tree .exit)) ⌝ }
     {
-        let sizes = self.sizes;
-        let m = sizes.m;
+        let m = self.sizes.m;
         let from = Time::of_word(times[u as usize]);
         let mut j = 0;
         while j < group.len() {
@@ -217,7 +238,7 @@ impl Trip {
             j += 1;
             if i < m {
                 relax_road(
-                    sizes,
+                    self,
                     roads,
                     live,
                     estimates,

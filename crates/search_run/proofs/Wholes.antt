@@ -35,7 +35,7 @@ use Rattle.search_labels.specs.Labelled.{Labels}
 use Rattle.search_labels.specs.Log.{next-chosen}
 use Rattle.search_labels.specs.Ended.{way-at}
 use Rattle.search_junctions.specs.Groups.{IsGroup, partOf}
-use Rattle.search_junctions.specs.State.{Given, Ready, Sized, goGiven}
+use Rattle.search_junctions.specs.State.{Given, Ready, Sized, SizedIn, goGiven}
 use Rattle.search_junctions.specs.Asking.{AsksGroup, EstimatesIn, PairsIn}
 use Rattle.search_junctions.specs.Firsts.{Begins, Blank}
 use Rattle.search_junctions.specs.Relaxing.{ReadIn, RelaxesGroup}
@@ -109,9 +109,7 @@ pairs-in x q = record {
   estimates-are = q ∙ x .estimates-are;
 }
 
-pub asking : {g : Given} {e t : ℕ} {e′ : List ℕ}
-    → Sized (g .sizes .n) (g .sizes .m) (g .sizes .pairs) (length (g .roads)) (length (g .order)) (length (g .ranks)) (length (g .pairs))
-    (length (g .live)) (length (g .down)) e t → length e′ ≡ e → EstimatesIn g e′
+pub asking : {g : Given} {e t : ℕ} {e′ : List ℕ} → SizedIn g e t → length e′ ≡ e → EstimatesIn g e′
 asking x q = record { over = pairs-in x q; m-high = x .m-high; roads-are = x .roads-are; live-is = x .live-is }
 
 pub reading : {z : Sizes} {roads live e′ : List ℕ} {order ranks pairs down e t : ℕ}
@@ -358,8 +356,8 @@ advances {g} {budget = budget} {most} {l₀} {l₁ = l₁} lends begun cleared t
   kept = kept-trans (begun .kept) (x .kept);
   count-le = omega (arith, x .count-le);
   exact = λ r made a.
-      let ch = top (orderOf l₁) (omega (arith, lends .start-in)) (begun .room .n-high) (begun .room .right) in
-      let none = cleared ∙ ap (λ (k : ℕ). replicate k noneWord) (lends .sized .elapsed-is) in
+      let ch = top (orderOf l₁) (omega (arith, lends .within .start-in)) (begun .room .n-high) (begun .room .right) in
+      let none = cleared ∙ ap (λ (k : ℕ). replicate k noneWord) (lends .within .sized .elapsed-is) in
       let d = x .goes (l₀ .estimates) (l₀ .log) r made (omega (arith, lends .log-long))
       (going-start r (begun .exact (g .roads) (g .live) _ r a) none ch) in
       advanced r d budget (omega (arith, x .count-le))

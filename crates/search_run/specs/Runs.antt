@@ -32,16 +32,20 @@ writtenOf a b c d = record { estimates = a; elapsed = b; ways = c; log = d }
 abbrev pub written : (estimates elapsed ways log : RefT (List ℕ)) → Written
 written a b c d = writtenOf (a .now) (b .now) (c .now) (d .now)
 
--- start and target are junctions; the roads by tail have an entry for each road, their groups one for each junction and one more; and there
--- is room for what is written
-pub record Lends (g : Given) (leaving groups : List ℕ) (s z : ℕ) (l : Written) : Type 0 where
+-- start and target are junctions; the roads by tail have an entry for each road, their groups one for each junction and one more; what is
+-- given, estimates and elapsed have their lengths
+pub record Within (g : Given) (leaving groups : List ℕ) (s z : ℕ) (estimates elapsed : ℕ) : Type 0 where
   pub start-in : s < g .sizes .n
   pub target-in : z < g .sizes .n
   pub leaving-is : length leaving ≡ g .sizes .m
   pub groups-are : length groups ≡ suc (g .sizes .n)
+  pub sized : SizedIn g estimates elapsed
+
+-- and there is room for what is written
+pub record Lends (g : Given) (leaving groups : List ℕ) (s z : ℕ) (l : Written) : Type 0 where
+  pub within : Within g leaving groups s z (length (l .estimates)) (length (l .elapsed))
   pub ways-long : g .sizes .n ≤ length (l .ways)
   pub log-long : g .sizes .n ≤ length (l .log)
-  pub sized : SizedIn g (l .estimates) (l .elapsed)
 
 -- ---- what a run leaves
 

@@ -60,9 +60,9 @@ pub fn advance(
     vias: &mut [u32],
     log: &mut [u32],
 ) -> Progress
-    requires { ⌜ Lends (given (trip .sizes) roads order ranks pairs live down) (now leaving) (now groups) (trip .start .0) (trip .target .0)
+    requires { ⌜ Lends (given trip roads order ranks pairs live down) (now leaving) (now groups) (trip .start .0) (trip .target .0)
         (written estimates elapsed vias log) ⌝ }
-    ensures { λ r. ⌜ Advances (given (trip .sizes) (roads .entry) (order .entry) (ranks .entry) (pairs .entry) (live .entry) (down .entry))
+    ensures { λ r. ⌜ Advances (given trip (roads .entry) (order .entry) (ranks .entry) (pairs .entry) (live .entry) (down .entry))
         (now (leaving .entry)) (now (groups .entry)) (trip .start .0) (trip .target .0) budget
         (written (estimates .entry) (elapsed .entry) (vias .entry) (log .entry))
         (written (estimates .exit) (elapsed .exit) (vias .exit) (log .exit)) (r .count) (r .complete) ⌝ }

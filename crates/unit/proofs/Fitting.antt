@@ -53,12 +53,12 @@ module _ {h : Header} {card : List ℕ} {l : Each ℕ} (k : Fits h card l) where
   pub order-sized : {order : List ℕ} → order ≡ orderIn card (h .n) (h .m) → length order ≡ 4 * h .n
   order-sized {order} e = order-length card order (h .n) (h .m) e (k .size)
 
--- what go's search needs
+-- what a search needs; t is the length of what stands in elapsed's place
 pub sized : (a : Areas) {h : Header} {card : List ℕ} → Fits h card (lengths a)
-    → {roads order : List ℕ} → roads ≡ roadsIn card (h .m) → order ≡ orderIn card (h .n) (h .m)
+    → {roads order : List ℕ} → roads ≡ roadsIn card (h .m) → order ≡ orderIn card (h .n) (h .m) → {t : ℕ} → t ≡ h .n
     → Sized (h .n) (h .m) (h .pairs) (length roads) (length order) (length (a .built .ranks)) (length (a .built .pairs)) (length (a .live))
-    (length (a .aimed .down)) (length (a .aimed .estimates)) (length (a .trip .elapsed))
-sized a {h} {card} k {roads} er eo = record {
+    (length (a .aimed .down)) (length (a .aimed .estimates)) t
+sized a {h} {card} k {roads} er eo elapsed-is = record {
   n-high = k .n-high;
   m-high = k .m-high;
   count-high = pairs-few k;
@@ -69,5 +69,5 @@ sized a {h} {card} k {roads} er eo = record {
   live-is = k .lengths .live;
   down-is = k .lengths .down;
   estimates-are = k .lengths .estimates;
-  elapsed-is = k .lengths .elapsed;
+  elapsed-is = elapsed-is;
 }

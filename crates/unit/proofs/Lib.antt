@@ -3,4 +3,6 @@ pub mod Fitting
 pub mod Refused
 pub mod Questions
 pub mod Made
+pub mod Trips
 pub mod Going
+pub mod Previewing

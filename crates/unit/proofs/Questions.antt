@@ -18,11 +18,12 @@ use Rattle.model.specs.Set.{setRefusal, settable}
 use Rattle.model.specs.Aim.{aimRefusal}
 use Rattle.model.specs.Estimate.{estimateRefusal}
 use Rattle.model.specs.Go.{goAnswer, goRefusal}
-use Rattle.model.specs.Calls.{Aim, Estimate, Set}
+use Rattle.model.specs.Preview.{previewRefusal, workSize}
+use Rattle.model.specs.Calls.{Aim, Estimate, Go, Preview, Set, knownOf}
 use Rattle.model.specs.Contracts.{baseOn}
 use Rattle.card_layout.specs.Parts.{roadsIn}
 use Rattle.unit_questions.specs.Lending.{fitsBy}
-use Rattle.unit.specs.Meets.{asks, asksGo}
+use Rattle.unit.specs.Meets.{asks, asksTrip, asksWay, targetAsked}
 use Rattle.unit.proofs.Bodies.{road-word}
 
 -- a question and what follows it
@@ -62,7 +63,7 @@ module _ (base : ℕ → Total) (h : Header) (card : ℕ) (l : Each ℕ) where
   pub go-asks : (s r k : ℕ) {x : Option Refusal}
       → x ≡ ask (fitsBy h card l) Lengths (ask (ltb s (h .n)) NoJunction (ask (isAt (h .target)) NoTarget
       (ask (leb (h .n) r && leb (h .n) k) LentLengths (ask (ltb (targetOf (h .target)) (h .n)) Lengths none))))
-      → x ≡ asksGo base h card l s r k
+      → x ≡ asksTrip base h card l (Go s) r k
   unfolding goRefusal
   go-asks s r k e =
       e ∙ in-a-row (fitsBy h card l) (ltb s (h .n)) (isAt (h .target)) (leb (h .n) r && leb (h .n) k) (ltb (targetOf (h .target)) (h .n))
@@ -88,6 +89,31 @@ module _ (card : List ℕ) (h : Header) (l : Each ℕ) (i t : ℕ) {fits : Bool}
   set-11 f k asked-is roads-are base-is allowed-is =
       let read = base-is ∙ ap (λ (x : List ℕ). wordAt x (12 * i + 8)) roads-are ∙ road-word card (h .m) i k in
       asked-is ∙ rw (sym told ∙ f, lt-ltb i (h .m) k, allowed-is, read)
+
+-- ---- a preview's: 9 of its work area, then a set's, then those of the way
+
+-- 9 may come in two halves, and the target's range follows 12 and 13: one row of questions
+preview-row : (fits work b c : Bool) (set target : Option Refusal)
+    → ask work Lengths (andThen (ask fits Lengths set) (ask b NoJunction (ask c NoTarget target)))
+    ≡ andThen (ask fits Lengths (ask work Lengths (andThen set (ask b NoJunction (ask c NoTarget none))))) target
+preview-row false false b c set target = refl
+preview-row true false b c set target = refl
+preview-row false true b c set target = refl
+preview-row true true b c (some q) target = refl
+preview-row true true false c none target = refl
+preview-row true true true false none target = refl
+preview-row true true true true none target = refl
+
+-- work is what 9 was told of the work area's length w, set what set_asked said, way what way_asked said
+pub preview-asks : (card : List ℕ) (h : Header) (l : Each ℕ) (i t j w : ℕ) {work : Bool} {x rest set way : Option Refusal}
+    → x ≡ ask work Lengths rest → work ≡ eqb w (workSize (h .n)) → rest ≡ andThen set way
+    → set ≡ asks (baseOn card) h (length card) l (Set i t) 0 0 → way ≡ asksWay h j
+    → x ≡ asksTrip (baseOn card) h (length card) l (Preview i t j w) 0 0
+unfolding previewRefusal estimateRefusal
+preview-asks card h l i t j w asked-is work-is rest-is set-is way-is =
+    asked Lengths asked-is work-is (rest-is ∙ ap₂ andThen set-is way-is)
+    ∙ preview-row (fitsBy h (length card) l) (eqb w (workSize (h .n))) (ltb j (h .n)) (isAt (h .target))
+    (setRefusal (knownOf (baseOn card) h) i t) (targetAsked h)
 
 -- ---- go's answer
 

@@ -6,19 +6,21 @@ use mathlib.Core.Option.{Option, none, some}
 use mathlib.Core.List.{List}
 use Prim.Native.Nat.{_+_, _<_, ℕ}
 use borrow.Author.Tests.{le-ltb}
+use lib.Dec.{eqb}
 use lib.ListN.{length}
 use native.Mathlib.Decide.{decLt}
 use native.Mathlib.Omega.{arith}
 use Rattle.graph.specs.Total.{Tested, and-true, decide, none-some, some-some, true-false}
 use Rattle.model.specs.Types.{Header, Lengths, Refusal}
-use Rattle.model.specs.Card.{ask, mapOn}
+use Rattle.model.specs.Card.{andThen, ask, mapOn}
 use Rattle.model.specs.Areas.{Areas, lengths}
 use Rattle.model.specs.State.{Lent, State, Step, fitting, inRange}
 use Rattle.model.specs.Set.{setRefusal}
 use Rattle.model.specs.Aim.{aimRefusal}
 use Rattle.model.specs.Estimate.{estimateRefusal}
 use Rattle.model.specs.Go.{goRefusal}
-use Rattle.model.specs.Calls.{Aim, Asked, Call, Estimate, Go, Left, Set, Writes, calling, made, refusalBy, step}
+use Rattle.model.specs.Preview.{previewRefusal, workSize}
+use Rattle.model.specs.Calls.{Aim, Asked, Call, Estimate, Go, Left, Preview, Set, Writes, calling, knownOf, made, refusalBy, step}
 use Rattle.model.specs.Contracts.{CallContract, baseOn, before, refusing}
 use Rattle.model.specs.Good.{Good, left-good, left-in-range, zero-refused}
 use Rattle.model.specs.Chain.{step-lengths}
@@ -27,25 +29,38 @@ use Rattle.unit.proofs.Bodies.{good-base, road-word}
 
 -- ---- in a state that a list of calls left
 
+-- the card's base time is the map's, so 10 and 11 refuse the same
+pub set-same : {card : List ℕ} {s : State} (i t : ℕ) → (i < s .header .m → Good card s)
+    → setRefusal (knownOf (mapOn card .base .cost) (s .header)) i t ≡ setRefusal (knownOf (baseOn card) (s .header)) i t
+unfolding setRefusal
+set-same {card} {s} i t good = go (decLt i (s .header .m))
+  where
+    go : Dec (i < s .header .m)
+        → setRefusal (knownOf (mapOn card .base .cost) (s .header)) i t ≡ setRefusal (knownOf (baseOn card) (s .header)) i t
+    go (yes b) = rw (good-base (good b) i b ∙ ap some (road-word card (s .header .m) i b))
+    go (no b) = rw (le-ltb i (s .header .m) (omega arith))
+
 module _ {card : List ℕ} {s : State} (w : Left card s) where
   -- the card's base times are the map's, so the same questions refuse
   same-questions : (c : Call) → refusalBy (mapOn card .base .cost) (s .header) c ≡ refusalBy (baseOn card) (s .header) c
-  unfolding setRefusal aimRefusal estimateRefusal goRefusal
+  unfolding aimRefusal estimateRefusal goRefusal previewRefusal
   same-questions c = go (c .asked) (c .lent)
     where
-      set-same : (i t : ℕ) → Dec (i < s .header .m) → (l : Lent)
-          → refusalBy (mapOn card .base .cost) (s .header) (calling (Set i t) l) ≡ refusalBy (baseOn card) (s .header) (calling (Set i t) l)
-      set-same i t (yes b) l =
-          let g = left-good w (omega arith) in
-          rw (good-base g i b ∙ ap some (road-word card (s .header .m) i b))
-      set-same i t (no b) l = rw (le-ltb i (s .header .m) (omega arith))
+      good : (i : ℕ) → i < s .header .m → Good card s
+      good i b = left-good w (omega arith)
+
+      -- what a preview asks once x has told what a set would
+      previewed : (j work : ℕ) → Option Refusal → Option Refusal
+      previewed j work x =
+          ask (eqb work (workSize (s .header .n))) Lengths (andThen x (estimateRefusal (knownOf (baseOn card) (s .header)) j))
 
       go : (a : Asked) (l : Lent)
           → refusalBy (mapOn card .base .cost) (s .header) (calling a l) ≡ refusalBy (baseOn card) (s .header) (calling a l)
-      go (Set i t) l = set-same i t (decLt i (s .header .m)) l
+      go (Set i t) l = set-same i t (good i)
       go (Aim j) l = refl
       go (Estimate j) l = refl
       go (Go j) l = refl
+      go (Preview i t j work) l = ap (previewed j work) (set-same i t (good i))
 
 -- a call that none of its own questions refuses is made where there is a junction or a road
 passed-there : (base : ℕ → Option ℕ) (h : Header) (c : Call) → refusalBy base h c ≡ none → 0 < h .n + h .m

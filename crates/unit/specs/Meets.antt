@@ -11,10 +11,12 @@ use Rattle.model.specs.Types as model
 use Rattle.model.specs.Card.{andThen, ask}
 use Rattle.model.specs.Areas.{Areas, Each, lengths}
 use Rattle.model.specs.State.{Lent}
-use Rattle.model.specs.Machine.{targetOf}
-use Rattle.model.specs.Calls.{Aim, Asked, Estimate, Go, Set, calling, knownOf, refusalOf}
+use Rattle.model.specs.Machine.{isAt, targetOf}
+use Rattle.model.specs.Preview.{WorkLeft}
+use Rattle.model.specs.Calls.{Aim, Asked, Estimate, Preview, Set, calling, knownOf, refusalOf}
 use Rattle.model.specs.Contracts.{CallContract, after, before}
 use Rattle.network.specs.Lending.{Slice}
+use Rattle.unit_answers.specs.Shape.{answerIn}
 use Rattle.unit_questions.specs.Lending.{fitsBy, untouched}
 use Rattle.unit.specs.declared.Header.{Header}
 use Rattle.unit.specs.declared.Answered.{Answered}
@@ -30,16 +32,29 @@ Meets card h a l c r = CallContract card (before (headerIn h) (a .entry)) (calli
 abbrev pub MeetsAlone : (card : List ℕ) → Header → Both Areas Areas → Asked → Answered → Type 0
 MeetsAlone card h a c r = (l : Lent) → Meets card h a (untouched l) c r
 
+-- a preview is lent a work area beside them, of whose content nothing is said
+pub record MeetsPreview (card : List ℕ) (h : Header) (a : Both Areas Areas) (work work′ : List ℕ) (road time start : ℕ) (r : Answered)
+    : Type 0 where
+  pub call : MeetsAlone card h a (Preview road time start (length work)) r
+  pub work-left : WorkLeft work work′ (answerIn (r .answer))
+
 -- ---- questions 9 to 14, of the header and of lengths
 
 -- 9 first, then the call's own questions; route and log are the lengths of what is lent
 abbrev pub asks : (base : ℕ → Total) → model.Header → (card : ℕ) → Each ℕ → Asked → (route log : ℕ) → Option model.Refusal
 asks base h card l c r k = ask (fitsBy h card l) model.Lengths (refusalOf (knownOf base h) c r k)
 
--- the same of a go; then 9 for a target out of range, which no list of calls leaves
-abbrev pub asksGo : (base : ℕ → Total) → model.Header → (card : ℕ) → Each ℕ → (start route log : ℕ) → Option model.Refusal
-asksGo base h card l s r k =
-    andThen (asks base h card l (Go s) r k) (ask (ltb (targetOf (h .target)) (h .n)) model.Lengths none)
+-- the target is a junction: no list of calls leaves another, and 9 refuses it
+abbrev pub targetAsked : model.Header → Option model.Refusal
+targetAsked h = ask (ltb (targetOf (h .target)) (h .n)) model.Lengths none
+
+-- the same of a call that searches; then 9 for a target out of range
+abbrev pub asksTrip : (base : ℕ → Total) → model.Header → (card : ℕ) → Each ℕ → Asked → (route log : ℕ) → Option model.Refusal
+asksTrip base h card l c r k = andThen (asks base h card l c r k) (targetAsked h)
+
+-- 12 and 13 of a start; then 9 for a target out of range
+abbrev pub asksWay : model.Header → (start : ℕ) → Option model.Refusal
+asksWay h s = ask (ltb s (h .n)) model.NoJunction (ask (isAt (h .target)) model.NoTarget (targetAsked h))
 
 -- ---- calls on lengths and on the areas that they read or write: what holds whatever stands in the others
 

@@ -1,19 +1,21 @@
-// The header, the four calls as its methods, and any of them by its case.
+// The header, the calls as its methods, and any of document 01's four by its case.
 ghost use mathlib.Core.Path.{_≡_};
 ghost use Prim.Native.Nat.{ℕ};
 ghost use lib.ListN.{length};
 ghost use Rattle.graph.specs.Total.{Total};
 ghost use Rattle.model.specs.Word.{ofWord};
+ghost use Rattle.model.specs.Card.{andThen};
 ghost use Rattle.model.specs.Machine.{isAt, targetOf};
 ghost use Rattle.model.specs.Go.{goAnswer};
-ghost use Rattle.model.specs.Calls.{Aim, Estimate, Go, Set};
+ghost use Rattle.model.specs.Calls.{Aim, Estimate, Go, Preview, Set};
 ghost use Rattle.model.specs.Contracts.{baseOn};
 ghost use Rattle.network.specs.Refusals.{verdictIn};
 ghost use Rattle.unit_answers.specs.Shape.{answerIn, callIn};
 ghost use Rattle.network.specs.Lending.{areas};
 ghost use Rattle.unit_questions.specs.Lending.{fitsBy, lengthsIn, lent};
 ghost use Rattle.unit.specs.Shape.{headerIn, targetIn};
-ghost use Rattle.unit.specs.Meets.{AimPart, EstimateLengths, EstimatePart, Meets, MeetsAlone, SetPart, asks, asksGo};
+ghost use Rattle.unit.specs.Meets.{AimPart, EstimateLengths, EstimatePart, Meets, MeetsAlone, MeetsPreview, SetPart};
+ghost use Rattle.unit.specs.Meets.{asks, asksTrip, asksWay};
 use network::Junction;
 use network::Refusal;
 use network::Sizes;
@@ -21,6 +23,7 @@ use network::Time;
 use network::TimeWord;
 use network::Verdict;
 use search_junctions::Trip;
+use search_junctions::View;
 use unit_answers::Answer;
 use unit_answers::Call;
 use unit_questions::Lengths;
@@ -54,6 +57,16 @@ fn gone(total: Time, count: u32, roads: u32) -> Answer
 }
 
 // ---- the questions, on numbers
+
+// First these questions, then those.
+fn and_then(first: Verdict, rest: Verdict) -> Verdict
+    ensures { λ r. ⌜ verdictIn r ≡ andThen (verdictIn first) (verdictIn rest) ⌝ }
+{
+    match first {
+        Verdict::Failed(q) => Verdict::Failed(q),
+        Verdict::Passed => rest,
+    }
+}
 
 impl Header {
     // Question 9; a header out of range is refused too: no list of calls leaves one.
@@ -130,7 +143,7 @@ impl Header {
 
     // Questions 9 and 12 to 14 of a go; then 9 for a target out of range, which no list of calls leaves.
     fn go_asked(self, card: usize, l: Lengths, route: usize, log: usize, start: Junction) -> Verdict
-        ensures { λ r. ⌜ ((base : ℕ → Total) → verdictIn r ≡ asksGo base (headerIn self) card (lengthsIn l) (start .0) route log) ⌝ }
+        ensures { λ r. ⌜ ((base : ℕ → Total) → verdictIn r ≡ asksTrip base (headerIn self) card (lengthsIn l) (Go (start .0)) route log) ⌝ }
     {
         let n = self.sizes.n;
         let fits = self.fits(card, l);
@@ -143,6 +156,39 @@ impl Header {
         let known = network::ask(aimed, Refusal::NO_TARGET, lent);
         let starts = network::ask(below, Refusal::NO_JUNCTION, known);
         network::ask(fits, Refusal::LENGTHS, starts)
+    }
+
+    // Questions 12 and 13 of a preview; then 9 for a target out of range, as a go.
+    fn way_asked(self, start: Junction) -> Verdict
+        ensures { λ r. ⌜ verdictIn r ≡ asksWay (headerIn self) (start .0) ⌝ }
+    {
+        let n = self.sizes.n;
+        let below = start.0 < n;
+        let aimed = self.is_aimed();
+        let inside = self.aimed_at().0 < n;
+        let led = network::ask(inside, Refusal::LENGTHS, Verdict::Passed);
+        let known = network::ask(aimed, Refusal::NO_TARGET, led);
+        network::ask(below, Refusal::NO_JUNCTION, known)
+    }
+
+    // Questions 9 to 13 of a preview: its work area's length first, then as a set of that road; then as a go from that start.
+    fn preview_asked(
+        self,
+        card: &[u8],
+        l: Lengths,
+        work: usize,
+        road: u32,
+        time: Time,
+        start: Junction,
+    ) -> Verdict
+        ensures { λ r. ⌜ verdictIn r ≡ asksTrip (baseOn (now (card .entry))) (headerIn self) (length (now (card .entry))) (lengthsIn l)
+            (Preview road (time .0) (start .0) work) 0 0 ⌝ }
+    {
+        let sized = unit_questions::work_fits(self.sizes.n, work);
+        let setting = self.set_asked(card, l, road, time);
+        let way = self.way_asked(start);
+        let rest = and_then(setting, way);
+        network::ask(sized, Refusal::LENGTHS, rest)
     }
 
     // ---- what is handed back
@@ -248,7 +294,7 @@ impl Header {
         }
     }
 
-    // ---- the four calls
+    // ---- the calls
 
     // Sets a road's live time, from its base time to 1,000,000, or closed.
     pub fn set(
@@ -378,6 +424,7 @@ impl Header {
                     sizes: sizes,
                     start: start,
                     target: self.aimed_at(),
+                    view: View::Live,
                 };
                 let found = search::search(
                     trip,
@@ -398,9 +445,69 @@ impl Header {
             }
         }
     }
+
+    // What if that road took so long? Go's total from a start now and with that time set, and the change (document 02, A2). The work area
+    // serves the two searches; what it holds before and after does not matter.
+    pub fn preview(
+        self,
+        card: &[u8],
+        ranks: &[u32],
+        pairs: &[u32],
+        live: &[TimeWord],
+        down: &[TimeWord],
+        estimates: &mut [TimeWord],
+        elapsed: &[TimeWord],
+        leaving: &[u32],
+        groups: &[u32],
+        work: &mut [TimeWord],
+        road: u32,
+        time: Time,
+        start: Junction,
+    ) -> Answered
+        ensures { λ r. ⌜ MeetsPreview (now (card .entry)) self (areas ranks pairs live down estimates elapsed leaving groups)
+            (now (work .entry)) (now (work .exit)) road (time .0) (start .0) r ⌝ }
+    {
+        let l = unit_questions::lengths_of(
+            ranks,
+            pairs,
+            live,
+            down,
+            estimates,
+            elapsed,
+            leaving,
+            groups,
+        );
+        match self.preview_asked(card, l, work.len(), road, time, start) {
+            Verdict::Failed(q) => self.answered(Answer::Refused(q)),
+            Verdict::Passed => {
+                let sizes = self.sizes;
+                let trip = Trip {
+                    sizes: sizes,
+                    start: start,
+                    target: self.aimed_at(),
+                    view: View::Live,
+                };
+                let found = search::totals(
+                    trip,
+                    View::Set(road, time),
+                    card_layout::roads_of(card, self.sizes.m),
+                    card_layout::order_of(card, self.sizes.n, self.sizes.m),
+                    ranks,
+                    pairs,
+                    live,
+                    down,
+                    leaving,
+                    groups,
+                    estimates,
+                    work,
+                );
+                self.answered(unit_answers::previewed(found.present, found.new))
+            }
+        }
+    }
 }
 
-// Any of the calls. Route and log are go's; the others leave them as they are.
+// Any of document 01's four calls. Route and log are go's; the others leave them as they are.
 pub fn call(
     header: Header,
     card: &[u8],

@@ -1,11 +1,17 @@
 -- The words of a header and of an answer, by the header and the answer. Assumes nothing.
-use mathlib.Core.Path.{_≡_, ap, ap₂, refl, subst, sym}
+use mathlib.Core.Path.{_∙_, _≡_, ap, ap₂, refl, subst, sym}
 use mathlib.Core.Logic.{_≢_}
 use mathlib.Core.List.{List, [], _∷_}
-use Prim.Native.Nat.{ℕ}
+use Prim.Native.Nat.{_<_, _^_, ℕ}
+use lib.IntN.{pos, ℤ}
+use lib.Signed.{mag}
+use mir.Syntax.{w64}
+use mir.Val.{ofZ, toZ}
+use mir.ValLaws.{toZ-ofZ}
 use denote.Triple.Both.{Both}
 use borrow.Author.Tests.{eq-eqb, ne-eqb}
 use Rattle.model.specs.Types.{Accepted, Read, Reading, Refusal, Refused, Unreadable}
+use Rattle.model.specs.Word.{word}
 use Rattle.model.specs.Card.{Rows}
 use Rattle.model.specs.Contracts.{WriteContract}
 use Rattle.model.specs.Areas.{Areas}
@@ -18,14 +24,19 @@ use Rattle.card.specs.Answers.{writingIn}
 use Rattle.card.specs.declared.Writing.{Writing}
 use Rattle.card.specs.declared.Writing.the-variants as writings
 use Rattle.unit_answers.specs.declared.Answer.{Answer}
+use Rattle.unit_answers.specs.declared.Answer.the-variants.{Previewed}
+use Rattle.unit_answers.specs.declared.Total.{Total}
+use Rattle.unit_answers.specs.declared.Change.{Change}
+use Rattle.unit_answers.specs.declared.Change.the-variants as change
+use Rattle.unit_answers.specs.Shape.{totalIn}
 use Rattle.unit.specs.declared.Target.{Target}
 use Rattle.unit.specs.declared.Target.the-variants.{Absent, At}
 use Rattle.unit.specs.declared.Header.{Header}
 use Rattle.unit.specs.declared.Answered.{Answered}
-use Rattle.unit.specs.Meets.{Meets, MeetsAlone}
+use Rattle.unit.specs.Meets.{Meets, MeetsAlone, MeetsPreview}
 use Rattle.unit_c.specs.declared.UnitHeader.{UnitHeader}
 use Rattle.unit_c.specs.declared.UnitAnswer.{UnitAnswer}
-use Rattle.unit_c.specs.Answers.{Tells, answerTo, answerWords, targetOf}
+use Rattle.unit_c.specs.Answers.{Tells, answerTo, answerWords, comparedTo, previewWords, targetOf}
 use Rattle.unit_c.specs.Words.{Wrote, readingNumber, readingWords}
 
 -- ---- headers
@@ -45,6 +56,19 @@ header-told e = rw e
 pub answer-told : {h k : UnitHeader} {x y : Answer} → h ≡ k → y ≡ x → answerTo h x ≡ answerTo k y
 answer-told p q = ap₂ answerTo p (sym q)
 
+-- a change by a number that fits is held as that number
+pub by-told : {h : UnitHeader} {a b : ℕ} {d : ℤ} {c : Change} {w : UnitAnswer} → mag d < 2 ^ 63 → c ≡ change.By d
+    → w ≡ previewWords h a b 1 (toZ w64 (ofZ w64 d)) → w ≡ comparedTo h a b c
+by-told {h} {a} {b} {d} f e is = is ∙ ap (previewWords h a b 1) (toZ-ofZ w64 d (record { sfits = f })) ∙ rw e
+
+pub no-change-told : {h : UnitHeader} {a b : ℕ} {c : Change} {w : UnitAnswer} → c ≡ change.Absent
+    → w ≡ previewWords h a b 0 (pos 0) → w ≡ comparedTo h a b c
+no-change-told e is = is ∙ rw e
+
+pub preview-answer-told : {h k : UnitHeader} {x : Answer} {a b : Total} {c : Change} {t u : ℕ} {w : UnitAnswer} → h ≡ k
+    → x ≡ Previewed a b c → t ≡ word (totalIn a) → u ≡ word (totalIn b) → w ≡ comparedTo h t u c → w ≡ answerTo k x
+preview-answer-told p q e f is = rw (is, p, q, e, f)
+
 module _ {card : List ℕ} {a : Both Areas Areas} {c : Asked} {h k : Header} {w : UnitAnswer}
     (x : Answered) (e : h ≡ k) (told : w ≡ answerWords x) where
   pub call-told : {l : Both Lent Lent} → Meets card h a l c x → Tells (Meets card k a l c) w
@@ -52,6 +76,12 @@ module _ {card : List ℕ} {a : Both Areas Areas} {c : Asked} {h k : Header} {w 
 
   pub alone-told : MeetsAlone card h a c x → Tells (MeetsAlone card k a c) w
   alone-told m = (x, told, subst (λ (y : Header). MeetsAlone card y a c x) e m)
+
+pub preview-told : {card : List ℕ} {a : Both Areas Areas} {work work′ : List ℕ} {road time start : ℕ} {h k : Header} {w : UnitAnswer}
+    (x : Answered) → h ≡ k → w ≡ answerWords x → MeetsPreview card h a work work′ road time start x
+    → Tells (MeetsPreview card k a work work′ road time start) w
+preview-told {card} {a} {work} {work′} {road} {time} {start} x e told m =
+    (x, told, subst (λ (y : Header). MeetsPreview card y a work work′ road time start x) e m)
 
 -- ---- the card
 

@@ -3,9 +3,14 @@ use mathlib.Core.Path.{_≡_, refl}
 use mathlib.Core.Bool.{cond}
 use Prim.Native.Nat.{ℕ}
 use lib.Dec.{eqb}
+use lib.IntN.{pos, ℤ}
+use Rattle.model.specs.Word.{word}
 use Rattle.network.specs.declared.Sizes.{Sizes}
 use Rattle.unit_answers.specs.declared.Answer.{Answer}
-use Rattle.unit_answers.specs.declared.Answer.the-variants.{Accepted, Estimated, Gone, Refused}
+use Rattle.unit_answers.specs.declared.Answer.the-variants.{Accepted, Estimated, Gone, Previewed, Refused}
+use Rattle.unit_answers.specs.declared.Change.{Change}
+use Rattle.unit_answers.specs.declared.Change.the-variants as change
+use Rattle.unit_answers.specs.Shape.{totalIn}
 use Rattle.unit.specs.declared.Target.{Target}
 use Rattle.unit.specs.declared.Target.the-variants.{Absent, At}
 use Rattle.unit.specs.declared.Header.{Header}
@@ -41,14 +46,44 @@ header-back h = header-to (h .sizes) (h .target)
 
 -- ---- answers
 
-abbrev pub acceptedWords : UnitHeader → (total count roads : ℕ) → UnitAnswer
-acceptedWords h t c k = record { header = h; question = 0; place = 0; total = t; count = c; roads = k }
+-- an answer that is no preview's
+abbrev pub plainWords : UnitHeader → (question place total count roads : ℕ) → UnitAnswer
+plainWords h q i t c k = record {
+  header = h;
+  question = q;
+  place = i;
+  compared = 0;
+  total = t;
+  count = c;
+  roads = k;
+  then = 0;
+  change = pos 0;
+}
+
+-- a preview's totals, the mark none where there is none, and the change; 0 where there is none, which the flag tells from a change by 0
+abbrev pub previewWords : UnitHeader → (present new compared : ℕ) → ℤ → UnitAnswer
+previewWords h a b f d = record {
+  header = h;
+  question = 0;
+  place = 0;
+  compared = f;
+  total = a;
+  count = 0;
+  roads = 0;
+  then = b;
+  change = d;
+}
+
+abbrev pub comparedTo : UnitHeader → (present new : ℕ) → Change → UnitAnswer
+comparedTo h a b (change.By d) = previewWords h a b 1 d
+comparedTo h a b change.Absent = previewWords h a b 0 (pos 0)
 
 abbrev pub answerTo : UnitHeader → Answer → UnitAnswer
-answerTo h (Refused q) = record { header = h; question = q .question; place = q .place; total = 0; count = q .count; roads = 0 }
-answerTo h Accepted = acceptedWords h 0 0 0
-answerTo h (Estimated t) = acceptedWords h (t .0) 0 0
-answerTo h (Gone t c k) = acceptedWords h t c k
+answerTo h (Refused q) = plainWords h (q .question) (q .place) 0 (q .count) 0
+answerTo h Accepted = plainWords h 0 0 0 0 0
+answerTo h (Estimated t) = plainWords h 0 0 (t .0) 0 0
+answerTo h (Gone t c k) = plainWords h 0 0 t c k
+answerTo h (Previewed a b c) = comparedTo h (word (totalIn a)) (word (totalIn b)) c
 
 -- the words that stand for what is handed back
 abbrev pub answerWords : Answered → UnitAnswer

@@ -1,6 +1,7 @@
 // What C and Rust call: the public functions over plain words and slices. A refusal is its number, and 0 is an acceptance.
 ghost use mathlib.Core.Path.{_≡_};
 ghost use mathlib.Core.List.{[], _∷_};
+ghost use lib.ListN.{length};
 ghost use Rattle.model.specs.Card.{readCard};
 ghost use Rattle.model.specs.Calls.{Aim, Estimate, Go, Set};
 ghost use Rattle.card.specs.Answers.{rowsOf};
@@ -8,9 +9,9 @@ ghost use Rattle.network.specs.Lending.{areas};
 ghost use Rattle.unit_questions.specs.Lending.{lent};
 ghost use Rattle.unit_preparing.specs.Preparing.{Prepares};
 ghost use Rattle.unit.specs.Shape.{answeredIn};
-ghost use Rattle.unit.specs.Meets.{Meets, MeetsAlone};
+ghost use Rattle.unit.specs.Meets.{Meets, MeetsAlone, MeetsPreview};
 ghost use Rattle.unit_script.specs.Script.{ReplayContract};
-ghost use Rattle.unit_c.specs.Answers.{Tells, acceptedWords, answerWords, headerOf, headerWords, targetOf};
+ghost use Rattle.unit_c.specs.Answers.{Tells, answerWords, comparedTo, headerOf, headerWords, plainWords, previewWords, targetOf};
 ghost use Rattle.unit_c.specs.Words.{Wrote, readingNumber, readingWords};
 use card::Reading;
 use card::Writing;
@@ -22,6 +23,7 @@ use unit::Answered;
 use unit::Header;
 use unit::Target;
 use unit_answers::Answer;
+use unit_answers::Change;
 
 // ---- headers and answers as C holds them
 
@@ -36,15 +38,20 @@ pub struct UnitHeader {
 }
 
 // What preparing and the calls hand back. `question` is 0, or the number of the refusal; `place` goes with 5 and 6; `total` is that of a
-// go, or the word of an estimate; `count` is that of a go, also after 15; `roads` is the number of roads of a go. What does not apply is 0.
+// go, or the word of an estimate; `count` is that of a go, also after 15; `roads` is the number of roads of a go. Of a preview, `total` is
+// the present total and `then` the one with the time set, each the mark none where there is none; `compared` is 1 where both exist, and
+// `change` is then minus total. What does not apply is 0.
 #[repr(C)]
 pub struct UnitAnswer {
     pub header: UnitHeader,
     pub question: u32,
     pub place: u32,
+    pub compared: u32,
     pub total: u64,
     pub count: u32,
     pub roads: u32,
+    pub then: u64,
+    pub change: i64,
 }
 
 // There is a target where `aimed` is not 0.
@@ -97,17 +104,54 @@ fn words_of(h: Header) -> UnitHeader
     }
 }
 
-// The words of an acceptance.
-fn accepted(header: UnitHeader, total: u64, count: u32, roads: u32) -> UnitAnswer
-    ensures { λ x. ⌜ x ≡ acceptedWords header total count roads ⌝ }
+// The words of an answer that is no preview's.
+fn plain(
+    header: UnitHeader,
+    question: u32,
+    place: u32,
+    total: u64,
+    count: u32,
+    roads: u32,
+) -> UnitAnswer
+    ensures { λ x. ⌜ x ≡ plainWords header question place total count roads ⌝ }
+{
+    UnitAnswer {
+        header: header,
+        question: question,
+        place: place,
+        compared: 0,
+        total: total,
+        count: count,
+        roads: roads,
+        then: 0,
+        change: 0,
+    }
+}
+
+// The words of a preview's answer.
+fn compared(header: UnitHeader, present: u64, new: u64, flag: u32, change: i64) -> UnitAnswer
+    ensures { λ x. ⌜ x ≡ previewWords header present new flag change ⌝ }
 {
     UnitAnswer {
         header: header,
         question: 0,
         place: 0,
-        total: total,
-        count: count,
-        roads: roads,
+        compared: flag,
+        total: present,
+        count: 0,
+        roads: 0,
+        then: new,
+        change: change,
+    }
+}
+
+// The words of a preview's totals and their change.
+fn previewed(header: UnitHeader, present: u64, new: u64, change: Change) -> UnitAnswer
+    ensures { λ x. ⌜ x ≡ comparedTo header present new change ⌝ }
+{
+    match change {
+        Change::By(d) => compared(header, present, new, 1, d),
+        Change::Absent => compared(header, present, new, 0, 0),
     }
 }
 
@@ -119,17 +163,11 @@ fn answer_of(r: Answered) -> UnitAnswer
     let header = words_of(h);
     let answer = r.answer;
     match answer {
-        Answer::Refused(q) => UnitAnswer {
-            header: header,
-            question: q.question,
-            place: q.place,
-            total: 0,
-            count: q.count,
-            roads: 0,
-        },
-        Answer::Accepted => accepted(header, 0, 0, 0),
-        Answer::Estimated(t) => accepted(header, t.0 as u64, 0, 0),
-        Answer::Gone(t, c, k) => accepted(header, t, c, k),
+        Answer::Refused(q) => plain(header, q.question, q.place, 0, q.count, 0),
+        Answer::Accepted => plain(header, 0, 0, 0, 0, 0),
+        Answer::Estimated(t) => plain(header, 0, 0, t.0 as u64, 0, 0),
+        Answer::Gone(t, c, k) => plain(header, 0, 0, t, c, k),
+        Answer::Previewed(a, b, c) => previewed(header, a.word(), b.word(), c),
     }
 }
 
@@ -173,7 +211,7 @@ pub extern "C" fn card_write(roads: &[u32], order: &[u32], area: &mut [u8], plac
     }
 }
 
-// ---- preparing and the four calls
+// ---- preparing and the calls
 
 // Prepares a card on the eight areas.
 #[no_mangle]
@@ -342,13 +380,53 @@ pub extern "C" fn unit_go(
     ))
 }
 
+// The totals from a start now and with a road's time set, and their change.
+#[no_mangle]
+pub extern "C" fn unit_preview(
+    header: UnitHeader,
+    card: &[u8],
+    ranks: &[u32],
+    pairs: &[u32],
+    live: &[TimeWord],
+    down: &[TimeWord],
+    estimates: &mut [TimeWord],
+    elapsed: &[TimeWord],
+    leaving: &[u32],
+    groups: &[u32],
+    work: &mut [TimeWord],
+    road: u32,
+    time: TimeWord,
+    start: u32,
+) -> UnitAnswer
+    ensures { λ r. ⌜ Tells (MeetsPreview (now (card .entry)) (headerOf header)
+        (areas ranks pairs live down estimates elapsed leaving groups) (now (work .entry)) (now (work .exit)) road time start) r ⌝ }
+{
+    let h = header_of(header);
+    answer_of(h.preview(
+        card,
+        ranks,
+        pairs,
+        live,
+        down,
+        estimates,
+        elapsed,
+        leaving,
+        groups,
+        work,
+        road,
+        Time(time),
+        Junction(start),
+    ))
+}
+
 // ---- a script
 
 // Prepares a card on the eight areas and makes the calls of a script: a kind, and as many words as that call has. 0 road time is a set,
 // 1 junction an aim, 2 junction an estimate, 3 start r l a go, which is lent the first r entries of the route and l of the log, all if
-// there are fewer. Any other kind ends the script, and so does a call that is cut short. `out` gets four words for each answer: the
-// question that refuses, or 0; estimate or total; count; number of roads. As many calls are made as `out` has room for. What is handed
-// back is preparing's answer with the last header.
+// there are fewer, 4 road time start a preview, which is lent the work area. Any other kind ends the script, and so does a call that is cut
+// short. `out` gets four words for each answer: the question that refuses, or 0; estimate or total; count; number of roads; of a preview 0,
+// present total, new total, change as two's complement. As many calls are made as `out` has room for. What is handed back is preparing's
+// answer with the last header.
 #[no_mangle]
 pub extern "C" fn unit_replay(
     card: &[u8],
@@ -362,11 +440,12 @@ pub extern "C" fn unit_replay(
     groups: &mut [u32],
     route: &mut [u32],
     log: &mut [u32],
+    work: &mut [TimeWord],
     script: &[u32],
     out: &mut [u64],
 ) -> UnitAnswer
     ensures { λ r. ⌜ Tells (λ x. ReplayContract (now (card .entry)) (areas ranks pairs live down estimates elapsed leaving groups)
-        (lent route log) (now (script .entry)) (now (out .entry)) (now (out .exit)) (answeredIn x)) r ⌝ }
+        (lent route log) (length (now (work .entry))) (now (script .entry)) (now (out .entry)) (now (out .exit)) (answeredIn x)) r ⌝ }
 {
     answer_of(unit_script::replay(
         card,
@@ -380,6 +459,7 @@ pub extern "C" fn unit_replay(
         groups,
         route,
         log,
+        work,
         script,
         out,
     ))

@@ -1,13 +1,14 @@
-// Questions 7, 9, 11 and 14 on numbers.
+// Questions 7, 9, 11 and 14 on numbers, and 9 of a preview's work area.
 ghost use mathlib.Core.Path.{_≡_};
 ghost use mathlib.Core.Bool.{_&&_};
 ghost use mathlib.Core.Option.{some};
-ghost use lib.Dec.{leb};
+ghost use lib.Dec.{eqb, leb};
 ghost use Rattle.model.specs.Word.{ofWord};
 ghost use Rattle.model.specs.Limits.{mostJunctions, mostRoads};
 ghost use Rattle.model.specs.Areas.{lengths, lengthsFit, roomFits};
 ghost use Rattle.model.specs.State.{question9};
 ghost use Rattle.model.specs.Set.{settable};
+ghost use Rattle.model.specs.Preview.{workSize};
 ghost use Rattle.network.specs.Lending.{areas};
 ghost use Rattle.unit_questions.specs.Lending.{lengthsIn};
 use network::Sizes;
@@ -83,6 +84,13 @@ pub fn fits(s: Sizes, card: usize, l: Lengths) -> bool
     (s.n <= network::MOST_JUNCTIONS)
         & (s.m <= network::MOST_ROADS)
         & ((card == card_layout::card_size(s.n, s.m)) & lengths_fit(s, l))
+}
+
+// Question 9, of a preview's work area.
+pub fn work_fits(n: u32, work: usize) -> bool
+    ensures { λ r. ⌜ r ≡ eqb work (workSize n) ⌝ }
+{
+    work == 2 * (n as usize)
 }
 
 // Question 11.

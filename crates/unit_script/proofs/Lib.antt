@@ -1,3 +1,4 @@
 pub mod Words
+pub mod Signs
 pub mod Worked
 pub mod Scripts

@@ -6,24 +6,31 @@ use mathlib.Core.List.{List, [], _++_, _∷_, append-assoc, append-nil, map}
 use Prim.Native.Nat.{_*_, _+_, _-_, _<_, _≤_, suc, zero, ℕ}
 use borrow.Author.Tests.{ltb-false, ltb-true}
 use lib.Dec.{ltb}
-use lib.ListN.{drop, length, length-append, length-map, take}
+use lib.ListN.{drop, length, length-append, length-map, take, take-append-drop}
 use lib.Seq.{drop-append-add, drop-drop, length-take-le, take-at}
 use native.Mathlib.Nat.{sub-zero}
 use native.Mathlib.Omega.{arith}
 use Rattle.graph.specs.Total.{Tested, and-true, decide}
 use Rattle.graph.specs.Map.{Map}
-use Rattle.model.specs.Types.{Accepted, Answer, Answered, Estimated, Gone, Header, Refused}
+use Rattle.model.specs.Types.{Accepted, Answer, Answered, Estimated, Gone, Header, Previewed, Refused}
 use Rattle.model.specs.Card.{mapOn}
 use Rattle.model.specs.Areas.{Areas}
 use Rattle.model.specs.State.{Lent, State, Step, first, prepare}
 use Rattle.model.specs.Machine.{Machine, started}
-use Rattle.model.specs.Calls.{Asked, Call, Plain, calling, machineStep, plain}
+use Rattle.model.specs.Calls.{Asked, Call, Plain, Preview, calling, machineStep, plain}
 use Rattle.model.specs.Demand3.{Demand3}
 use Rattle.model.specs.Contracts.{CallContract, PrepareContract, after, before}
 use Rattle.model.specs.Chain.{Chain, chain-demand3, chain-steps, left-prepared}
-use Rattle.unit_script.specs.Words.{answerWords, callAt, endAt, isCall, putAt, roomIn}
+use Rattle.network.specs.declared.Time.{Time}
+use Rattle.network.specs.declared.Junction.{Junction}
+use Rattle.unit_answers.specs.declared.Call as code
+use Rattle.unit_answers.specs.Shape.{callIn}
+use Rattle.unit_script.specs.declared.Asked as code-asked
+use Rattle.unit_script.specs.declared.Asked.the-variants as scripts
+use Rattle.unit_script.specs.declared.Scripted.{Scripted}
+use Rattle.unit_script.specs.Words.{Lending, answerWords, askedIn, callAt, endAt, isCall, putAt, roomIn, scriptedIn}
 use Rattle.unit_script.specs.Script.{Held, Made, OneContract, ReplayContract, answersOf, begun, callsIn, callsOf, held, holding}
-use Rattle.unit_script.specs.Script.{isNext, lend, machineAnswers, onward, scripted, told}
+use Rattle.unit_script.specs.Script.{isNext, lend, lending, machineAnswers, onward, scripted, told}
 use Rattle.unit_script.proofs.Words.{call-fits, ends-within}
 
 -- ---- the words of an answer
@@ -33,6 +40,7 @@ answer-length (Refused q) = refl
 answer-length Accepted = refl
 answer-length (Estimated t) = refl
 answer-length (Gone t c k) = refl
+answer-length (Previewed a b c) = refl
 
 told-length : (l : List Answer) → length (told l) ≡ 4 * length l
 told-length [] = refl
@@ -146,6 +154,40 @@ one-made {b = b} {l} {m} {i = i} {j} {x} li lj c nr nl = record {
       (back-first i j l m (nr ∙ length-take-le i (l .route) li) (nl ∙ length-take-le j (l .log) lj));
 }
 
+-- the entries that were lent, put back as they were
+put-back : (i j : ℕ) (l : Lent) → back i j l (part i j l) ≡ l
+put-back i j l =
+    ap₂ (λ (r : List ℕ) (k : List ℕ). record { route = r; log = k }) (take-append-drop i (l .route)) (take-append-drop j (l .log))
+
+-- a call of the script s, beside a work area of w entries
+module _ {card : List ℕ} {h : Header} {a b : Areas} {l : Lent} {x : Answered} (s : Scripted) (w : ℕ)
+    (route-fits : s .route ≤ length (l .route)) (log-fits : s .log ≤ length (l .log)) where
+  -- one of the four calls
+  pub four-made : {m : Lent} {c : code.Call} → s .asked ≡ scripts.Four c
+      → CallContract card (before h a) (calling (callIn c) (part (s .route) (s .log) l)) (after x b m)
+      → length (m .route) ≡ length (take (s .route) (l .route)) → length (m .log) ≡ length (take (s .log) (l .log))
+      → OneContract card h (record { entry = a; exit = b }) (record { entry = l; exit = back (s .route) (s .log) l m }) (scriptedIn s w) x
+  four-made {m} e c nr nl =
+      subst (λ (q : Asked). OneContract card h (record { entry = a; exit = b })
+      (record { entry = l; exit = back (s .route) (s .log) l m }) (record { asked = q; route = s .route; log = s .log }) x)
+      (sym (ap (λ (q : code-asked.Asked). askedIn q w) e))
+      (one-made route-fits log-fits c nr nl)
+
+  -- a preview, which leaves route and log as they were
+  pub preview-made : {i : ℕ} {t : Time} {j : Junction} → s .asked ≡ scripts.Preview i t j
+      → ((k : Lent) → CallContract card (before h a) (calling (Preview i (t .0) (j .0) w) k) (after x b k))
+      → OneContract card h (record { entry = a; exit = b }) (record { entry = l; exit = l }) (scriptedIn s w) x
+  preview-made {i} {t} {j} e c =
+      let k : Lent = part (s .route) (s .log) l in
+      let made : OneContract card h (record { entry = a; exit = b }) (record { entry = l; exit = back (s .route) (s .log) l k })
+      (record { asked = Preview i (t .0) (j .0) w; route = s .route; log = s .log }) x = one-made route-fits log-fits (c k) refl refl in
+      subst (λ (q : Asked). OneContract card h (record { entry = a; exit = b }) (record { entry = l; exit = l })
+      (record { asked = q; route = s .route; log = s .log }) x)
+      (sym (ap (λ (q : code-asked.Asked). askedIn q w) e))
+      (subst (λ (m : Lent). OneContract card h (record { entry = a; exit = b }) (record { entry = l; exit = m })
+      (record { asked = Preview i (t .0) (j .0) w; route = s .route; log = s .log }) x)
+      (put-back (s .route) (s .log) l) made)
+
 -- ---- the turns of a run
 
 -- what is fed of a call of a script that is lent no more than there is
@@ -153,10 +195,10 @@ fed-back : (l : Lent) (p : Plain) → p .route ≤ length (l .route) → p .log 
 fed-back l p a b = rw (length-take-le (p .route) (l .route) a, length-take-le (p .log) (l .log) b)
 
 -- a script from a place on, where a call is next, and where none is
-module _ (script : List ℕ) (l : Lent) (at k room : ℕ) where
+module _ (script : List ℕ) (l : Lending) (at k room : ℕ) where
   scripted-next : isNext script at k room ≡ true
       → scripted script l at (room - k)
-      ≡ callAt script at (length (l .route)) (length (l .log)) ∷ scripted script l (endAt script at) (room - (k + 1))
+      ≡ callAt script at l ∷ scripted script l (endAt script at) (room - (k + 1))
   scripted-next h =
       let p = and-true (ltb k room) (isCall script at) h in
       let lt : k < room = ltb-true k room (p .0) in
@@ -178,38 +220,40 @@ module _ (script : List ℕ) (l : Lent) (at k room : ℕ) where
           ap (scripted script l at) z
 
 -- with room for so many answers the calls before call k, which stands at a place of the script, are made, and those from there on are left
-pub record Run (card script : List ℕ) (room at k : ℕ) (out₀ out : List ℕ) (h₀ h : Held) : Type 0 where
+pub record Run (card script : List ℕ) (work room at k : ℕ) (out₀ out : List ℕ) (h₀ h : Held) : Type 0 where
   pub done : List Plain
   pub many : length done ≡ k
   pub made : Made card done out₀ out h₀ h
-  pub rest : scripted script (h₀ .lent) 0 room ≡ done ++ scripted script (h₀ .lent) at (room - k)
+  pub rest : scripted script (lending (h₀ .lent) work) 0 room ≡ done ++ scripted script (lending (h₀ .lent) work) at (room - k)
 
-pub run-start : {card script out₀ : List ℕ} (room : ℕ) {h₀ : Held} → Run card script room 0 0 out₀ out₀ h₀ h₀
-run-start {card} {script} {out₀} room {h₀} = record {
+pub run-start : {card script out₀ : List ℕ} {work : ℕ} (room : ℕ) {h₀ : Held} → Run card script work room 0 0 out₀ out₀ h₀ h₀
+run-start {card} {script} {out₀} {work} room {h₀} = record {
   done = [];
   many = refl;
   made = record { calls = []; results = []; lends = refl; fed = refl; meets = tt; leaves = refl; written = refl };
-  rest = ap (scripted script (h₀ .lent) 0) (sym (sub-zero room));
+  rest = ap (scripted script (lending (h₀ .lent) work) 0) (sym (sub-zero room));
 }
 
-module _ {card script : List ℕ} {room at k : ℕ} {out₀ out : List ℕ} {h₀ h : Held} (w : Run card script room at k out₀ out h₀ h) where
+module _ {card script : List ℕ} {work room at k : ℕ} {out₀ out : List ℕ} {h₀ h : Held}
+    (w : Run card script work room at k out₀ out h₀ h) where
   -- the next call p of the script, which ends at a place and handed x back
-  pub run-turn : isNext script at k room ≡ true → {p : Plain} {x : Answered} {end : ℕ} {b : Areas} {m : Lent} {out′ : List ℕ}
-      → length (h .lent .route) ≡ length (h₀ .lent .route) → length (h .lent .log) ≡ length (h₀ .lent .log)
-      → p ≡ callAt script at (length (h .lent .route)) (length (h .lent .log)) → end ≡ endAt script at
+  pub run-turn : isNext script at k room ≡ true → {v : ℕ} {p : Plain} {x : Answered} {end : ℕ} {b : Areas} {m : Lent} {out′ : List ℕ}
+      → length (h .lent .route) ≡ length (h₀ .lent .route) → length (h .lent .log) ≡ length (h₀ .lent .log) → v ≡ work
+      → p ≡ callAt script at (lending (h .lent) v) → end ≡ endAt script at
       → OneContract card (h .state .header) (record { entry = h .state .areas; exit = b }) (record { entry = h .lent; exit = m }) p x
       → out′ ≡ putAt out k (answerWords (x .answer))
-      → Run card script room end (k + 1) out₀ out′ h₀ (holding (x .header) b m)
-  run-turn next {p} {x} {end} {b} {m} {out′} er el e n c f =
-      let left : List Plain = scripted script (h₀ .lent) end (room - (k + 1)) in
-      let is : callAt script at (length (h₀ .lent .route)) (length (h₀ .lent .log)) ≡ p = sym (e ∙ ap₂ (callAt script at) er el) in
-      let (route-fits, log-fits) = call-fits script at e in
+      → Run card script work room end (k + 1) out₀ out′ h₀ (holding (x .header) b m)
+  run-turn next {v} {p} {x} {end} {b} {m} {out′} er el ew e n c f =
+      let left : List Plain = scripted script (lending (h₀ .lent) work) end (room - (k + 1)) in
+      let same : lending (h .lent) v ≡ lending (h₀ .lent) work = rw (er, el, ew) in
+      let is : callAt script at (lending (h₀ .lent) work) ≡ p = sym (e ∙ ap (callAt script at) same) in
+      let (route-fits, log-fits) = call-fits script at (lending (h .lent) v) e in
       let one : Made card (w .done ++ (p ∷ [])) out₀ out′ h₀ (onward h (c .left)) =
       made-more (w .made) k (w .many) p (c .left) out′ (fed-back (h .lent) p route-fits log-fits) (c .meets)
       (f ∙ ap (λ (y : Answer). putAt out k (answerWords y)) (sym (c .answers))) in
-      let next-is : scripted script (h₀ .lent) at (room - k) ≡ p ∷ left =
-      scripted-next script (h₀ .lent) at k room next
-      ∙ ap₂ (λ (y : Plain) (i : ℕ). y ∷ scripted script (h₀ .lent) i (room - (k + 1))) is (sym n) in
+      let next-is : scripted script (lending (h₀ .lent) work) at (room - k) ≡ p ∷ left =
+      scripted-next script (lending (h₀ .lent) work) at k room next
+      ∙ ap₂ (λ (y : Plain) (i : ℕ). y ∷ scripted script (lending (h₀ .lent) work) i (room - (k + 1))) is (sym n) in
       record {
         done = w .done ++ (p ∷ []);
         many = length-append (w .done) (p ∷ []) ∙ ap (λ (i : ℕ). i + 1) (w .many);
@@ -217,14 +261,15 @@ module _ {card script : List ℕ} {room at k : ℕ} {out₀ out : List ℕ} {h�
         rest = w .rest ∙ ap (_++_ (w .done)) next-is ∙ sym (append-assoc (w .done) (p ∷ []) left);
       }
 
-  pub run-end : room ≡ roomIn (length out₀) → isNext script at k room ≡ false → Made card (callsIn script (h₀ .lent) out₀) out₀ out h₀ h
+  pub run-end : room ≡ roomIn (length out₀) → isNext script at k room ≡ false
+      → Made card (callsIn script (lending (h₀ .lent) work) out₀) out₀ out h₀ h
   run-end r stop =
-      let e : scripted script (h₀ .lent) 0 room ≡ w .done =
-      w .rest ∙ ap (_++_ (w .done)) (scripted-end script (h₀ .lent) at k room stop) ∙ append-nil (w .done) in
-      subst (λ (y : List Plain). Made card y out₀ out h₀ h) (sym (ap (scripted script (h₀ .lent) 0) (sym r) ∙ e)) (w .made)
+      let e : scripted script (lending (h₀ .lent) work) 0 room ≡ w .done =
+      w .rest ∙ ap (_++_ (w .done)) (scripted-end script (lending (h₀ .lent) work) at k room stop) ∙ append-nil (w .done) in
+      subst (λ (y : List Plain). Made card y out₀ out h₀ h) (sym (ap (scripted script (lending (h₀ .lent) work) 0) (sym r) ∙ e)) (w .made)
 
 -- what holds before call k: the place is within the script, and the areas have the lengths that they had
-pub record AtTurn (card script : List ℕ) (room at k : ℕ) (out₀ out : List ℕ) (h₀ h : Held) : Type 0 where
+pub record AtTurn (card script work₀ work : List ℕ) (room at k : ℕ) (out₀ out : List ℕ) (h₀ h : Held) : Type 0 where
   pub within : at ≤ length script
   pub live : length (h .state .areas .live) ≡ length (h₀ .state .areas .live)
   pub down : length (h .state .areas .aimed .down) ≡ length (h₀ .state .areas .aimed .down)
@@ -232,10 +277,11 @@ pub record AtTurn (card script : List ℕ) (room at k : ℕ) (out₀ out : List 
   pub elapsed : length (h .state .areas .trip .elapsed) ≡ length (h₀ .state .areas .trip .elapsed)
   pub route : length (h .lent .route) ≡ length (h₀ .lent .route)
   pub log : length (h .lent .log) ≡ length (h₀ .lent .log)
+  pub work-is : length work ≡ length work₀
   pub words : length out ≡ length out₀
-  pub run : Run card script room at k out₀ out h₀ h
+  pub run : Run card script (length work₀) room at k out₀ out h₀ h
 
-pub turn-start : {card script out₀ : List ℕ} {room : ℕ} {h₀ : Held} → AtTurn card script room 0 0 out₀ out₀ h₀ h₀
+pub turn-start : {card script work₀ out₀ : List ℕ} {room : ℕ} {h₀ : Held} → AtTurn card script work₀ work₀ room 0 0 out₀ out₀ h₀ h₀
 turn-start {room = room} = record {
   within = omega arith;
   live = refl;
@@ -244,19 +290,21 @@ turn-start {room = room} = record {
   elapsed = refl;
   route = refl;
   log = refl;
+  work-is = refl;
   words = refl;
   run = run-start room;
 }
 
-module _ {card script : List ℕ} {room at k : ℕ} {out₀ out : List ℕ} {h₀ h : Held} (t : AtTurn card script room at k out₀ out h₀ h) where
+module _ {card script work₀ work : List ℕ} {room at k : ℕ} {out₀ out : List ℕ} {h₀ h : Held}
+    (t : AtTurn card script work₀ work room at k out₀ out h₀ h) where
   -- where a call is next there is room for its answer
   pub turn-room : isNext script at k room ≡ true → k < room
   turn-room e = ltb-true k room (and-true (ltb k room) (isCall script at) e .0)
 
   -- that call is lent no more entries than there are
-  pub turn-fits : {p : Plain} → p ≡ callAt script at (length (h .lent .route)) (length (h .lent .log))
+  pub turn-fits : (v : ℕ) {p : Plain} → p ≡ callAt script at (lending (h .lent) v)
       → (p .route ≤ length (h .lent .route)) × (p .log ≤ length (h .lent .log))
-  turn-fits e = call-fits script at e
+  turn-fits v e = call-fits script at (lending (h .lent) v) e
 
   -- and ends within the script
   pub turn-ends : {end : ℕ} → end ≡ endAt script at → end ≤ length script
@@ -271,24 +319,24 @@ machine-answers M m (c ∷ l) [] d = absurd d
 machine-answers M m (c ∷ l) (u ∷ r) d = ap₂ _∷_ (d .0 .same .answer) (machine-answers M (machineStep M m (plain c) .next) l r (d .1))
 
 -- from a preparing on the areas a, which left a′ and handed back y
-pub replay-made : {card : List ℕ} {a b : Areas} {l m : Lent} {script out₀ out : List ℕ} {a′ : Areas} (y : Answered) {x : Answered}
+pub replay-made : {card : List ℕ} {a b : Areas} {l m : Lent} {w : ℕ} {script out₀ out : List ℕ} {a′ : Areas} (y : Answered) {x : Answered}
     → PrepareContract card a a′ y → x .answer ≡ y .answer
-    → Made card (callsIn script l out₀) out₀ out (holding (y .header) a′ l) (holding (x .header) b m)
-    → ReplayContract card (record { entry = a; exit = b }) (record { entry = l; exit = m }) script out₀ out x
-replay-made {card} {a} {b} {l} {m} {script} {out₀} {out} y {x} e f c =
-    let spelled : List Plain = callsIn script l out₀ in
-    let w : Made card spelled out₀ out (begun card a l) (holding (x .header) b m) =
+    → Made card (callsIn script (lending l w) out₀) out₀ out (holding (y .header) a′ l) (holding (x .header) b m)
+    → ReplayContract card (record { entry = a; exit = b }) (record { entry = l; exit = m }) w script out₀ out x
+replay-made {card} {a} {b} {l} {m} {w} {script} {out₀} {out} y {x} e f c =
+    let spelled : List Plain = callsIn script (lending l w) out₀ in
+    let run : Made card spelled out₀ out (begun card a l) (holding (x .header) b m) =
     subst (λ (u : Step). Made card spelled out₀ out (record { state = u .state; lent = l }) (holding (x .header) b m)) e c in
-    let demand : prepare card a .answer ≡ Accepted → Demand3 (mapOn card) (started (mapOn card)) (w .calls) (w .results) =
-    λ q. chain-demand3 card a q (w .calls) (w .results) (w .meets) in
+    let demand : prepare card a .answer ≡ Accepted → Demand3 (mapOn card) (started (mapOn card)) (run .calls) (run .results) =
+    λ q. chain-demand3 card a q (run .calls) (run .results) (run .meets) in
     record {
       prepared = f ∙ ap (λ (u : Step). u .answer) e;
-      made = w;
-      exact = chain-steps card (prepare card a .state) (w .calls) (w .results) (left-prepared card a) (w .meets);
+      made = run;
+      exact = chain-steps card (prepare card a .state) (run .calls) (run .results) (left-prepared card a) (run .meets);
       demand = demand;
       machine = λ q.
-          w .written
+          run .written
           ∙ ap (λ (z : List Answer). first (told z) out₀)
-          (machine-answers (mapOn card) (started (mapOn card)) (w .calls) (w .results) (demand q)
-          ∙ ap (machineAnswers (mapOn card) (started (mapOn card))) (w .fed));
+          (machine-answers (mapOn card) (started (mapOn card)) (run .calls) (run .results) (demand q)
+          ∙ ap (machineAnswers (mapOn card) (started (mapOn card))) (run .fed));
     }

@@ -16,19 +16,22 @@ use Rattle.model.specs.Calls.{Call, Plain, calling, machineStep, plain, steps}
 use Rattle.model.specs.Demand3.{Demand3}
 use Rattle.model.specs.Contracts.{CallContract, before}
 use Rattle.model.specs.Chain.{Chain}
-use Rattle.unit_script.specs.Words.{answerWords, callAt, endAt, isCall, roomIn}
+use Rattle.unit_script.specs.Words.{Lending, answerWords, callAt, endAt, isCall, roomIn}
 
 -- ---- a script, and the words of answers
 
--- the calls of a script from a place on, at most so many, beside the areas l: they end at its end, at a kind that is none, or at a call
--- that is cut short
-abbrev pub scripted : (script : List ℕ) → Lent → (at most : ℕ) → List Plain
+-- the areas that are lent to its calls: go's two, and a work area of so many entries, whose content does not matter
+abbrev pub lending : Lent → (work : ℕ) → Lending
+lending l w = record { route = length (l .route); log = length (l .log); work = w }
+
+-- the calls of a script from a place on, at most so many, beside areas of so many entries: they end at its end, at a kind that is none, or
+-- at a call that is cut short
+abbrev pub scripted : (script : List ℕ) → Lending → (at most : ℕ) → List Plain
 scripted script l at zero = []
-scripted script l at (suc k) =
-    cond (isCall script at) (callAt script at (length (l .route)) (length (l .log)) ∷ scripted script l (endAt script at) k) []
+scripted script l at (suc k) = cond (isCall script at) (callAt script at l ∷ scripted script l (endAt script at) k) []
 
 -- the calls that are made of a script: those that it has, as far as their answers have room in out
-abbrev pub callsIn : (script : List ℕ) → Lent → (out : List ℕ) → List Plain
+abbrev pub callsIn : (script : List ℕ) → Lending → (out : List ℕ) → List Plain
 callsIn script l out = scripted script l 0 (roomIn (length out))
 
 -- a call is made next, after k others and with room for so many answers: its answer has room, and it stands whole at its place
@@ -105,21 +108,22 @@ pub record OneContract (card : List ℕ) (h : Header) (a : Both Areas Areas) (l 
   pub meets : CallContract card (before h (a .entry)) (lend (l .entry) p) left
   pub leaves : holding (x .header) (a .exit) (l .exit) ≡ onward (holding h (a .entry) (l .entry)) left
 
--- the loop of calls, from the header h to the header k
-abbrev pub MakeContract : (card : List ℕ) → Header → Both Areas Areas → Both Lent Lent → (script out₀ out : List ℕ) → Header → Type 0
-MakeContract card h a l script out₀ out k =
-    Made card (callsIn script (l .entry) out₀) out₀ out (holding h (a .entry) (l .entry)) (holding k (a .exit) (l .exit))
+-- the loop of calls, from the header h to the header k, with a work area of w entries
+abbrev pub MakeContract : (card : List ℕ) → Header → Both Areas Areas → Both Lent Lent → (w : ℕ) (script out₀ out : List ℕ) → Header
+    → Type 0
+MakeContract card h a l w script out₀ out k =
+    Made card (callsIn script (lending (l .entry) w) out₀) out₀ out (holding h (a .entry) (l .entry)) (holding k (a .exit) (l .exit))
 
 -- the areas and header that preparing on the areas a left, and go's two areas
 abbrev pub begun : (card : List ℕ) → Areas → Lent → Held
 begun card a l = record { state = prepare card a .state; lent = l }
 
--- the contract of a replay that prepares on the areas a, lends go of the areas l, and hands x back
-pub record ReplayContract (card : List ℕ) (a : Both Areas Areas) (l : Both Lent Lent) (script out₀ out : List ℕ) (x : Answered)
+-- the contract of a replay that prepares on the areas a, lends go of the areas l and a preview a work area of w entries, and hands x back
+pub record ReplayContract (card : List ℕ) (a : Both Areas Areas) (l : Both Lent Lent) (w : ℕ) (script out₀ out : List ℕ) (x : Answered)
     : Type 0 where
   pub prepared : x .answer ≡ prepare card (a .entry) .answer
   -- the run, from what preparing left
-  pub made : Made card (callsIn script (l .entry) out₀) out₀ out
+  pub made : Made card (callsIn script (lending (l .entry) w) out₀) out₀ out
       (begun card (a .entry) (l .entry)) (holding (x .header) (a .exit) (l .exit))
   -- what its calls answered and left is what the step functions say
   pub exact : made .results ≡ steps card (prepare card (a .entry) .state) (made .calls)
@@ -127,4 +131,4 @@ pub record ReplayContract (card : List ℕ) (a : Both Areas Areas) (l : Both Len
   pub demand : prepare card (a .entry) .answer ≡ Accepted → Demand3 (mapOn card) (started (mapOn card)) (made .calls) (made .results)
   -- so the words written are those of the plain machine, fed the script
   pub machine : prepare card (a .entry) .answer ≡ Accepted
-      → out ≡ first (told (machineAnswers (mapOn card) (started (mapOn card)) (callsIn script (l .entry) out₀))) out₀
+      → out ≡ first (told (machineAnswers (mapOn card) (started (mapOn card)) (callsIn script (lending (l .entry) w) out₀))) out₀

@@ -1,12 +1,17 @@
 -- A script of calls as words, and the answers' words. Definitions only.
 use mathlib.Core.Bool.{Bool, cond}
+use mathlib.Core.Option.{Option, none, some}
 use mathlib.Core.List.{List, [], _++_, _∷_}
-use Prim.Native.Nat.{_*_, _+_, _/_, min, suc, zero, ℕ}
+use Prim.Native.Nat.{_*_, _+_, _-_, _/_, min, suc, zero, ℕ}
 use lib.Dec.{leb, ltb}
+use lib.IntN.{negsuc, pos, ℤ}
 use lib.ListN.{drop, getD, length, take}
-use Rattle.model.specs.Types.{Accepted, Answer, Estimated, Gone, Refused}
-use Rattle.model.specs.Calls.{Aim, Estimate, Go, Plain, Set}
+use Rattle.model.specs.Types.{Accepted, Answer, Estimated, Gone, Previewed, Refused}
+use Rattle.model.specs.Word.{word}
+use Rattle.model.specs.Calls.{Aim, Asked, Estimate, Go, Plain, Preview, Set}
 use Rattle.unit_answers.specs.Shape.{callIn}
+use Rattle.unit_script.specs.declared.Asked as code
+use Rattle.unit_script.specs.declared.Asked.the-variants as scripts
 use Rattle.unit_script.specs.declared.Scripted.{Scripted}
 
 -- ---- a call: its kind, and as many words as that call has
@@ -14,6 +19,7 @@ use Rattle.unit_script.specs.declared.Scripted.{Scripted}
 --      1 junction
 --      2 junction
 --      3 start route log
+--      4 road time start
 
 -- how many words a call has, its kind with them; 0 for a kind that is none
 abbrev pub wordsOf : (kind : ℕ) → ℕ
@@ -21,19 +27,36 @@ wordsOf zero = 3
 wordsOf (suc zero) = 2
 wordsOf (suc (suc zero)) = 2
 wordsOf (suc (suc (suc zero))) = 4
-wordsOf (suc (suc (suc (suc k)))) = 0
+wordsOf (suc (suc (suc (suc zero)))) = 4
+wordsOf (suc (suc (suc (suc (suc k))))) = 0
 
--- the call that a kind and three words spell, beside areas of r and l entries: go's last two words say how many entries of route and log
--- it is lent, all of an area that has fewer; any other call is lent all of both, and leaves them
-abbrev pub spelled : (kind one two three : ℕ) → (r l : ℕ) → Plain
-spelled zero one two three r l = record { asked = Set one two; route = r; log = l }
-spelled (suc zero) one two three r l = record { asked = Aim one; route = r; log = l }
-spelled (suc (suc zero)) one two three r l = record { asked = Estimate one; route = r; log = l }
-spelled (suc (suc (suc k))) one two three r l = record { asked = Go one; route = min two r; log = min three l }
+-- how many entries the areas have that are lent to the calls of a script
+pub record Lending : Type 0 where
+  pub route : ℕ
+  pub log : ℕ
+  pub work : ℕ
 
--- the code's form of it
-abbrev pub scriptedIn : Scripted → Plain
-scriptedIn c = record { asked = callIn (c .call); route = c .route; log = c .log }
+-- what is asked, with all of route and log
+abbrev pub withAll : Lending → Asked → Plain
+withAll l a = record { asked = a; route = l .route; log = l .log }
+
+-- the call that a kind and three words spell, beside areas of so many entries: go's last two words say how many entries of route and log it
+-- is lent, all of an area that has fewer; any other call is lent all of both, and leaves them; a preview is lent the whole work area
+abbrev pub spelled : (kind one two three : ℕ) → Lending → Plain
+spelled zero one two three l = withAll l (Set one two)
+spelled (suc zero) one two three l = withAll l (Aim one)
+spelled (suc (suc zero)) one two three l = withAll l (Estimate one)
+spelled (suc (suc (suc zero))) one two three l = record { asked = Go one; route = min two (l .route); log = min three (l .log) }
+spelled (suc (suc (suc (suc k)))) one two three l = withAll l (Preview one two three (l .work))
+
+-- the code's form of what is asked, beside a work area of so many entries
+abbrev pub askedIn : code.Asked → (work : ℕ) → Asked
+askedIn (scripts.Four c) w = callIn c
+askedIn (scripts.Preview i t j) w = Preview i (t .0) (j .0) w
+
+-- and of the call
+abbrev pub scriptedIn : Scripted → (work : ℕ) → Plain
+scriptedIn c w = record { asked = askedIn (c .asked) w; route = c .route; log = c .log }
 
 -- ---- at a place of a script
 
@@ -45,8 +68,8 @@ endAt script at = cond (leb (at + wordsOf (getD script at 0)) (length script)) (
 abbrev pub isCall : (script : List ℕ) → (at : ℕ) → Bool
 isCall script at = ltb at (endAt script at)
 
--- that call, beside areas of r and l entries
-abbrev pub callAt : (script : List ℕ) → (at r l : ℕ) → Plain
+-- that call, beside areas of so many entries
+abbrev pub callAt : (script : List ℕ) → (at : ℕ) → Lending → Plain
 callAt script at = spelled (getD script at 0) (getD script (at + 1) 0) (getD script (at + 2) 0) (getD script (at + 3) 0)
 
 -- ---- answers
@@ -55,12 +78,20 @@ callAt script at = spelled (getD script at 0) (getD script (at + 1) 0) (getD scr
 abbrev pub answerSize : ℕ
 answerSize = 4
 
--- the number of the question that refuses, or 0; estimate or total; count; number of roads
+-- a signed number as a 64-bit word, two's complement; 0 where there is none
+abbrev pub changeWord : Option ℤ → ℕ
+changeWord none = 0
+changeWord (some (pos d)) = d
+changeWord (some (negsuc d)) = 18446744073709551615 - d
+
+-- the number of the question that refuses, or 0; estimate or total; count; number of roads. Of a preview: 0, present total, new total,
+-- change
 abbrev pub answerWords : Answer → List ℕ
 answerWords (Refused q) = q .question ∷ 0 ∷ q .count ∷ 0 ∷ []
 answerWords Accepted = 0 ∷ 0 ∷ 0 ∷ 0 ∷ []
 answerWords (Estimated t) = 0 ∷ t ∷ 0 ∷ 0 ∷ []
 answerWords (Gone t c k) = 0 ∷ t ∷ c ∷ k ∷ []
+answerWords (Previewed a b c) = 0 ∷ word a ∷ word b ∷ changeWord c ∷ []
 
 -- how many answers have room in an area of so many words
 abbrev pub roomIn : (words : ℕ) → ℕ

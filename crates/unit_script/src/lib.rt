@@ -1,13 +1,15 @@
 // A script of calls as words: makes them one after the other, and writes the words of their answers.
 ghost use mathlib.Core.Path.{_≡_};
 ghost use mathlib.Core.List.{[], _∷_};
-ghost use Prim.Native.Nat.{_*_, _+_, _≤_, min};
+ghost use Prim.Native.Nat.{_*_, _+_, _≤_, min, ℕ};
 ghost use lib.ListN.{getD, length};
-ghost use Rattle.unit_answers.specs.Shape.{answerIn, callIn};
+ghost use mathlib.Core.Option.{some};
+ghost use Rattle.unit_answers.specs.Shape.{answerIn, callIn, changeIn};
 ghost use Rattle.network.specs.Lending.{areas};
 ghost use Rattle.unit_questions.specs.Lending.{lent};
 ghost use Rattle.unit.specs.Shape.{answeredIn, headerIn};
-ghost use Rattle.unit_script.specs.Words.{answerSize, answerWords, callAt, endAt, putAt, roomIn, scriptedIn, spelled, wordsOf};
+ghost use Rattle.unit_script.specs.Words.{answerSize, answerWords, changeWord, putAt, roomIn};
+ghost use Rattle.unit_script.specs.Words.{callAt, endAt, scriptedIn, spelled, wordsOf};
 ghost use Rattle.unit_script.specs.Script.{MakeContract, OneContract, ReplayContract, isNext};
 use network::Junction;
 use network::Time;
@@ -16,12 +18,19 @@ use unit::Answered;
 use unit::Header;
 use unit_answers::Answer;
 use unit_answers::Call;
+use unit_answers::Change;
 
 // ---- the words of a call
 
+// What a call of a script asks: one of document 01's four, or a preview of a road, a time and a start.
+enum Asked {
+    Four(Call),
+    Preview(u32, Time, Junction),
+}
+
 // A call of a script, and how many entries of route and log it is lent.
 struct Scripted {
-    call: Call,
+    asked: Asked,
     route: usize,
     log: usize,
 }
@@ -34,6 +43,8 @@ const AIM_WORDS: usize = 2;
 const ESTIMATE_WORDS: usize = 2;
 // Go: `3 start route log`.
 const GO_WORDS: usize = 4;
+// Preview: `4 road time start`.
+const PREVIEW_WORDS: usize = 4;
 
 // How many words a call has, its kind with them; 0 for a kind that is none.
 fn words_of(kind: u32) -> usize
@@ -51,6 +62,9 @@ fn words_of(kind: u32) -> usize
     if kind == 3 {
         return GO_WORDS;
     }
+    if kind == 4 {
+        return PREVIEW_WORDS;
+    }
     0
 }
 
@@ -62,12 +76,12 @@ fn at_most(word: u32, most: usize) -> usize
     if n < most { n } else { most }
 }
 
-// A call, and how many entries it is lent.
+// One of the four calls, and how many entries it is lent.
 fn lending(call: Call, route: usize, log: usize) -> Scripted
-    ensures { λ r. ⌜ scriptedIn r ≡ record { asked = callIn call; route = route; log = log } ⌝ }
+    ensures { λ r. ⌜ ((w : ℕ) → scriptedIn r w ≡ record { asked = callIn call; route = route; log = log }) ⌝ }
 {
     Scripted {
-        call: call,
+        asked: Asked::Four(call),
         route: route,
         log: log,
     }
@@ -76,7 +90,7 @@ fn lending(call: Call, route: usize, log: usize) -> Scripted
 // The call that a kind and three words spell, beside areas of so many entries. Go is lent as many of them as its last two words say, all of
 // an area that has fewer; any other call is lent all, and leaves them.
 fn spell(kind: u32, one: u32, two: u32, three: u32, route: usize, log: usize) -> Scripted
-    ensures { λ r. ⌜ scriptedIn r ≡ spelled kind one two three route log ⌝ }
+    ensures { λ r. ⌜ ((w : ℕ) → scriptedIn r w ≡ spelled kind one two three (record { route = route; log = log; work = w })) ⌝ }
 {
     if kind == 0 {
         return lending(Call::Set(one, Time::of_word(two)), route, log);
@@ -87,11 +101,16 @@ fn spell(kind: u32, one: u32, two: u32, three: u32, route: usize, log: usize) ->
     if kind == 2 {
         return lending(Call::Estimate(Junction(one)), route, log);
     }
-    lending(
-        Call::Go(Junction(one)),
-        at_most(two, route),
-        at_most(three, log),
-    )
+    if kind == 3 {
+        let roads = at_most(two, route);
+        let logged = at_most(three, log);
+        return lending(Call::Go(Junction(one)), roads, logged);
+    }
+    Scripted {
+        asked: Asked::Preview(one, Time::of_word(two), Junction(three)),
+        route: route,
+        log: log,
+    }
 }
 
 // ---- at a place of a script
@@ -120,7 +139,7 @@ fn end_at(script: &[u32], at: usize) -> usize
 // That call, beside areas of so many entries.
 fn call_at(script: &[u32], at: usize, route: usize, log: usize) -> Scripted
     requires { ⌜ at ≤ length (now script) ⌝ }
-    ensures { λ r. ⌜ scriptedIn r ≡ callAt (now (script .entry)) at route log ⌝ }
+    ensures { λ r. ⌜ ((w : ℕ) → scriptedIn r w ≡ callAt (now (script .entry)) at (record { route = route; log = log; work = w })) ⌝ }
 {
     spell(
         word_at(script, at, 0),
@@ -164,7 +183,28 @@ fn put_four(out: &mut [u64], k: usize, one: u64, two: u64, three: u64, four: u64
     out[i + 3] = four;
 }
 
-// Writes the words of answer k: the number of the question that refuses, or 0; estimate or total; count; number of roads.
+// The word of a signed number, two's complement.
+fn signed_word(d: i64) -> u64
+    ensures { λ r. ⌜ r ≡ changeWord (some d) ⌝ }
+{
+    if d < 0 {
+        return 0xFFFF_FFFF_FFFF_FFFF - ((-1 - d) as u64);
+    }
+    d as u64
+}
+
+// The word of a change; 0 where there is none.
+fn change_word(change: Change) -> u64
+    ensures { λ r. ⌜ r ≡ changeWord (changeIn change) ⌝ }
+{
+    match change {
+        Change::By(d) => signed_word(d),
+        Change::Absent => 0,
+    }
+}
+
+// Writes the words of answer k: the number of the question that refuses, or 0; estimate or total; count; number of roads. Of a preview: 0,
+// present total, new total, change.
 fn put_answer(out: &mut [u64], k: usize, x: Answer)
     requires { ⌜ answerSize * k + answerSize ≤ length (now out) ⌝ }
     ensures { λ _. ⌜ now (out .exit) ≡ putAt (now (out .entry)) k (answerWords (answerIn x)) ⌝ }
@@ -174,12 +214,13 @@ fn put_answer(out: &mut [u64], k: usize, x: Answer)
         Answer::Accepted => put_four(out, k, 0, 0, 0, 0),
         Answer::Estimated(t) => put_four(out, k, 0, t.word() as u64, 0, 0),
         Answer::Gone(t, c, r) => put_four(out, k, 0, t, c as u64, r as u64),
+        Answer::Previewed(a, b, c) => put_four(out, k, 0, a.word(), b.word(), change_word(c)),
     }
 }
 
 // ---- the calls of a script
 
-// Makes one call, which is lent the first entries of route and log.
+// Makes one call, which is lent the first entries of route and log; a preview is lent the work area.
 fn make_call(
     header: Header,
     card: &[u8],
@@ -193,30 +234,48 @@ fn make_call(
     groups: &[u32],
     route: &mut [u32],
     log: &mut [u32],
+    work: &mut [TimeWord],
     c: Scripted,
 ) -> Answered
     requires { ⌜ (c .route ≤ length (now route)) × (c .log ≤ length (now log)) ⌝ }
     ensures { λ r. ⌜ OneContract (now (card .entry)) (headerIn header) (areas ranks pairs live down estimates elapsed leaving groups)
-        (lent route log) (scriptedIn c) (answeredIn r) ⌝ }
+        (lent route log) (scriptedIn c (length (now (work .entry)))) (answeredIn r) ⌝ }
 {
-    let call = c.call;
+    let asked = c.asked;
     let roads = c.route;
     let logged = c.log;
-    unit::call(
-        header,
-        card,
-        ranks,
-        pairs,
-        live,
-        down,
-        estimates,
-        elapsed,
-        leaving,
-        groups,
-        &mut route[..roads],
-        &mut log[..logged],
-        call,
-    )
+    match asked {
+        Asked::Four(call) => unit::call(
+            header,
+            card,
+            ranks,
+            pairs,
+            live,
+            down,
+            estimates,
+            elapsed,
+            leaving,
+            groups,
+            &mut route[..roads],
+            &mut log[..logged],
+            call,
+        ),
+        Asked::Preview(road, time, start) => header.preview(
+            card,
+            ranks,
+            pairs,
+            live,
+            down,
+            estimates,
+            elapsed,
+            leaving,
+            groups,
+            work,
+            road,
+            time,
+            start,
+        ),
+    }
 }
 
 // Makes the calls of a script from a header and the areas that belong to it, and hands the last header back.
@@ -233,11 +292,12 @@ fn make_calls(
     groups: &[u32],
     route: &mut [u32],
     log: &mut [u32],
+    work: &mut [TimeWord],
     script: &[u32],
     out: &mut [u64],
 ) -> Header
     ensures { λ h. ⌜ MakeContract (now (card .entry)) (headerIn start) (areas ranks pairs live down estimates elapsed leaving groups)
-        (lent route log) (now (script .entry)) (now (out .entry)) (now (out .exit)) (headerIn h) ⌝ }
+        (lent route log) (length (now (work .entry))) (now (script .entry)) (now (out .entry)) (now (out .exit)) (headerIn h) ⌝ }
 {
     let room = room_in(out.len());
     let mut h = start;
@@ -258,6 +318,7 @@ fn make_calls(
             groups,
             route,
             log,
+            work,
             c,
         );
         h = r.header;
@@ -269,7 +330,7 @@ fn make_calls(
     h
 }
 
-// Prepares the card and makes the calls of a script through `unit::call`; writes four words for each answer.
+// Prepares the card and makes the calls of a script; writes four words for each answer. A preview is lent the work area.
 // Hands back preparing's answer and the last header.
 pub fn replay(
     card: &[u8],
@@ -283,11 +344,12 @@ pub fn replay(
     groups: &mut [u32],
     route: &mut [u32],
     log: &mut [u32],
+    work: &mut [TimeWord],
     script: &[u32],
     out: &mut [u64],
 ) -> Answered
     ensures { λ r. ⌜ ReplayContract (now (card .entry)) (areas ranks pairs live down estimates elapsed leaving groups) (lent route log)
-        (now (script .entry)) (now (out .entry)) (now (out .exit)) (answeredIn r) ⌝ }
+        (length (now (work .entry))) (now (script .entry)) (now (out .entry)) (now (out .exit)) (answeredIn r) ⌝ }
 {
     let prepared = unit_switch_on::prepare(
         card,
@@ -315,6 +377,7 @@ pub fn replay(
         groups,
         route,
         log,
+        work,
         script,
         out,
     );

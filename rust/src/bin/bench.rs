@@ -3,7 +3,7 @@
 
 use harness::areas;
 use harness::both::Both;
-use harness::calls::{Calls, Refusal};
+use harness::calls::{Calls, Previewed, Refusal};
 use harness::card::{self, LONGEST, MOST_JUNCTIONS};
 use harness::dijkstra;
 use harness::graph::Graph;
@@ -124,6 +124,12 @@ struct Line {
     go: Option<Go>,
 }
 
+impl Line {
+    fn with_areas(step: &str, [proved, plain, areas]: [f64; 3]) -> Line {
+        Line { step: step.to_string(), proved, plain, areas: Some(areas), go: None }
+    }
+}
+
 /// What a go is measured beside: µs, and the mean numbers of junctions that are settled.
 struct Go {
     dijkstra: f64,
@@ -164,6 +170,7 @@ impl Measured {
         bench.aim();
         bench.estimates();
         bench.set();
+        bench.preview();
         for percent in [0, 1, 5] {
             bench.go(percent);
         }
@@ -184,9 +191,8 @@ impl Bench<'_> {
         self.lines.push(Line { step: step.to_string(), proved, plain, areas: None, go: None });
     }
 
-    fn line_with_areas(&mut self, step: &str, [proved, plain, areas]: [f64; 3]) {
-        let areas = Some(areas);
-        self.lines.push(Line { step: step.to_string(), proved, plain, areas, go: None });
+    fn line_with_areas(&mut self, step: &str, times: [f64; 3]) {
+        self.lines.push(Line::with_areas(step, times));
     }
 
     fn junctions(&mut self) -> Vec<u32> {
@@ -290,6 +296,45 @@ impl Bench<'_> {
         self.line_with_areas("set", times.map(|time| time / 2_000.0));
     }
 
+    /// Previews of a trip, each with a road of its way taking ten times its base time: right after an aim, so
+    /// with no estimate known, and again, with those known that it asks for.
+    fn preview(&mut self) {
+        let (starts, targets) = (self.junctions(), self.junctions());
+        let trips = starts.into_iter().zip(targets);
+        let asked: Vec<Outlook> =
+            trips.map(|(start, target)| self.outlook(start, target)).collect();
+        let mut areas = self.both.unit.clone();
+        let Both { unit, router, .. } = &mut self.both;
+        for asked in &asked {
+            asked.answered(unit, router, &mut areas);
+        }
+        for (step, before) in [("preview", 0), ("preview again", 1)] {
+            let times = measure(
+                TRIPS,
+                [
+                    &mut |i| asked[i].previewed(unit, before).0,
+                    &mut |i| asked[i].previewed(router, before).0,
+                    &mut |i| asked[i].previewed_on_areas(&mut areas, before).0,
+                ],
+            );
+            self.lines.push(Line::with_areas(step, times));
+        }
+    }
+
+    /// A trip, and the middle road of its way, or any road where it has none.
+    fn outlook(&mut self, start: u32, target: u32) -> Outlook {
+        let unit = &mut self.both.unit;
+        unit.aim(target).expect("a junction");
+        let (mut route, mut log) = ([0; MOST_JUNCTIONS], [0; MOST_JUNCTIONS]);
+        let roads = unit.go(start, &mut route, &mut log).map_or(0, |trip| trip.roads as usize);
+        let road = match roads {
+            0 => self.random.below(self.map.m()) as u32,
+            _ => route[roads / 2],
+        };
+        let time = LONGEST.min(10 * self.map.roads[road as usize].base);
+        Outlook { n: self.map.n(), road, time, start, target }
+    }
+
     /// Trips with so many percent of the roads changed: right after an aim, so with no estimate known,
     /// and again, with those known that they ask for.
     fn go(&mut self, percent: usize) {
@@ -333,6 +378,59 @@ impl Bench<'_> {
             let go = Some(Go { dijkstra, free, count, settled });
             self.lines.push(Line { step, proved, plain, areas: None, go });
         }
+    }
+}
+
+/// A preview after an aim.
+struct Outlook {
+    n: usize,
+    road: u32,
+    time: Time,
+    start: u32,
+    target: u32,
+}
+
+impl Outlook {
+    /// Its time and its answer, after so many others like it.
+    fn previewed(&self, unit: &mut impl Calls, before: usize) -> (Duration, Option<Previewed>) {
+        let &Outlook { road, time, start, target, .. } = self;
+        unit.aim(target).expect("a junction");
+        self.timed(before, |work| unit.preview(road, time, start, work))
+    }
+
+    /// The answer, which is the same by all three.
+    fn answered(
+        &self,
+        unit: &mut Unit,
+        router: &mut Router,
+        areas: &mut Unit,
+    ) -> Option<Previewed> {
+        let answer = self.previewed(unit, 0).1;
+        assert_eq!(answer, self.previewed(router, 0).1, "proved (left), plain (right)");
+        assert_eq!(answer, self.previewed_on_areas(areas, 0).1, "proved (left), areas (right)");
+        assert!(areas == unit, "the areas differ");
+        answer
+    }
+
+    fn previewed_on_areas(&self, unit: &mut Unit, before: usize) -> (Duration, Option<Previewed>) {
+        let &Outlook { road, time, start, target, .. } = self;
+        areas::aim(unit, target).expect("a junction");
+        self.timed(before, |work| areas::preview(unit, road, time, start, work))
+    }
+
+    fn timed(
+        &self,
+        before: usize,
+        mut preview: impl FnMut(&mut [Time]) -> Result<Previewed, Refusal>,
+    ) -> (Duration, Option<Previewed>) {
+        let mut work = [0; 2 * MOST_JUNCTIONS];
+        let work = &mut work[..2 * self.n];
+        for _ in 0..before {
+            let _ = preview(work);
+        }
+        let start = Instant::now();
+        let answer = black_box(preview(work));
+        (start.elapsed(), answer.ok())
     }
 }
 
@@ -466,13 +564,17 @@ none, in a least-degree one, and has a table of its own at the end, under its na
 - **A\\***: A\\* with each junction's least base total to the target handed to it free. It logs what the unit logs.
 - **go**: 20 trips between any two junctions, each right after an aim, so with no estimate known; **again**: the same trips once more.
   Of the changed roads, half are closed and half delayed to two to ten times their base time.
+- **preview**: 20 trips in the same way, no road changed, each with a road from the middle of its way previewed at ten times its base time, so
+  two searches; **preview again**: the same once more. Under *areas* in Rust too over the unit's areas, the work area and a binary heap.
 - **settled**: how many junctions the unit logs in a trip, and how many Dijkstra's algorithm settles; means.
 
 ";
 
 /// The largest town's ratios as earlier landings left them, in the columns of `Report::landings`.
-const BEFORE: [[&str; 5]; 1] =
-    [["8, before A1", "1.52", "2.65 (3.90)", "1.98 (2.84)", "1.57 (2.33)"]];
+const BEFORE: [[&str; 6]; 2] = [
+    ["8, before A1", "1.52", "2.65 (3.90)", "1.98 (2.84)", "1.57 (2.33)", ""],
+    ["9, A1", "1.53", "0.892 (1.35)", "0.853 (1.30)", "0.833 (1.26)", ""],
+];
 
 impl Display for Report {
     fn fmt(&self, f: &mut Formatter) -> fmt::Result {
@@ -560,17 +662,21 @@ impl Report {
             let Some(line) = large.lines.iter().find(|line| line.step == step) else {
                 return String::new();
             };
-            let free = |go: &Go| format!(" ({})", digits(line.proved / go.free));
-            digits(line.proved / line.plain) + &line.go.as_ref().map_or(String::new(), free)
+            let beside = line.go.as_ref().map(|go| go.free).or(line.areas);
+            let beside = beside.map(|time| format!(" ({})", digits(line.proved / time)));
+            digits(line.proved / line.plain) + &beside.unwrap_or_default()
         };
         let n = large.map.n();
-        write!(f, "\nRatios at {n} junctions by landing, to Rust and in brackets to A\\*:\n\n")?;
-        f.write_str("| landing | prepare | again, 0 % | 1 % | 5 % |\n|:--|--:|--:|--:|--:|\n")?;
+        write!(f, "\nRatios at {n} junctions by landing, to Rust and in brackets to A\\*, ")?;
+        f.write_str("of a preview (A2) to Rust on the areas:\n\n")?;
+        f.write_str("| landing | prepare | again, 0 % | 1 % | 5 % | preview again |\n")?;
+        f.write_str("|:--|--:|--:|--:|--:|--:|\n")?;
         for cells in BEFORE {
             writeln!(f, "| {} |", cells.join(" | "))?;
         }
         let again = ["0", "1", "5"].map(|part| ratio(&format!("again, {part} % of roads changed")));
-        writeln!(f, "| this run | {} | {} |", ratio("prepare"), again.join(" | "))
+        let [prepare, preview] = ["prepare", "preview again"].map(ratio);
+        writeln!(f, "| this run | {prepare} | {} | {preview} |", again.join(" | "))
     }
 }
 
@@ -692,6 +798,40 @@ mod tests {
         let many = "road 0 1 5\n".repeat(MOST_ROADS + 1);
         let message = "line 16385: a map has no more than 16384 roads";
         assert_eq!(fitting(many.as_bytes()), Err(message.to_string()));
+    }
+
+    /// What is previewed delays the trip for the most part, and all three answer alike.
+    #[test]
+    fn outlooks() {
+        let map = maps::town(&mut Random::new(1), 20, 25, Streets::USUAL);
+        let both = Both::prepare(&map, order::pairs(&map)).unwrap();
+        let mut bench = Bench { map: &map, both, random: Random::new(2), lines: Vec::new() };
+        let mut longer = 0;
+        for (start, target) in bench.junctions().into_iter().zip(bench.junctions()) {
+            let asked = bench.outlook(start, target);
+            let mut areas = bench.both.unit.clone();
+            let Both { unit, router, .. } = &mut bench.both;
+            let answer = asked.answered(unit, router, &mut areas);
+            longer += answer.unwrap().change.is_some_and(|change| change > 0) as usize;
+        }
+        assert!(longer > TRIPS / 2, "{longer} of {TRIPS}");
+    }
+
+    /// The landings' table has a column for each step of it, and one for previews.
+    #[test]
+    fn landings_in_the_report() {
+        let steps = ["prepare", "again, 0 % of roads changed", "preview again"];
+        let towns = TOWNS.map(|(width, _)| {
+            let lines = steps.map(|step| Line::with_areas(step, [3.0, 2.0, 6.0])).into();
+            Measured { map: maps::line(width), pairs: width - 1, lines }
+        });
+        let report = Report { towns, files: vec![] }.to_string();
+        let (_, table) = report.split_once("by landing").unwrap();
+        let rows: Vec<&str> = table.lines().filter(|line| line.starts_with('|')).collect();
+        let columns = rows.iter().map(|row| row.matches('|').count());
+        assert_eq!(columns.collect::<Vec<_>>(), [7; 3 + BEFORE.len()], "{table}");
+        let last = "| this run | 1.50 (0.500) | 1.50 (0.500) |  |  | 1.50 (0.500) |";
+        assert_eq!(rows.last(), Some(&last));
     }
 
     /// Files come after the towns and the growth, each with its name once and its own rows.

@@ -34,6 +34,12 @@ returns-4 c =
     answer-put _ (after-answer3 .answer3 .given .1)
     (puts-as (ap (tripText _ _) (after-first-roads .first-roads .ensures)) (after-put-trip .put-trip .ensures))
 
+returns-5 : tie.Need-returns-5
+returns-5 c =
+    let after-put2 = c .before .before in
+    let after-enum-told2 = after-put2 .before .before .before in
+    answer-put _ (after-enum-told2 .enum-told2 .given .1) (after-put2 .put2 .ensures)
+
 pub put-answer-spec : {M : Type 1} → statement M
 put-answer-spec =
     tie.close
@@ -49,10 +55,15 @@ put-answer-spec =
     (λ c κs. search needs)
     (λ c κs. search needs)
     (λ c. search needs)
+    (λ c. search needs)
+    (λ c κs. search needs)
+    (λ c. search needs)
     returns
     (λ c. search needs)
     returns-2
     (λ c. search needs)
     returns-3
     (λ c. search needs)
-    returns-4)
+    returns-4
+    (λ c. search needs)
+    returns-5)

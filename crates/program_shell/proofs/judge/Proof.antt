@@ -57,6 +57,9 @@ returns-4 c = (by-answer (c .before .before) (c .enum-told2 .given .1), λ e. re
 returns-5 : tie.Need-returns-5
 returns-5 c = (by-answer (c .before .before) (c .enum-told3 .given .1), λ e. refl)
 
+returns-6 : tie.Need-returns-6
+returns-6 c = (by-answer (c .before .before) (c .enum-told4 .given .1), λ e. refl)
+
 pub judge-spec : {M : Type 1} → statement M
 judge-spec =
     tie.close
@@ -70,7 +73,9 @@ judge-spec =
     (λ c. search needs)
     (λ c. search needs)
     (λ c. search needs)
+    (λ c. search needs)
     returns-2
     returns-3
     returns-4
-    returns-5)
+    returns-5
+    returns-6)

@@ -48,14 +48,14 @@ slice-read-of-word : tie.Need-slice-read-of-word
 slice-read-of-word c =
     let after-advance = c .before .before .before .before .before .before .before .before .before in
     let lends = start after-advance .pre in
-    below-kept (lends .target-in) (lends .sized .elapsed-is) (long after-advance .elapsed-long)
+    below-kept (lends .within .target-in) (lends .within .sized .elapsed-is) (long after-advance .elapsed-long)
 
 returns : tie.Need-returns
 returns c =
     let after-is-none = c .before in
     let after-of-word = after-is-none .before in
     let after-advance = after-advance after-is-none in
-    searches-lost (start after-advance .pre) (after-advance .advance .ensures) (after-of-word .of-word .ensures)
+    searches-lost (start after-advance .pre .within) (after-advance .advance .ensures) (after-of-word .of-word .ensures)
     (sym (after-is-none .is-none .ensures) ∙ c .if1 .taken)
 
 way-back-requires : tie.Need-way-back-requires
@@ -63,9 +63,9 @@ way-back-requires c κs =
     let after-is-none = c .before .before .before in
     let after-advance = after-advance after-is-none in
     let lends = start after-advance .pre in (
-      lends .target-in,
-      omega (arith, long after-advance .ways-long, lends .sized .n-high),
-      omega (arith, lends .sized .roads-are),
+      lends .within .target-in,
+      omega (arith, long after-advance .ways-long, lends .within .sized .n-high),
+      omega (arith, lends .within .sized .roads-are),
       lends .ways-long,
     )
 
@@ -80,7 +80,7 @@ returns-2 c =
     let after-of-word = after-is-none .before in
     let after-advance = after-advance after-is-none in
     let (number-is, route-is) = c .before .before .way-back .ensures in
-    searches-found (start after-advance .pre) (after-advance .advance .ensures) (after-of-word .of-word .ensures)
+    searches-found (start after-advance .pre .within) (after-advance .advance .ensures) (after-of-word .of-word .ensures)
     (sym (after-is-none .is-none .ensures) ∙ else1 c .if1 .left) number-is route-is
 
 pub search-spec : {M : Type 1} → statement M

@@ -3,6 +3,7 @@
 use native.Mathlib.Omega.{arith}
 use mathlib.Core.Path.{_∙_, sym}
 use borrow.Author.Needs.{needs}
+use Rattle.search_junctions.specs.Views.{seen}
 use Rattle.search_junctions.proofs.Opens.{OpenRoad}
 use Rattle.search_junctions.proofs.Heads.{head-closed, head-far, head-known, head-open, known-word}
 use Rattle.search_junctions.proofs.ask_head.Statement.{statement}
@@ -10,22 +11,23 @@ use Rattle.search_junctions.proofs.ask_head.Tie as tie
 
 -- ---- the road, once its words are read
 
-abbrev start : tie.After-cost-of → tie.Start
-start c = c .before .before .before .before .before .before .before .before
+abbrev start : tie.After-time-of → tie.Start
+start c = c .before .before .before .before .before .before .before .before .before
 
 abbrev after-head-of : tie.Else2 → tie.After-head-of
 after-head-of c = c .before .before .before
 
-abbrev after-cost-of : tie.Else2 → tie.After-cost-of
-after-cost-of c = after-head-of c .before .before .before
+abbrev after-time-of : tie.Else2 → tie.After-time-of
+after-time-of c = after-head-of c .before .before .before
 
-open-road : (c : tie.Else2) → let args = start (after-cost-of c) .args in
-    OpenRoad (args .sizes) (args .roads .now) (args .live .now) (args .i) (after-cost-of c .cost-of .result .0)
+open-road : (c : tie.Else2) → let args = start (after-time-of c) .args in
+    OpenRoad (args .trip .sizes) (args .roads .now) (seen (args .trip .view) (args .live .now)) (args .i)
+    (after-time-of c .time-of .result .0)
     (after-head-of c .head-of .result .0)
 open-road c =
     let else1 = after-head-of c .before in record {
-      road-in = start (after-cost-of c) .pre .0;
-      time-is = after-cost-of c .cost-of .ensures;
+      road-in = start (after-time-of c) .pre .0;
+      time-is = after-time-of c .time-of .ensures;
       open-is = sym (else1 .before .is-closed .ensures) ∙ else1 .if1 .left;
       head-is = after-head-of c .head-of .ensures;
       head-in = omega (arith, c .if2 .left);
@@ -33,21 +35,21 @@ open-road c =
 
 -- ---- the answers
 
-cost-of-requires : tie.Need-cost-of-requires
-cost-of-requires c κs =
-    let start = c .before .before .before .before .before .before .before in
+time-of-requires : tie.Need-time-of-requires
+time-of-requires c κs =
+    let start = c .before .before .before .before .before .before .before .before in
     omega (arith, start .pre .0, start .pre .1 .live-is)
 
 returns : tie.Need-returns
 returns c =
-    let after-cost-of = c .before .before in
-    head-closed (after-cost-of .cost-of .ensures) (sym (c .before .is-closed .ensures) ∙ c .if1 .taken)
+    let after-time-of = c .before .before in
+    head-closed (after-time-of .time-of .ensures) (sym (c .before .is-closed .ensures) ∙ c .if1 .taken)
 
 returns-2 : tie.Need-returns-2
 returns-2 c =
     let after-head-of = c .before .before .before in
-    let after-cost-of = after-head-of .before .before .before in
-    head-far (start after-cost-of .pre .0) (after-head-of .head-of .ensures) (c .if2 .taken)
+    let after-time-of = after-head-of .before .before .before in
+    head-far (start after-time-of .pre .0) (after-head-of .head-of .ensures) (c .if2 .taken)
 
 returns-3 : tie.Need-returns-3
 returns-3 c =
@@ -59,7 +61,7 @@ returns-3 c =
 estimate-requires : tie.Need-estimate-requires
 estimate-requires c κs =
     let else2 = c .before .before .before .before .before .before in
-    let lent = start (after-cost-of else2) .pre .1 .over in record {
+    let lent = start (after-time-of else2) .pre .1 .over in record {
       junction-in = open-road else2 .head-in;
       n-high = lent .n-high;
       order-is = lent .order-is;
@@ -80,7 +82,7 @@ pub ask-head-spec : {M : Type 1} → statement M
 ask-head-spec =
     tie.close
     (tie.spec
-    cost-of-requires
+    time-of-requires
     (λ c κs. search needs)
     returns
     (λ c κs. search needs)

@@ -3,6 +3,7 @@
 use native.Mathlib.Omega.{arith}
 use mathlib.Core.Path.{_∙_, sym}
 use borrow.Author.Needs.{needs}
+use Rattle.search_junctions.specs.Views.{seen}
 use Rattle.search_junctions.proofs.Opens.{OpenRoad}
 use Rattle.search_junctions.proofs.Roads.{road-closed, road-far, road-open}
 use Rattle.search_junctions.proofs.relax_road.Statement.{statement}
@@ -10,22 +11,23 @@ use Rattle.search_junctions.proofs.relax_road.Tie as tie
 
 -- ---- the road, once its words are read
 
-abbrev start : tie.After-cost-of → tie.Start
-start c = c .before .before .before .before .before .before .before .before
+abbrev start : tie.After-time-of → tie.Start
+start c = c .before .before .before .before .before .before .before .before .before
 
 abbrev after-head-of : tie.Else2 → tie.After-head-of
 after-head-of c = c .before .before .before
 
-abbrev after-cost-of : tie.Else2 → tie.After-cost-of
-after-cost-of c = after-head-of c .before .before .before
+abbrev after-time-of : tie.Else2 → tie.After-time-of
+after-time-of c = after-head-of c .before .before .before
 
-open-road : (c : tie.Else2) → let args = start (after-cost-of c) .args in
-    OpenRoad (args .sizes) (args .roads .now) (args .live .now) (args .i) (after-cost-of c .cost-of .result .0)
+open-road : (c : tie.Else2) → let args = start (after-time-of c) .args in
+    OpenRoad (args .trip .sizes) (args .roads .now) (seen (args .trip .view) (args .live .now)) (args .i)
+    (after-time-of c .time-of .result .0)
     (after-head-of c .head-of .result .0)
 open-road c =
     let else1 = after-head-of c .before in record {
-      road-in = start (after-cost-of c) .pre .0;
-      time-is = after-cost-of c .cost-of .ensures;
+      road-in = start (after-time-of c) .pre .0;
+      time-is = after-time-of c .time-of .ensures;
       open-is = sym (else1 .before .is-closed .ensures) ∙ else1 .if1 .left;
       head-is = after-head-of c .head-of .ensures;
       head-in = omega (arith, c .if2 .left);
@@ -36,15 +38,15 @@ open-road c =
 returns : tie.Need-returns
 returns c =
     let after-is-closed = c .before in
-    let after-cost-of = after-is-closed .before in
-    let (road-in, _, room) = start after-cost-of .pre in
-    road-closed road-in (after-cost-of .cost-of .ensures) (sym (after-is-closed .is-closed .ensures) ∙ c .if1 .taken) room
+    let after-time-of = after-is-closed .before in
+    let (road-in, _, room) = start after-time-of .pre in
+    road-closed road-in (after-time-of .time-of .ensures) (sym (after-is-closed .is-closed .ensures) ∙ c .if1 .taken) room
 
 returns-2 : tie.Need-returns-2
 returns-2 c =
     let after-head-of = c .before .before .before in
-    let after-cost-of = after-head-of .before .before .before in
-    let (road-in, _, room) = start after-cost-of .pre in
+    let after-time-of = after-head-of .before .before .before in
+    let (road-in, _, room) = start after-time-of .pre in
     road-far road-in (after-head-of .head-of .ensures) (c .if2 .taken) room
 
 returns-3 : tie.Need-returns-3
@@ -53,7 +55,7 @@ returns-3 c =
     let after-or-sum = after-take .before .before .before .before .before in
     let after-of-word = after-or-sum .before in
     let else2 = after-of-word .before .before .before in
-    let (_, _, room) = start (after-cost-of else2) .pre in
+    let (_, _, room) = start (after-time-of else2) .pre in
     road-open (open-road else2) (after-of-word .of-word .ensures) (after-or-sum .or-sum .ensures) room (after-take .take .ensures)
 
 pub relax-road-spec : {M : Type 1} → statement M

@@ -13,6 +13,7 @@ use Rattle.network.specs.Locals.{counted}
 use Rattle.search_queue.specs.Order.{noKey}
 use Rattle.search_queue.specs.Tree.{nobodyWord}
 use Rattle.search_labels.specs.Labelling.{Labelling, labellingOf}
+use Rattle.search_junctions.specs.Views.{seen}
 use Rattle.search_junctions.specs.State.{givenOf}
 use Rattle.search_junctions.specs.Firsts.{begins-first}
 use Rattle.search_run.proofs.Turns.{Settled, standOf, withKeys}
@@ -25,7 +26,8 @@ use Rattle.search_run.proofs.advance.Tie as tie
 abbrev Inv-loop : tie.InvT-loop
 Inv-loop trip budget roads order ranks pairs live down leaving groups estimates₀ elapsed₀ vias₀ log₀ n times₀ keys₀ tree₀ most c₀ v₀
     estimates elapsed vias log times keys tree c v =
-    Running (givenOf (trip .sizes) roads order ranks pairs live down) leaving groups (trip .start .0) (trip .target .0) most
+    Running (givenOf (trip .sizes) roads order ranks pairs (seen (trip .view) live) down) leaving groups (trip .start .0)
+    (trip .target .0) most
     (standOf estimates₀ elapsed₀ log₀ (labellingOf times₀ keys₀ vias₀ tree₀) c₀ v₀)
     (standOf estimates elapsed log (labellingOf times keys vias tree) c v)
 
@@ -96,14 +98,14 @@ turn : (c : tie.In-loop Inv-loop μ-loop)
 turn c = turn-taken (c .loop-test .taken)
 
 node-small : (c : tie.In-loop Inv-loop μ-loop) → c .before .loop .v < mostJunctions
-node-small c = omega (arith, turn c .node-in, start (c .before) .pre .sized .n-high)
+node-small c = omega (arith, turn c .node-in, start (c .before) .pre .within .sized .n-high)
 
 count-inside : (c : tie.In-loop Inv-loop μ-loop) → c .before .loop .c < sizes (c .before) .n
 count-inside c = omega (arith, turn c .count-in, after-smaller (c .before) .smaller .ensures)
 
 -- its group starts at an entry of the groups, and ends at the next one
 groups-inside : (c : tie.In-loop Inv-loop μ-loop) → c .before .loop .v + 1 < length (start (c .before) .args .groups .now)
-groups-inside c = omega (arith, turn c .node-in, start (c .before) .pre .groups-are)
+groups-inside c = omega (arith, turn c .node-in, start (c .before) .pre .within .groups-are)
 
 -- ---- once the node is settled
 
@@ -148,13 +150,13 @@ after-relax c = c .before .before .before .before .before .before
 ask-start-requires : tie.Need-ask-start-requires Inv-loop μ-loop
 ask-start-requires c κs =
     let start = c .before .before .before .before .before .before .before .before .before .before .before .before .before in
-    (start .pre .start-in, pairs-in (start .pre .sized) refl)
+    (start .pre .within .start-in, pairs-in (start .pre .within .sized) refl)
 
 begin-requires : tie.Need-begin-requires Inv-loop μ-loop
 begin-requires c κs =
     let after-ask-start = c .before .before .before .before .before .before in
     let start = start-of after-ask-start in
-    (start .pre .start-in, room-blank (start .pre .sized .n-high) (start .pre .ways-long))
+    (start .pre .within .start-in, room-blank (start .pre .within .sized .n-high) (start .pre .ways-long))
 
 slice-aggregate-choose : tie.Need-slice-aggregate-choose Inv-loop μ-loop
 slice-aggregate-choose c =
@@ -172,13 +174,13 @@ loop-holds c =
     let after-ask-start = after-begin .before .before .before .before .before .before .before in
     let start = start-of after-ask-start in
     let room = after-begin .begin .ensures .room in
-    running-start (first-inside room (omega (arith, start .pre .start-in)) (c .choose .ensures)) room
+    running-start (first-inside room (omega (arith, start .pre .within .start-in)) (c .choose .ensures)) room
 
 slice-write-log : tie.Need-slice-write-log Inv-loop μ-loop
 slice-write-log c = omega (arith, count-inside c, c .before .loop .inv .log-long, start (c .before) .pre .log-long)
 
 add-c : tie.Need-add-c Inv-loop μ-loop
-add-c c = omega (arith, count-inside c, start (c .before) .pre .sized .n-high)
+add-c c = omega (arith, count-inside c, start (c .before) .pre .within .sized .n-high)
 
 cast-elapsed : tie.Need-cast-elapsed Inv-loop μ-loop
 cast-elapsed c = omega (arith, node-small c)
@@ -196,7 +198,7 @@ mul-elapsed-2 : tie.Need-mul-elapsed-2 Inv-loop μ-loop
 mul-elapsed-2 c = omega (arith, node-small c)
 
 slice-write-elapsed : tie.Need-slice-write-elapsed Inv-loop μ-loop
-slice-write-elapsed c = omega (arith, turn c .node-in, elapsed-long (c .before), start (c .before) .pre .sized .elapsed-is)
+slice-write-elapsed c = omega (arith, turn c .node-in, elapsed-long (c .before), start (c .before) .pre .within .sized .elapsed-is)
 
 slice-aggregate-put : tie.Need-slice-aggregate-put Inv-loop μ-loop
 slice-aggregate-put c =
@@ -257,7 +259,7 @@ ask-requires : tie.Need-ask-requires Inv-loop μ-loop
 ask-requires c κs =
     let else1 = c .before .before .before .before in
     let at-loop = turn-of else1 .before in
-    asking (start at-loop .pre .sized) (estimates-long at-loop)
+    asking (start at-loop .pre .within .sized) (estimates-long at-loop)
 
 slice-aggregate-relax : tie.Need-slice-aggregate-relax Inv-loop μ-loop
 slice-aggregate-relax c =
@@ -282,7 +284,7 @@ relax-requires c κs =
     let at-loop = in-loop .before in
     let (_, (_, (_, (_, (_, (_, (_, (estimates-kept, _)))))))) = after-ask .ask .kept in (
       turn in-loop .node-in,
-      reading (start at-loop .pre .sized) (estimates-kept ∙ estimates-long at-loop),
+      reading (start at-loop .pre .within .sized) (estimates-kept ∙ estimates-long at-loop),
       room-settled (settled after-put) (at-loop .loop .inv .room),
     )
 
@@ -322,8 +324,8 @@ returns : tie.Need-returns Inv-loop μ-loop
 returns c =
     let at-loop = c .before in
     let lends = start at-loop .pre in
-    let begins = begins-first (lends .start-in) (blank (lends .sized) (lends .ways-long)) (after-ask-start at-loop .ask-start .ensures)
-    (after-begin at-loop .begin .ensures) in
+    let begins = begins-first (lends .within .start-in) (blank (lends .within .sized) (lends .ways-long))
+    (after-ask-start at-loop .ask-start .ensures) (after-begin at-loop .begin .ensures) in
     advances lends begins (after-fill at-loop .fill .ensures) (at-loop .before .choose .ensures) (after-smaller at-loop .smaller .ensures)
     (at-loop .loop .inv) (c .loop-test .left)
 

@@ -13,38 +13,39 @@ use Rattle.unit_script.proofs.make_calls.Statement.{statement}
 use Rattle.unit_script.proofs.make_calls.Tie as tie
 
 abbrev Inv-loop : tie.InvT-loop
-Inv-loop card ranks pairs live₀ down₀ estimates₀ elapsed₀ leaving groups route₀ log₀ script out₀ room h₀ at₀ k₀
-    live down estimates elapsed route log out h at k =
-    AtTurn card script room at k out₀ out
+Inv-loop card ranks pairs live₀ down₀ estimates₀ elapsed₀ leaving groups route₀ log₀ work₀ script out₀ room h₀ at₀ k₀
+    live down estimates elapsed route log work out h at k =
+    AtTurn card script work₀ work room at k out₀ out
     (holding (headerIn h₀) (areasOf ranks pairs live₀ down₀ estimates₀ elapsed₀ leaving groups) (lentOf route₀ log₀))
     (holding (headerIn h) (areasOf ranks pairs live down estimates elapsed leaving groups) (lentOf route log))
 
 abbrev μ-loop : tie.MeasureT-loop
-μ-loop card ranks pairs live₀ down₀ estimates₀ elapsed₀ leaving groups route₀ log₀ script out₀ room h₀ at₀ k₀
-    live down estimates elapsed route log out h at k = room - k
+μ-loop card ranks pairs live₀ down₀ estimates₀ elapsed₀ leaving groups route₀ log₀ work₀ script out₀ room h₀ at₀ k₀
+    live down estimates elapsed route log work out h at k = room - k
 
 -- ---- where a call is next
 
 abbrev start : tie.At-loop Inv-loop μ-loop → tie.Start Inv-loop μ-loop
-start c = c .before .before .before .before .before .before .before .before .before .before .before .before .before .before .before
+start c = c .before .before .before .before .before .before .before .before .before .before .before .before .before .before .before .before
 
-next-is : (c : tie.Then1 Inv-loop μ-loop) →
-    let at-loop = c .before .before in
+next-is : (c : tie.Then1 Inv-loop μ-loop) → let at-loop = c .before .before in
     isNext (start at-loop .args .script .now) (at-loop .loop .at) (at-loop .loop .k) (at-loop .before .room-in .result) ≡ true
 next-is c = sym (c .before .is-next .ensures) ∙ c .if1 .taken
 
-room-left : (c : tie.Then1 Inv-loop μ-loop) →
-    let at-loop = c .before .before in
+room-left : (c : tie.Then1 Inv-loop μ-loop) → let at-loop = c .before .before in
     at-loop .loop .k < at-loop .before .room-in .result
 room-left c = let at-loop = c .before .before in turn-room (at-loop .loop .inv) (next-is c)
 
 -- ---- where it was made
 
+abbrev after-route : tie.After-put-answer-arg Inv-loop μ-loop → tie.After-route Inv-loop μ-loop
+after-route c = c .before .before .before .before .before .before .before
+
 abbrev after-make-call : tie.After-put-answer-arg Inv-loop μ-loop → tie.After-make-call Inv-loop μ-loop
-after-make-call c = c .before .before .before .before .before .before .before .before .before .before .before .before .before .before
+after-make-call c = after-route c .before .before .before .before .before .before .before .before .before
 
 abbrev after-call-at : tie.After-put-answer-arg Inv-loop μ-loop → tie.After-call-at Inv-loop μ-loop
-after-call-at c = after-make-call c .before .before .before .before .before .before .before
+after-call-at c = after-make-call c .before .before .before .before .before .before .before .before
 
 abbrev then1 : tie.After-put-answer-arg Inv-loop μ-loop → tie.Then1 Inv-loop μ-loop
 then1 c = after-call-at c .before
@@ -56,9 +57,9 @@ at-loop c = then1 c .before .before
 
 make-call-requires : tie.Need-make-call-requires Inv-loop μ-loop
 make-call-requires c κs =
-    let after-call-at = c .before .before .before .before .before .before in
+    let after-call-at = c .before .before .before .before .before .before .before in
     let at-loop = after-call-at .before .before .before in
-    turn-fits (at-loop .loop .inv) (after-call-at .call-at .ensures)
+    turn-fits (at-loop .loop .inv) 0 (after-call-at .call-at .ensures 0)
 
 put-answer-requires : tie.Need-put-answer-requires Inv-loop μ-loop
 put-answer-requires c κs =
@@ -82,7 +83,7 @@ loop-again c =
     let make-call = after-make-call at-put .make-call in
     let inv = at-loop at-put .loop .inv in
     let (_, (_, (_, (_, (live-kept, (down-kept, (estimates-kept, (elapsed-kept, kept)))))))) = make-call .kept in
-    let (_, (_, (route-kept, (log-kept, _)))) = kept in
+    let (_, (_, (route-kept, (log-kept, (work-kept, _))))) = kept in
     let (words-kept, _) = after-put-answer .put-answer .kept in
     record {
       within = turn-ends inv (c .end-at .ensures);
@@ -92,9 +93,10 @@ loop-again c =
       elapsed = elapsed-kept ∙ inv .elapsed;
       route = route-kept ∙ inv .route;
       log = log-kept ∙ inv .log;
+      work-is = work-kept ∙ inv .work-is;
       words = words-kept ∙ inv .words;
-      run = run-turn (inv .run) (next-is (then1 at-put)) (inv .route) (inv .log) (after-call-at at-put .call-at .ensures)
-          (c .end-at .ensures) (make-call .ensures) (after-put-answer .put-answer .ensures);
+      run = run-turn (inv .run) (next-is (then1 at-put)) (inv .route) (inv .log) (inv .work-is)
+          (after-call-at at-put .call-at .ensures _) (c .end-at .ensures) (make-call .ensures) (after-put-answer .put-answer .ensures);
     }
 
 returns : tie.Need-returns Inv-loop μ-loop
@@ -124,5 +126,6 @@ make-calls-spec =
     (λ c. c .before .before .loop .inv .elapsed)
     (λ c. c .before .before .loop .inv .route)
     (λ c. c .before .before .loop .inv .log)
+    (λ c. c .before .before .loop .inv .work-is)
     (λ c. c .before .before .loop .inv .words)
     returns)

@@ -8,16 +8,19 @@ use Rattle.unit_script.proofs.replay.Tie as tie
 
 -- ---- where the calls have been made, and where the card was prepared
 
-abbrev after-make-calls : tie.After-slice-known26 → tie.After-make-calls
-after-make-calls c = c .before .before .before .before .before .before .before .before .before .before .before .before .before .before
+abbrev after-route : tie.After-slice-known28 → tie.After-route
+after-route c = c .before .before .before .before .before .before .before
 
-abbrev after-header : tie.After-slice-known26 → tie.After-header
-after-header c = after-make-calls c .before .before .before .before .before .before .before .before .before .before .before .before
+abbrev after-make-calls : tie.After-slice-known28 → tie.After-make-calls
+after-make-calls c = after-route c .before .before .before .before .before .before .before .before .before
 
-abbrev after-live : tie.After-slice-known26 → tie.After-live
+abbrev after-header : tie.After-slice-known28 → tie.After-header
+after-header c = after-make-calls c .before .before .before .before .before .before .before .before .before .before .before .before .before
+
+abbrev after-live : tie.After-slice-known28 → tie.After-live
 after-live c = after-header c .before .before .before .before .before .before .before .before .before .before .before .before
 
-abbrev after-prepare : tie.After-slice-known26 → tie.After-prepare
+abbrev after-prepare : tie.After-slice-known28 → tie.After-prepare
 after-prepare c = after-live c .before .before .before .before .before
 
 -- ---- the areas keep their lengths, first while the card is prepared, then while the calls are made
@@ -80,6 +83,7 @@ replay-spec =
     elapsed-kept
     leaving-kept
     groups-kept
+    (λ c. search needs)
     (λ c. search needs)
     (λ c. search needs)
     (λ c. search needs)

@@ -3,17 +3,18 @@
 use borrow.Author.Needs.{needs}
 use Prim.Native.Nat.{_-_}
 use lib.ListN.{length}
+use Rattle.search_junctions.specs.Views.{seen}
 use Rattle.search_junctions.specs.State.{givenOf}
 use Rattle.search_junctions.proofs.Heads.{Asking, asking-end, asking-pass, asking-start, asking-turn, estimates-kept}
 use Rattle.search_junctions.proofs.Trip.ask.Statement.{statement}
 use Rattle.search_junctions.proofs.Trip.ask.Tie as tie
 
 abbrev Inv-loop : tie.InvT-loop
-Inv-loop roads order ranks pairs live down estimates₀ group sizes m k₀ estimates k =
-    Asking (givenOf sizes roads order ranks pairs live down) group k estimates₀ estimates
+Inv-loop trip roads order ranks pairs live down estimates₀ group m k₀ estimates k =
+    Asking (givenOf (trip .sizes) roads order ranks pairs (seen (trip .view) live) down) group k estimates₀ estimates
 
 abbrev μ-loop : tie.MeasureT-loop
-μ-loop roads order ranks pairs live down estimates₀ group sizes m k₀ estimates k = length group - k
+μ-loop trip roads order ranks pairs live down estimates₀ group m k₀ estimates k = length group - k
 
 -- ---- the answers
 
@@ -21,7 +22,7 @@ ask-head-requires : tie.Need-ask-head-requires Inv-loop μ-loop
 ask-head-requires c κs =
     let then1 = c .before in
     let at-loop = then1 .before .before .before in
-    let start = at-loop .before .before .before .before .before .before .before .before .before .before in
+    let start = at-loop .before .before .before .before .before .before .before .before .before in
     (then1 .if1 .taken, estimates-kept (start .pre) (at-loop .loop .inv .long))
 
 loop-again : tie.Need-loop-again Inv-loop μ-loop

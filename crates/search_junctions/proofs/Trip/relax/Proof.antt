@@ -5,22 +5,23 @@ use native.Mathlib.Omega.{arith}
 use Prim.Native.Nat.{_-_}
 use lib.ListN.{length}
 use Rattle.search_labels.specs.Labelling.{labellingOf}
+use Rattle.search_junctions.specs.Views.{seen}
 use Rattle.search_junctions.proofs.Roads.{Relaxing, relaxing-end, relaxing-pass, relaxing-start, relaxing-turn}
 use Rattle.search_junctions.proofs.Trip.relax.Statement.{statement}
 use Rattle.search_junctions.proofs.Trip.relax.Tie as tie
 
 abbrev Inv-loop : tie.InvT-loop
-Inv-loop roads live estimates times₀ keys₀ vias₀ tree₀ group u sizes m from j₀ times keys vias tree j =
-    Relaxing (record { sizes = sizes; roads = roads; live = live; estimates = estimates }) group u (from .0) j
+Inv-loop trip roads live estimates times₀ keys₀ vias₀ tree₀ group u m from j₀ times keys vias tree j =
+    Relaxing (record { sizes = trip .sizes; roads = roads; live = seen (trip .view) live; estimates = estimates }) group u (from .0) j
     (labellingOf times₀ keys₀ vias₀ tree₀) (labellingOf times keys vias tree)
 
 abbrev μ-loop : tie.MeasureT-loop
-μ-loop roads live estimates times₀ keys₀ vias₀ tree₀ group u sizes m from j₀ times keys vias tree j = length group - j
+μ-loop trip roads live estimates times₀ keys₀ vias₀ tree₀ group u m from j₀ times keys vias tree j = length group - j
 
 -- ---- from where the time of u is read
 
 abbrev start : tie.After-slice-known5 Inv-loop μ-loop → tie.Start Inv-loop μ-loop
-start c = c .before .before .before .before .before .before .before .before .before .before
+start c = c .before .before .before .before .before .before .before .before .before
 
 -- ---- the answers
 

@@ -1,4 +1,4 @@
--- A refusal leaves everything as it was (`go-refused`); otherwise answer and areas are the search's (`go-handed`).
+-- A refusal leaves everything as it was (`trip-refused`); otherwise answer and areas are the search's (`go-handed`).
 use mathlib.Core.Path.{_∙_, _≡_, ap}
 use mathlib.Core.List.{List}
 use Prim.Native.Nat.{ℕ}
@@ -7,12 +7,13 @@ use native.Mathlib.Omega.{arith}
 use Rattle.model.specs.Types.{Header}
 use Rattle.model.specs.Areas.{Areas, Each, areasOf, lengths}
 use Rattle.model.specs.State.{Lent}
+use Rattle.model.specs.Calls.{Go}
 use Rattle.model.specs.Contracts.{baseOn}
 use Rattle.network.specs.Refusals.{verdictIn}
 use Rattle.unit_questions.specs.Lending.{lentOf}
 use Rattle.unit.specs.Shape.{headerIn}
-use Rattle.unit.proofs.Fitting.{sized}
-use Rattle.unit.proofs.Going.{GoPassed, go-handed, go-passed, go-refused, goVerdict}
+use Rattle.unit.proofs.Trips.{TripPassed, trip-passed, trip-refused, tripVerdict, within}
+use Rattle.unit.proofs.Going.{go-handed, go-room, go-trips}
 use Rattle.unit.proofs.Header.go.Statement.{statement}
 use Rattle.unit.proofs.Header.go.Tie as tie
 
@@ -39,16 +40,16 @@ abbrev start : tie.After-go-asked → tie.Start
 start c = c .before .before .before .before .before .before .before .before .before .before .before .before .before .before .before
 
 said : (c : tie.After-go-asked) → let s = start c in
-    verdictIn (c .go-asked .result) ≡ goVerdict (card s) (header s) (lengths (areas s)) (s .args .start .0) (lent s)
+    verdictIn (c .go-asked .result) ≡ tripVerdict (card s) (header s) (lengths (areas s)) (Go (s .args .start .0)) (lent s)
 said c =
     let s = start c in
     c .go-asked .ensures (baseOn (card s))
-    ∙ ap (λ (l : Each ℕ). goVerdict (card s) (header s) l (s .args .start .0) (lent s)) (c .before .lengths-of .ensures)
+    ∙ ap (λ (l : Each ℕ). tripVerdict (card s) (header s) l (Go (s .args .start .0)) (lent s)) (c .before .lengths-of .ensures)
 
 -- none refuses
 passed : (c : tie.After-enum-told) → let s = start (c .before .before) in
-    GoPassed (card s) (s .args .self) (lengths (areas s)) (s .args .start .0) (lent s)
-passed c = go-passed (c .enum-told .given .1) (said (c .before .before))
+    TripPassed (card s) (s .args .self) (areas s) (Go (s .args .start .0)) (lent s) (s .args .start .0)
+passed c = trip-passed go-trips (c .enum-told .given .1) (said (c .before .before))
 
 -- ---- the answers
 
@@ -56,7 +57,7 @@ returns : tie.Need-returns
 returns c =
     let after-q = c .before .before in
     let after-go-asked = after-q .before .before in
-    go-refused (after-q .q .given .1) (said after-go-asked) (c .answered .ensures)
+    trip-refused go-trips (after-q .q .given .1) (said after-go-asked) (c .answered .ensures)
 
 roads-of-requires : tie.Need-roads-of-requires
 roads-of-requires c κs = omega (arith, passed (c .before .before) .sizes .size)
@@ -70,15 +71,12 @@ search-requires c κs =
     let after-roads-of = after-order-of .before in
     let after-aimed-at = after-roads-of .before in
     let after-enum-told = after-aimed-at .before .before in
-    let s = start (after-enum-told .before .before) in
-    let p = passed after-enum-told in record {
-      start-in = p .facts .start;
-      target-in = omega (arith, after-aimed-at .aimed-at .ensures, p .target);
-      leaving-is = p .sizes .lengths .leaving;
-      groups-are = p .sizes .lengths .groups;
-      ways-long = p .facts .route-room;
-      log-long = p .facts .log-room;
-      sized = sized (areas s) (p .sizes) (after-roads-of .roads-of .ensures) (after-order-of .order-of .ensures);
+    let p = passed after-enum-told in
+    let room = go-room p in record {
+      within = within p (after-aimed-at .aimed-at .ensures) (after-roads-of .roads-of .ensures) (after-order-of .order-of .ensures)
+          (p .sizes .lengths .elapsed);
+      ways-long = room .route-room;
+      log-long = room .log-room;
     }
 
 returns-2 : tie.Need-returns-2

@@ -1,0 +1,16 @@
+-- The times that a trip goes by (document 02, A2). Definitions, and how many there are.
+use mathlib.Core.Path.{_≡_, refl}
+use mathlib.Core.List.{List}
+use Prim.Native.Nat.{ℕ}
+use lib.ListN.{length, length-set, set}
+use Rattle.search_junctions.specs.declared.View.{View}
+use Rattle.search_junctions.specs.declared.View.the-variants.{Live, Set}
+
+-- the live times, or these with one road's time set
+abbrev pub seen : View → (live : List ℕ) → List ℕ
+seen Live live = live
+seen (Set i t) live = set live i (t .0)
+
+pub seen-length : (v : View) (live : List ℕ) → length (seen v live) ≡ length live
+seen-length Live live = refl
+seen-length (Set i t) live = length-set live i (t .0)

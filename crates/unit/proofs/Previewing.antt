@@ -1,0 +1,182 @@
+-- A preview by what its questions and its two searches say: its questions (`preview-trips`, `preview-facts`), what was made
+-- (`preview-handed`), and its work area (`work-refused`, `work-made`). Assumes nothing.
+use mathlib.Core.Path.{_∙_, _≡_, ap, ap₂, refl, subst, sym}
+use mathlib.Core.Option.{none}
+use mathlib.Core.List.{List}
+use Prim.Native.Nat.{ℕ}
+use borrow.Author.Tests.{eqb-true, ltb-true}
+use lib.Dec.{eqb, ltb}
+use lib.ListN.{length, set}
+use Rattle.graph.specs.Total.{Total}
+use Rattle.graph.specs.Search.{totalOf}
+use Rattle.graph.specs.Map.{Map}
+use Rattle.model.specs.Types.{Accepted, Answer, Estimated, Gone, Header, Lengths, NoJunction, NoTarget, Previewed, Refused}
+use Rattle.model.specs.Word.{ofWord}
+use Rattle.model.specs.Card.{mapOn}
+use Rattle.model.specs.Areas.{Areas}
+use Rattle.model.specs.State.{Lent, Step, answering}
+use Rattle.model.specs.Machine.{isAt, targetOf}
+use Rattle.model.specs.Set.{setRefusal}
+use Rattle.model.specs.Estimate.{estimateRefusal, filled}
+use Rattle.model.specs.Go.{searchOf}
+use Rattle.model.specs.Preview.{WorkLeft, changeOf, eitherAsks, previewAnswer, previewMade, previewRefusal, workSize}
+use Rattle.model.specs.Calls.{Preview, calling, knownOf}
+use Rattle.model.specs.Contracts.{CallContract, after, baseOn, before}
+use Rattle.model.specs.Laws.{andThen-none, ask-none, kept-refl}
+use Rattle.model.specs.Good.{Good, set-good}
+use Rattle.unit_answers.specs.Shape.{answerIn}
+use Rattle.unit_answers.specs.declared.Answer as code-answer
+use Rattle.card_layout.specs.Parts.{orderIn, roadsIn}
+use Rattle.network.specs.Bodies.{mapIn}
+use Rattle.search.specs.Searches.{FindsBoth, FoundBoth, Settable}
+use Rattle.unit.specs.declared.Header as unit
+use Rattle.unit.specs.declared.Answered.{Answered}
+use Rattle.unit.specs.Shape.{answeredIn, headerIn, targetIn}
+use Rattle.unit.specs.Meets.{withAimed}
+use Rattle.unit.proofs.Bodies.{good-map}
+use Rattle.unit.proofs.Trips.{TripPassed, Trips, as-left, givenIn, on-card, total-read}
+use Rattle.unit.proofs.Refused.{made-by, set-same}
+
+-- ---- answers
+
+-- a change is that of the totals that it is answered with; other answers have none
+abbrev ChangeIs : Answer → Type 0
+ChangeIs (Previewed a b c) = c ≡ changeOf a b
+ChangeIs (Refused q) = Unit {0}
+ChangeIs Accepted = Unit {0}
+ChangeIs (Estimated t) = Unit {0}
+ChangeIs (Gone t c k) = Unit {0}
+
+-- no refusal
+abbrev NoRefusal : Answer → Type 0
+NoRefusal (Refused q) = ⊥
+NoRefusal Accepted = Unit {0}
+NoRefusal (Estimated t) = Unit {0}
+NoRefusal (Gone t c k) = Unit {0}
+NoRefusal (Previewed a b c) = Unit {0}
+
+-- ---- the questions
+
+-- 9 of the work area has passed, and 10 and 11
+pub record PreviewFacts (card : List ℕ) (h : Header) (i t w : ℕ) : Type 0 where
+  pub work-is : w ≡ workSize (h .n)
+  pub allowed : setRefusal (knownOf (baseOn card) h) i t ≡ none
+
+module _ (card : List ℕ) (h : Header) (i t j w : ℕ) where
+  -- 9 of the work area; 10 and 11; 12 and 13
+  parts : previewRefusal (knownOf (baseOn card) h) i t j w ≡ none
+      → PreviewFacts card h i t w × (estimateRefusal (knownOf (baseOn card) h) j ≡ none)
+  unfolding previewRefusal
+  parts e =
+      let (work-is, then) = ask-none (eqb w (workSize (h .n))) Lengths _ e in
+      let (allowed, way) = andThen-none (setRefusal (knownOf (baseOn card) h) i t) _ then in
+      (record { work-is = eqb-true w (workSize (h .n)) work-is; allowed = allowed }, way)
+
+pub preview-trips : {card : List ℕ} {h : Header} {a : Areas} {i t j w : ℕ} {k : Lent} → Trips card h a (Preview i t j w) k j
+unfolding estimateRefusal
+preview-trips {card} {h} {i = i} {t} {j} {w} = record {
+  starts = λ e.
+      let (_, way) = parts card h i t j w e in
+      let (below, then) = ask-none (ltb j (h .n)) NoJunction _ way in
+      let (aimed, _) = ask-none (isAt (h .target)) NoTarget none then in
+      record { start = ltb-true j (h .n) below; aimed = aimed };
+  idle = record { leaves = refl; lent = refl; kept = kept-refl; change = λ x y z e. subst ChangeIs e tt };
+}
+
+pub preview-facts : {card : List ℕ} {u : unit.Header} {a : Areas} {i t j w : ℕ} {k : Lent} → TripPassed card u a (Preview i t j w) k j
+    → PreviewFacts card (headerIn u) i t w
+preview-facts {card} {u} {i = i} {t} {j} {w} p = parts card (headerIn u) i t j w (p .asked) .0
+
+-- ---- a preview that was made
+
+module _ (card : List ℕ) (u : unit.Header) (a : Areas) (i t j : ℕ) (k : Lent) where
+  abbrev h : Header
+  h = headerIn u
+
+  -- the target
+  abbrev z : ℕ
+  z = targetOf (targetIn (u .target))
+
+  -- the times with that one set
+  abbrev then : List ℕ
+  then = set (a .live) i t
+
+  -- what a preview leaves by its answer and the estimates
+  unfoldable left-by : Answer → (estimates : List ℕ) → Step
+  left-by x e = answering x (before h (withAimed a (a .aimed .down) e)) k
+
+  -- what it leaves on the map M
+  unfoldable previewed-on : Map → Step
+  unfolding left-by
+  previewed-on M =
+      left-by (previewAnswer (totalOf (searchOf M (a .live) j z)) (totalOf (searchOf M then j z)))
+      (filled M z (eitherAsks M (a .live) then j z) (a .aimed .estimates))
+
+  made-is : previewed-on (mapOn card) ≡ previewMade (mapOn card) (before h a) i t j k
+  unfolding previewed-on left-by
+  made-is = refl
+
+  -- both searches found it on the map of what they were given
+  found-is : {roads order e : List ℕ} {present new : ℕ}
+      → FoundBoth (givenIn u a roads order) then j z (a .aimed .estimates) e present new
+      → left-by (previewAnswer (ofWord present) (ofWord new)) e ≡ previewed-on (mapIn roads order)
+  unfolding previewed-on
+  found-is {roads} {order} d =
+      let M = mapIn roads order in
+      ap₂ left-by
+      (ap₂ previewAnswer (total-read (totalOf (searchOf M (a .live) j z)) (d .present-is) (d .present-fits))
+      (total-read (totalOf (searchOf M then j z)) (d .new-is) (d .new-fits)))
+      (d .estimates-are)
+
+  -- the times with that one set are those that a set leaves
+  then-settable : Good card (before h a) → setRefusal (knownOf (baseOn card) h) i t ≡ none
+      → Settable (mapIn (roadsIn card (u .sizes .m)) (orderIn card (u .sizes .n) (u .sizes .m))) then
+  then-settable g allowed =
+      subst (λ (M : Map). Settable M then) (sym (good-map g)) (set-good g i t k (set-same i t (λ b. g) ∙ allowed) .times)
+
+-- a preview whose searches answered so
+pub preview-handed : {card : List ℕ} {u : unit.Header} {a : Areas} {i t j w : ℕ} {k : Lent} → TripPassed card u a (Preview i t j w) k j
+    → {z : ℕ} → z ≡ targetOf (targetIn (u .target)) → {roads order : List ℕ} → roads ≡ roadsIn card (u .sizes .m)
+    → order ≡ orderIn card (u .sizes .n) (u .sizes .m) → {e : List ℕ} {present new : ℕ}
+    → FindsBoth (givenIn u a roads order) (set (a .live) i t) (a .built .leaving) (a .built .groups) j z (a .aimed .estimates) e present new
+    → {x : code-answer.Answer} → answerIn x ≡ previewAnswer (ofWord present) (ofWord new)
+    → {r : Answered} → r ≡ record { header = u; answer = x }
+    → CallContract card (before (headerIn u) a) (calling (Preview i t j w) k)
+    (after (answeredIn r) (withAimed a (a .aimed .down) e) k)
+unfolding left-by
+preview-handed {card} {u} {a} {i} {t} {j} {w} {k} p target-is roads-are order-is {e} {present} {new} d answer-is handed =
+    subst (λ (r : Answered). CallContract card (before (headerIn u) a) (calling (Preview i t j w) k)
+    (after (answeredIn r) (withAimed a (a .aimed .down) e) k)) (sym handed)
+    (subst (λ (y : Answer). CallContract card (before (headerIn u) a) (calling (Preview i t j w) k) (left-by card u a i t j k y e))
+    (sym answer-is)
+    (made-by (p .fits) (p .asked) exactly
+    (record { leaves = refl; lent = refl; kept = d .kept; change = λ x y c q. subst ChangeIs q refl })))
+  where
+    Searched : (z : ℕ) → (roads order : List ℕ) → Type 0
+    Searched z r o =
+        FindsBoth (givenIn u a r o) (set (a .live) i t) (a .built .leaving) (a .built .groups) j z (a .aimed .estimates) e present new
+
+    exactly : Good card (before (headerIn u) a)
+        → left-by card u a i t j k (previewAnswer (ofWord present) (ofWord new)) e
+        ≡ previewMade (mapOn card) (before (headerIn u) a) i t j k
+    exactly g =
+        let searched = on-card card u Searched target-is roads-are order-is d in
+        let both = searched .exact (as-left u g (p .starts .aimed))
+        (then-settable card u a i t j k g (preview-facts p .allowed)) in
+        found-is card u a i t j k both ∙ ap (previewed-on card u a i t j k) (good-map g) ∙ made-is card u a i t j k
+
+-- ---- its work area
+
+-- refused, it was not touched
+pub work-refused : {work : List ℕ} {x : Answer} → WorkLeft work work x
+work-refused = record { length-stays = refl; refused = λ q e. refl }
+
+-- otherwise its length stayed
+pub work-made : {work work′ : List ℕ} → length work′ ≡ length work → {present new : Total} {u : unit.Header} {x : code-answer.Answer}
+    → answerIn x ≡ previewAnswer present new → {r : Answered} → r ≡ record { header = u; answer = x }
+    → WorkLeft work work′ (answerIn (r .answer))
+work-made length-is answer-is handed = record {
+  length-stays = length-is;
+  refused = λ q e.
+      absurd (subst NoRefusal (sym (ap (λ (r : Answered). answerIn (r .answer)) handed ∙ answer-is) ∙ e) tt);
+}
