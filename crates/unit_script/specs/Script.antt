@@ -101,12 +101,14 @@ pub record Made (card : List ℕ) (l : List Plain) (out₀ out : List ℕ) (h₀
 
 -- ---- the contracts
 
--- one call p of a script, from the header h, which hands x back; what it was lent and left stands first in go's areas
-pub record OneContract (card : List ℕ) (h : Header) (a : Both Areas Areas) (l : Both Lent Lent) (p : Plain) (x : Answered) : Type 0 where
+-- one call p of a script, from the header h: it hands back the header k, and the words of its answer; what it was lent and left stands
+-- first in go's areas
+pub record OneContract (card : List ℕ) (h : Header) (a : Both Areas Areas) (l : Both Lent Lent) (p : Plain) (k : Header) (words : List ℕ)
+    : Type 0 where
   pub left : Step
-  pub answers : left .answer ≡ x .answer
+  pub answers : words ≡ answerWords (left .answer)
   pub meets : CallContract card (before h (a .entry)) (lend (l .entry) p) left
-  pub leaves : holding (x .header) (a .exit) (l .exit) ≡ onward (holding h (a .entry) (l .entry)) left
+  pub leaves : holding k (a .exit) (l .exit) ≡ onward (holding h (a .entry) (l .entry)) left
 
 -- the loop of calls, from the header h to the header k, with a work area of w entries
 abbrev pub MakeContract : (card : List ℕ) → Header → Both Areas Areas → Both Lent Lent → (w : ℕ) (script out₀ out : List ℕ) → Header
