@@ -27,3 +27,7 @@ fewestStops = 2
 
 abbrev pub mostStops : ℕ
 mostStops = 32
+
+-- a leg leads from a stop to the next: one fewer than stops
+abbrev pub mostLegs : ℕ
+mostLegs = 31

@@ -5,10 +5,11 @@ use mathlib.Core.Option.{none, some}
 use mathlib.Core.List.{List, [], _++_, _∷_}
 use Prim.Native.Nat.{_*_, _-_, ℕ}
 use lib.ListN.{replicate}
+use Rattle.model.specs.Limits.{mostLegs}
 use Rattle.model.specs.Preview.{previewAnswer}
 use Rattle.model.specs.Stops.{stopsAnswer}
 use Rattle.model.specs.Calls.{Aim, Asked, Estimate, Go, Plain, Preview, Set, Stops}
-use Rattle.unit_script.specs.Words.{Lending, answerWords, mostLegs}
+use Rattle.unit_script.specs.Words.{Lending, answerWords}
 use Rattle.unit_script.specs.Script.{scripted}
 
 abbrev beside : Lending

@@ -8,6 +8,7 @@ use lib.IntN.{negsuc, pos, ℤ}
 use lib.ListN.{drop, getD, length, replicate, take}
 use Rattle.model.specs.Types.{Accepted, Answer, Estimated, Gone, Leg, Previewed, Refused, Stopped}
 use Rattle.model.specs.Word.{word}
+use Rattle.model.specs.Limits.{mostLegs}
 use Rattle.model.specs.Calls.{Aim, Asked, Estimate, Go, Plain, Preview, Set, Stops}
 use Rattle.unit_answers.specs.Shape.{callIn}
 use Rattle.unit_script.specs.declared.Asked as code
@@ -89,9 +90,6 @@ callAt script at =
 -- ---- answers
 
 -- an answer is four words, and two for each leg that a list of stops may have
-abbrev pub mostLegs : ℕ
-mostLegs = 31
-
 abbrev pub answerSize : ℕ
 answerSize = 4 + 2 * mostLegs
 

@@ -4,13 +4,14 @@ ghost use mathlib.Core.Option.{some};
 ghost use mathlib.Core.List.{List, [], _++_, _∷_};
 ghost use Prim.Native.Nat.{_*_, _+_, _≤_, min, ℕ};
 ghost use lib.ListN.{getD, length, replicate};
+ghost use Rattle.model.specs.Limits.{mostLegs};
 ghost use Rattle.unit_answers.specs.Shape.{answerIn, callIn, changeIn};
 ghost use Rattle.network.specs.Lending.{areas};
 ghost use Rattle.unit_questions.specs.Lending.{lent};
 ghost use Rattle.unit.specs.Shape.{answeredIn, headerIn};
 ghost use Rattle.unit_stops.specs.Shape.{stoppingIn};
 ghost use Rattle.unit_stops.specs.Legs.{Rest};
-ghost use Rattle.unit_script.specs.Words.{answerSize, answerWords, changeWord, legsWords, madeWords, mostLegs, putAt, roomIn};
+ghost use Rattle.unit_script.specs.Words.{answerSize, answerWords, changeWord, legsWords, madeWords, putAt, roomIn};
 ghost use Rattle.unit_script.specs.Words.{callAt, endAt, scriptedIn, spelled, stopsAt, wordsOf};
 ghost use Rattle.unit_script.specs.Script.{MakeContract, OneContract, ReplayContract, isNext};
 use network::Junction;
@@ -264,7 +265,7 @@ fn four(header: Header, one: u64, two: u64, three: u64, four: u64) -> Made
     }
 }
 
-// The words of what a call handed back: the number of the question that refuses, or 0; estimate, total or leg; count; number of roads. Of a
+// The words of what a call handed back: the number of the question that refuses, or 0; estimate or total; count; number of roads. Of a
 // preview: 0, present total, new total, change.
 fn of_answered(r: Answered) -> Made
     ensures { λ x. ⌜ (headerIn (x .header) ≡ headerIn (r .header)) × (madeWords x ≡ answerWords (answerIn (r .answer))) ⌝ }

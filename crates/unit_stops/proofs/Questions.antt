@@ -68,8 +68,8 @@ module _ (base : ℕ → Total) (h : Header) (card : ℕ) (l : Each ℕ) (stops 
 
 -- ---- products and sums
 
-pub product-small : {n s : ℕ} → n ≤ 4096 → s ≤ mostStops → s * n ≤ 131072
-product-small {n} {s} hn hs = le-trans (mul-le-mul-left s hn) (mul-le-mul-right 4096 hs)
+pub product-small : {n s : ℕ} → n ≤ mostJunctions → s ≤ mostStops → s * n ≤ mostStops * mostJunctions
+product-small {n} {s} hn hs = le-trans (mul-le-mul-left s hn) (mul-le-mul-right mostJunctions hs)
 
 pub sum-over : (a b : ℕ) → largest - a < b → largest ≡ sumIn a b
 sum-over a b h = rw (lt-ltb (largest - a) b h)
@@ -79,7 +79,7 @@ sum-within a b h = rw (le-ltb (largest - a) b h)
 
 -- 14's product is formed of a header in range and of few stops
 pub product-asked : (h : Header) (card : ℕ) (l : Each ℕ) (s : ℕ) → fitsBy h card l ≡ true
-    → (leb fewestStops s && leb s mostStops) ≡ true → (h .n ≤ 4096) × (s ≤ mostStops)
+    → (leb fewestStops s && leb s mostStops) ≡ true → (h .n ≤ mostJunctions) × (s ≤ mostStops)
 product-asked h card l s f c =
     let (ranged, _) = and-true (inRange h) (question9 (h .n) (h .m) (h .pairs) card l) f in
     let (n-in, _) = and-true (leb (h .n) mostJunctions) (leb (h .m) mostRoads) ranged in

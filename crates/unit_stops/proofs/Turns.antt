@@ -15,6 +15,7 @@ use denote.Triple.Both.{Both}
 use denote.Enum.Declared.{tagOf}
 use types.Run.{OneOf}
 use Rattle.model.specs.Types as model
+use Rattle.model.specs.Limits.{mostLegs, mostStops}
 use Rattle.model.specs.Card.{mapOn}
 use Rattle.model.specs.Areas.{Areas}
 use Rattle.model.specs.State.{Lent, State, answering}
@@ -61,23 +62,23 @@ pub record AtLeg (card stops : List ℕ) (number : ℕ) (s₀ : State) (l₀ : L
   pub elapsed : length (s .areas .trip .elapsed) ≡ length (s₀ .areas .trip .elapsed)
   pub route : length (l .route) ≡ length (l₀ .route)
   pub log : length (l .log) ≡ length (l₀ .log)
-  pub totals-are : length totals ≡ 31
-  pub roads-are : length roads ≡ 31
+  pub totals-are : length totals ≡ mostLegs
+  pub roads-are : length roads ≡ mostLegs
   pub totals-end : (j : ℕ) → i ≤ j → getD totals j 0 ≡ 0
   pub roads-end : (j : ℕ) → i ≤ j → getD roads j 0 ≡ 0
   pub stays : Stays s₀ s
   pub way : Passed card stops s₀ l₀ → OnWay card s₀ l₀ stops s l totals roads whole at i
 
 -- a row of zeros
-pub zeros : (j : ℕ) → _≡_ {A = ℕ} (getD (replicate 31 0) j 0) 0
-zeros j = go (decLt j 31)
+pub zeros : (j : ℕ) → _≡_ {A = ℕ} (getD (replicate mostLegs 0) j 0) 0
+zeros j = go (decLt j mostLegs)
   where
-    go : Dec (j < 31) → _≡_ {A = ℕ} (getD (replicate 31 0) j 0) 0
-    go (yes h) = getD-replicate 31 j 0 0 h
-    go (no h) = List·getD-eq-default (replicate 31 0) 0 {n = j} (omega (arith, h, length-replicate {A = ℕ} 31 0))
+    go : Dec (j < mostLegs) → _≡_ {A = ℕ} (getD (replicate mostLegs 0) j 0) 0
+    go (yes h) = getD-replicate mostLegs j 0 0 h
+    go (no h) = List·getD-eq-default (replicate mostLegs 0) 0 {n = j} (omega (arith, h, length-replicate {A = ℕ} mostLegs 0))
 
 pub turn-start : {card stops : List ℕ} {number : ℕ} {s : State} {l : Lent}
-    → AtLeg card stops number s l s l (replicate 31 0) (replicate 31 0) 0 0 0
+    → AtLeg card stops number s l s l (replicate mostLegs 0) (replicate mostLegs 0) 0 0 0
 turn-start = record {
   to-go = omega arith;
   within = omega arith;
@@ -86,8 +87,8 @@ turn-start = record {
   elapsed = refl;
   route = refl;
   log = refl;
-  totals-are = length-replicate {A = ℕ} 31 0;
-  roads-are = length-replicate {A = ℕ} 31 0;
+  totals-are = length-replicate {A = ℕ} mostLegs 0;
+  roads-are = length-replicate {A = ℕ} mostLegs 0;
   totals-end = λ j h. zeros j;
   roads-end = λ j h. zeros j;
   stays = stays-same;
@@ -190,7 +191,7 @@ module _ {card stops : List ℕ} {s₀ : State} {l₀ : Lent} {h : model.Header}
       })
 
   -- it has one
-  pub turn-again : length stops ≤ 32 → {t c k : ℕ} → x .answer ≡ Gone t c k
+  pub turn-again : length stops ≤ mostStops → {t c k : ℕ} → x .answer ≡ Gone t c k
       → length (a .exit .aimed .down) ≡ length (a .entry .aimed .down)
       → length (a .exit .aimed .estimates) ≡ length (a .entry .aimed .estimates)
       → length (a .exit .trip .elapsed) ≡ length (a .entry .trip .elapsed)
@@ -226,7 +227,7 @@ module _ {card stops : List ℕ} {s₀ : State} {l₀ : Lent} {h : model.Header}
 -- ---- the last stop
 
 pub turn-end : {card stops : List ℕ} {s₀ : State} {l₀ : Lent} {h : unit.Header} {a : Areas} {l : Lent} {totals roads : List ℕ}
-    {whole at i : ℕ} → length stops ≤ 32 → length stops - 1 ≤ i
+    {whole at i : ℕ} → length stops ≤ mostStops → length stops - 1 ≤ i
     → AtLeg card stops (length stops - 1) s₀ l₀ (before (headerIn h) a) l totals roads whole at i
     → Journeys card (s₀ .header) (record { entry = s₀ .areas; exit = a }) (record { entry = l₀; exit = l }) stops
     (record { header = h; answer = stopping.Stopped (length stops - 1) whole; legs = record { totals = totals; roads = roads } })

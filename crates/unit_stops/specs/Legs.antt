@@ -6,7 +6,7 @@ use Prim.Native.Nat.{_≤_, ℕ}
 use lib.ListN.{getD, length}
 use denote.Triple.Both.{Both}
 use Rattle.model.specs.Types as model
-use Rattle.model.specs.Limits.{fewestStops, mostStops}
+use Rattle.model.specs.Limits.{fewestStops, mostLegs, mostStops}
 use Rattle.model.specs.Card.{mapOn}
 use Rattle.model.specs.Areas.{Areas}
 use Rattle.model.specs.State.{Lent, Step, answering}
@@ -29,9 +29,9 @@ pub record LegMade (card : List ℕ) (h : model.Header) (a : Both Areas Areas) (
   pub aims : CallContract card (before h (a .entry)) (calling (Aim to) (l .entry)) aimed
   pub goes : CallContract card (aimed .state) (calling (Go from) (l .entry)) (after x (a .exit) (l .exit))
 
--- there are at most 31 legs, and entries past the last are 0
+-- there are no more legs than a list may have, and entries past the last are 0
 pub record Rest (r : Stopped) : Type 0 where
-  pub few-legs : legCount (r .answer) ≤ 31
+  pub few-legs : legCount (r .answer) ≤ mostLegs
   pub totals-end : (i : ℕ) → legCount (r .answer) ≤ i → getD (r .legs .totals) i 0 ≡ 0
   pub roads-end : (i : ℕ) → legCount (r .answer) ≤ i → getD (r .legs .roads) i 0 ≡ 0
 

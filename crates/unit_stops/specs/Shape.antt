@@ -5,6 +5,7 @@ use Prim.Native.Nat.{_+_, _-_, suc, zero, ℕ}
 use lib.Dec.{ltb}
 use lib.ListN.{getD, replicate}
 use Rattle.model.specs.Types as model
+use Rattle.model.specs.Limits.{mostLegs}
 use Rattle.network.specs.Refusals.{refusalIn}
 use Rattle.unit_stops.specs.declared.Legs.{Legs}
 use Rattle.unit_stops.specs.declared.Stopping.{Stopping}
@@ -26,7 +27,7 @@ legCount (Stopped k whole) = k
 
 -- no leg
 abbrev pub noLegs : Legs
-noLegs = record { totals = replicate 31 0; roads = replicate 31 0 }
+noLegs = record { totals = replicate mostLegs 0; roads = replicate mostLegs 0 }
 
 -- the largest 64-bit number, and the sum of two up to it
 abbrev pub largest : ℕ

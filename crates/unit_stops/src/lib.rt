@@ -4,7 +4,7 @@ ghost use mathlib.Core.Bool.{_&&_};
 ghost use Prim.Native.Nat.{_*_, _+_, _≤_, min, ℕ};
 ghost use lib.Dec.{leb};
 ghost use Rattle.graph.specs.Total.{Total};
-ghost use Rattle.model.specs.Limits.{fewestStops, mostStops};
+ghost use Rattle.model.specs.Limits.{fewestStops, mostJunctions, mostStops};
 ghost use Rattle.model.specs.Stops.{allBelow};
 ghost use Rattle.model.specs.Calls.{Stops};
 ghost use Rattle.network.specs.Refusals.{verdictIn};
@@ -72,7 +72,7 @@ fn count_fits(stops: usize) -> bool
 
 // Question 14, of a list of so many stops; only asked of one that 16 lets pass, and of a header in range.
 fn lent_fit(n: u32, stops: usize, route: usize, log: usize) -> bool
-    requires { ⌜ (n ≤ 4096) × (stops ≤ mostStops) ⌝ }
+    requires { ⌜ (n ≤ mostJunctions) × (stops ≤ mostStops) ⌝ }
     ensures { λ r. ⌜ r ≡ (leb (stops * n) route && leb n log) ⌝ }
 {
     let n = n as usize;

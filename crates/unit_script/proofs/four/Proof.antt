@@ -1,6 +1,6 @@
 -- Legs of zeros have the words of no legs (`four-only`).
 use mathlib.Core.Path.{refl}
-use Rattle.unit_script.specs.Words.{mostLegs}
+use Rattle.model.specs.Limits.{mostLegs}
 use Rattle.unit_script.proofs.Answers.{four-only}
 use Rattle.unit_script.proofs.four.Statement.{statement}
 use Rattle.unit_script.proofs.four.Tie as tie

@@ -3,7 +3,8 @@ use mathlib.Core.Path.{_∙_, _≡_, ap, refl}
 use mathlib.Core.List.{List}
 use Prim.Native.Nat.{_*_, _+_, _-_, _≤_, ℕ}
 use lib.ListN.{length, length-set}
-use Rattle.unit_script.specs.Words.{answerSize, legsWords, mostLegs, putAt}
+use Rattle.model.specs.Limits.{mostLegs}
+use Rattle.unit_script.specs.Words.{answerSize, legsWords, putAt}
 use Rattle.unit_script.proofs.Answers.{leg-stored, legs-start}
 use borrow.Author.Needs.{needs}
 use native.Mathlib.Omega.{arith}

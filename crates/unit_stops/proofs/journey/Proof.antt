@@ -4,6 +4,7 @@ use mathlib.Core.Path.{_∙_}
 use Prim.Native.Nat.{_-_, _<_}
 use borrow.Author.Needs.{needs}
 use native.Mathlib.Omega.{arith}
+use Rattle.model.specs.Limits.{mostLegs}
 use Rattle.model.specs.Areas.{areasOf}
 use Rattle.model.specs.Contracts.{before}
 use Rattle.unit_questions.specs.Lending.{lentOf}
@@ -41,8 +42,8 @@ lost c = c .before .before .before .before .before .before .before .before .befo
 
 -- ---- facts
 
--- a leg is below the number of legs, and there are at most 31
-few : (c : tie.In-loop Inv-loop μ-loop) → c .before .loop .i < 31
+-- a leg is below the number of legs, for which there is room
+few : (c : tie.In-loop Inv-loop μ-loop) → c .before .loop .i < mostLegs
 few c = omega (arith, c .loop-test .taken, start (c .before) .pre .many)
 
 -- ---- the answers
