@@ -8,7 +8,7 @@
 #include <stdio.h>
 #include <string.h>
 
-enum { N = 4, M = 5, PAIRS = 5, CARD = 28 + 12 * M + 4 * N, LENT = N + 2, ROUTE = 3 * N + 2, WORDS_OUT = 66 };
+enum { N = 4, M = 5, PAIRS = 5, CARD = 28 + 12 * M + 4 * N, LENT = N + 2, ROUTE = 3 * N + 2 };
 
 #define UNTOUCHED 2779096485u
 
@@ -223,22 +223,22 @@ static bool replayed(void) {
     };
     static const uint64_t legs[4] = {25, 2, 20, 1};
     static const uint32_t roads_left[] = {2, 3, 4}, log_left[] = {3, 1, 2, 3}, ended[] = {6, 1, 0};
-    static uint64_t out[(CALLS + 1) * WORDS_OUT], wanted[(CALLS + 1) * WORDS_OUT];
+    static uint64_t out[(CALLS + 1) * UNIT_ANSWER_WORDS], wanted[(CALLS + 1) * UNIT_ANSWER_WORDS];
     uint32_t words[SCRIPT + 3];
     memcpy(words, script, sizeof script);
     memcpy(words + SCRIPT, ended, sizeof ended);
-    for (size_t i = 0; i < WORDS_OUT; i++) {
-        out[CALLS * WORDS_OUT + i] = wanted[CALLS * WORDS_OUT + i] = 7;
+    for (size_t i = 0; i < UNIT_ANSWER_WORDS; i++) {
+        out[CALLS * UNIT_ANSWER_WORDS + i] = wanted[CALLS * UNIT_ANSWER_WORDS + i] = 7;
     }
     for (size_t i = 0; i < CALLS; i++) {
-        memcpy(wanted + WORDS_OUT * i, first_words[i], sizeof first_words[i]);
+        memcpy(wanted + UNIT_ANSWER_WORDS * i, first_words[i], sizeof first_words[i]);
     }
-    memcpy(wanted + WORDS_OUT * 10 + 4, legs, sizeof legs);
+    memcpy(wanted + UNIT_ANSWER_WORDS * 10 + 4, legs, sizeof legs);
     fill(route, ROUTE, UNTOUCHED);
     fill(entries, LENT, UNTOUCHED);
     fill(work, 2 * N + 1, UNTOUCHED);
     UnitAnswer answer = unit_replay(card, CARD, ranks, N, pairs, 4 * PAIRS, live, M, down, N, estimates, N, elapsed, N, leaving, M,
-        groups, N + 1, route, ROUTE, entries, LENT, work, 2 * N, words, SCRIPT + 3, out, (CALLS + 1) * WORDS_OUT);
+        groups, N + 1, route, ROUTE, entries, LENT, work, 2 * N, words, SCRIPT + 3, out, (CALLS + 1) * UNIT_ANSWER_WORDS);
     return handed(answer) == 0 && header.target == 0 && header.aimed == 1 && memcmp(out, wanted, sizeof out) == 0 &&
         same(route, roads_left, 3) && filled(route + 3, ROUTE - 3, UNTOUCHED) && same(entries, log_left, 4) &&
         filled(entries + 4, LENT - 4, UNTOUCHED) && work[2 * N] == UNTOUCHED;

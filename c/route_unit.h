@@ -60,6 +60,9 @@ extern "C" {
 /* A list of stops has at most so many legs. */
 #define UNIT_MOST_LEGS 31
 
+/* An answer of unit_replay has so many words of out: four, and two for each of UNIT_MOST_LEGS legs. */
+#define UNIT_ANSWER_WORDS 66
+
 /*
  * The header, which preparing makes and each call is handed and hands back. A caller keeps it and alters nothing in it: the words
  * handed out stand for the header itself. Of other words, any aimed but 0 is taken as 1, and with aimed 0 the target is not read.
@@ -196,11 +199,11 @@ UnitStops unit_stops(UnitHeader header, const uint8_t *card, size_t card_len, co
  * their number, entries of route, entries of log and then the stops for a list of stops. A go and a list of stops are lent the first so
  * many entries of route and log, or all of them where there are fewer; what lies behind them is as it was. A preview is lent all of
  * work. The script ends with its last word, at any other kind, or at a call that is cut short: no call from there on is made. An
- * answer is 66 words of out: the refusal or 0; estimate, total or the leg of 17; count; number of roads; of a preview 0, its two totals,
- * and its change as a two's complement of 64 bits; of a list of stops 0, the whole total, 0 and the number of legs; then of each of 31
- * legs its total and its number of roads, 0 where there is none. No more calls are made than there are 66 words in out; the rest of
- * out is as it was. What is handed back is preparing's answer, with the header after the last call. After a refused preparing the calls
- * are made all the same, on its header of zeros.
+ * answer is UNIT_ANSWER_WORDS words of out: the refusal or 0; estimate, total or the leg of 17; count; number of roads; of a preview 0,
+ * its two totals, and its change as a two's complement of 64 bits; of a list of stops 0, the whole total, 0 and the number of legs; then
+ * of each of UNIT_MOST_LEGS legs its total and its number of roads, 0 where there is none. No more calls are made than out has room for
+ * answers; the rest of out is as it was. What is handed back is preparing's answer, with the header after the last call. After a refused
+ * preparing the calls are made all the same, on its header of zeros.
  */
 UnitAnswer unit_replay(const uint8_t *card, size_t card_len, uint32_t *ranks, size_t ranks_len,
     uint32_t *pairs, size_t pairs_len, uint32_t *live, size_t live_len, uint32_t *down, size_t down_len,

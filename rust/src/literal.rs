@@ -1,6 +1,7 @@
-//! Aim and go as document 01's sentences have them, with nothing kept from one step to the next: a search's
-//! log by making its candidates anew before each choice, which estimates lie above a junction and the down
-//! totals by the chains that define a pair, least totals by rounds over all roads.
+//! Aim and go as document 01's sentences have them: a search's log by making its candidates anew before each
+//! choice, the route back from it by trying every road. Which estimates lie above a junction and the down
+//! totals come from the chains that define a pair, found by Dijkstra's searches over lower ranks; estimates by
+//! Dijkstra's too. The least total of a go by rounds over all roads, from 300 junctions on by Dijkstra's.
 
 use crate::brute;
 use crate::dijkstra;

@@ -2,6 +2,7 @@
 //! includes it drives map P.
 
 use harness::calls::{MOST_LEGS, MOST_STOPS};
+use harness::unit::ANSWER_WORDS;
 use std::path::{Path, PathBuf};
 use std::process::{Command, Output};
 use std::{env, fs, process, str};
@@ -112,7 +113,7 @@ fn header_declares_the_exports() {
     assert_eq!(declarations(), exports, "c/route_unit.h (left), crates/unit_c (right)");
 }
 
-/// As many legs as a list of the most stops has.
+/// As many legs as a list of the most stops has, and as many words as an answer of a script.
 #[test]
 fn most_legs() {
     let network = read("crates/network/src/lib.rt");
@@ -120,7 +121,13 @@ fn most_legs() {
     let legs: usize = most.parse::<usize>().unwrap() - 1;
     assert_eq!((legs, most.parse()), (MOST_LEGS, Ok(MOST_STOPS)));
     assert!(read("crates/unit_stops/src/lib.rt").contains("MOST_LEGS: usize = MOST_STOPS - 1;"));
-    assert!(read("c/route_unit.h").contains(&format!("#define UNIT_MOST_LEGS {legs}\n")));
+    let header = read("c/route_unit.h");
+    assert!(header.contains(&format!("#define UNIT_MOST_LEGS {legs}\n")));
+    let script = read("crates/unit_script/src/lib.rt");
+    assert!(script.contains("LEG_WORDS: usize = 2;"));
+    assert!(script.contains("ANSWER_SIZE: usize = 4 + LEG_WORDS * MOST_LEGS;"));
+    assert_eq!(ANSWER_WORDS, 4 + 2 * legs);
+    assert!(header.contains(&format!("#define UNIT_ANSWER_WORDS {ANSWER_WORDS}\n")));
 }
 
 /// Taken by C, and by C++ if this machine has a compiler for it.
