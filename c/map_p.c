@@ -1,6 +1,6 @@
 /*
- * Map P of document 01 through route_unit.h: prints cases P1 to P10, and of document 02 the roads by tail, A1, and previews, A2, and
- * ends with 0 only if all are as the documents have them.
+ * Map P of document 01 through route_unit.h: prints cases P1 to P10, and of document 02 the roads by tail, A1, previews, A2, and lists of
+ * stops, A3, and ends with 0 only if all are as the documents have them.
  */
 #include "route_unit.h"
 
@@ -8,7 +8,7 @@
 #include <stdio.h>
 #include <string.h>
 
-enum { N = 4, M = 5, PAIRS = 5, CARD = 28 + 12 * M + 4 * N, LENT = N + 2 };
+enum { N = 4, M = 5, PAIRS = 5, CARD = 28 + 12 * M + 4 * N, LENT = N + 2, ROUTE = 3 * N + 2 };
 
 #define UNTOUCHED 2779096485u
 
@@ -22,7 +22,7 @@ static const uint32_t BY_TAIL[M] = {0, 2, 1, 3, 4}, STARTS[N + 1] = {0, 2, 3, 4,
 
 static uint8_t card[CARD];
 static uint32_t ranks[N], pairs[4 * PAIRS], live[M], down[N], estimates[N], elapsed[N], leaving[M], groups[N + 1];
-static uint32_t route[LENT], entries[LENT], work[2 * N + 1];
+static uint32_t route[ROUTE], entries[LENT], work[2 * N + 1];
 static UnitHeader header;
 static bool all_right = true;
 
@@ -125,6 +125,45 @@ static bool unforeseen(void) {
         previewed(2 * N, 1, 10, N, 12, 0, 0, 0, 0) && filled(estimates, N, UNIT_UNASKED);
 }
 
+/* What a list of stops answers, the roads and the log that it leaves first in route and log, and the target. */
+typedef struct Journey {
+    uint32_t question, leg, legs;
+    uint64_t whole, totals[2];
+    uint32_t roads[2], ways, way[3], count, log[4], target;
+} Journey;
+
+/* A list of stops on a route area and a log area of so many entries: what it answers, and all that it leaves of both. */
+static bool called(const uint32_t *stops, size_t number, size_t route_len, size_t log_len, const Journey *wanted) {
+    static const uint64_t no_totals[UNIT_MOST_LEGS];
+    static const uint32_t no_roads[UNIT_MOST_LEGS];
+    fill(route, ROUTE, UNTOUCHED);
+    fill(entries, LENT, UNTOUCHED);
+    UnitStops answer = unit_stops(header, card, CARD, ranks, N, pairs, 4 * PAIRS, live, M, down, N, estimates, N, elapsed, N,
+        leaving, M, groups, N + 1, route, route_len, entries, log_len, stops, number);
+    header = answer.header;
+    return answer.question == wanted->question && answer.leg == wanted->leg && answer.legs == wanted->legs &&
+        answer.whole == wanted->whole && memcmp(answer.totals, wanted->totals, sizeof wanted->totals) == 0 &&
+        memcmp(answer.roads, wanted->roads, sizeof wanted->roads) == 0 &&
+        memcmp(answer.totals + 2, no_totals, sizeof no_totals - sizeof wanted->totals) == 0 &&
+        memcmp(answer.roads + 2, no_roads, sizeof no_roads - sizeof wanted->roads) == 0 &&
+        same(route, wanted->way, wanted->ways) && filled(route + wanted->ways, ROUTE - wanted->ways, UNTOUCHED) &&
+        same(entries, wanted->log, wanted->count) && filled(entries + wanted->count, LENT - wanted->count, UNTOUCHED) &&
+        header.aimed == 1 && header.target == wanted->target && header.n == N && header.m == M && header.pairs == PAIRS;
+}
+
+/* Refused by 16, 12 and 14, by the first that says no, and nothing is altered. */
+static bool uncalled(void) {
+    static const Journey wrong_number = {.question = 16, .target = 1}, no_junction = {.question = 12, .target = 1};
+    static const Journey too_short = {.question = 14, .target = 1};
+    static const uint32_t far[] = {0, 3, N}, there_and_back[] = {0, 3, 0};
+    uint32_t many[33];
+    fill(many, 33, N);
+    return prepared_at(1) && estimated(0, 10) && called(many, 0, 0, 0, &wrong_number) && called(far, 1, 3 * N, N, &wrong_number) &&
+        called(many, 33, 0, 0, &wrong_number) && called(far, 3, 3 * N, N, &no_junction) && called(far, 3, 0, 0, &no_junction) &&
+        called(there_and_back, 3, 3 * N - 1, N, &too_short) && called(there_and_back, 3, 3 * N, N - 1, &too_short) &&
+        estimates[0] == 10 && filled(elapsed, N, UNIT_NONE);
+}
+
 static bool writes_and_reads(void) {
     uint32_t first = UNTOUCHED, second = UNTOUCHED, place = UNTOUCHED;
     bool written = card_write(ROADS, 3 * M, ORDER, N, card, CARD, &place) == 0 && place == 0;
@@ -151,12 +190,13 @@ static bool listed(void) {
     return same(leaving, BY_TAIL, M) && same(groups, STARTS, N + 1);
 }
 
-/* The roads by tail after preparing, and after each of the five calls. */
+/* The roads by tail after preparing, and after each of the six calls. */
 static bool by_tail(void) {
-    static const uint32_t road_1[] = {1}, log_13[] = {1, 3};
+    static const uint32_t road_1[] = {1}, log_13[] = {1, 3}, there_and_back[] = {0, 3, 0};
+    static const Journey by_1 = {0, 0, 2, 40, {20, 20}, {2, 1}, 3, {0, 1, 4}, 3, {3, 0, 3}, 0};
     return prepare(PAIRS) == 0 && listed() && aim(3) == 0 && listed() && set(3, UNIT_CLOSED) == 0 && listed() &&
         estimated(0, 20) && listed() && gone(1, 0, 10, 1, road_1, 2, log_13) && listed() &&
-        foreseen(1, 16, 20, 26, 1, 6) && listed();
+        foreseen(1, 16, 20, 26, 1, 6) && listed() && called(there_and_back, 3, 3 * N, N, &by_1) && listed();
 }
 
 static bool p9(void) {
@@ -166,33 +206,51 @@ static bool p9(void) {
 
 /*
  * The program's example as one script: aim 3, est 0, go 0, set 1 closed, go 0, set 1 9. Between them a go with too short a log, and
- * previews: a shorter, a missing and a refused one. Then a kind that is none, which ends the script: the aim behind it is not made, and
- * its answer's words are as they were.
+ * previews: a shorter, a missing and a refused one. Behind them lists of stops: there and back, one stop alone, and there and back with
+ * road 4 closed. Then a kind that is none, which ends the script: the aim behind it is not made, and its answer's words are as they were.
  */
 static bool replayed(void) {
-    static const uint32_t log_4[] = {0, 1, 2, 3}, roads_23[] = {2, 3};
-    static const uint32_t script[37] = {
-        1, 3, 2, 0, 3, 0, N, LENT, 0, 1, UNIT_CLOSED, 3, 0, N, N - 1, 3, 0, LENT + 1, N,
-        4, 1, 10, 0, 4, 2, UNIT_CLOSED, 0, 4, 1, 9, 0, 0, 1, 9, 5, 1, 0,
+    enum { CALLS = 14, SCRIPT = 56 };
+    static const uint32_t script[SCRIPT] = {
+        1, 3, 2, 0, 3, 0, N, LENT, 0, 1, UNIT_CLOSED, 3, 0, N, N - 1, 3, 0, ROUTE + 1, N,
+        4, 1, 10, 0, 4, 2, UNIT_CLOSED, 0, 4, 1, 9, 0, 0, 1, 9,
+        5, 3, 3 * N, N, 0, 3, 0, 5, 1, ROUTE, N, 0, 0, 4, UNIT_CLOSED, 5, 3, ROUTE + 1, LENT, 0, 3, 0,
     };
-    static const uint64_t wanted[44] = {
-        0, 0, 0, 0, 0, 20, 0, 0, 0, 20, 3, 2, 0, 0, 0, 0, 14, 0, 0, 0, 0, 25, 4, 2,
-        0, 25, 20, (uint64_t)-5, 0, 25, UNIT_NONE, 0, 11, 0, 0, 0, 11, 0, 0, 0, 7, 7, 7, 7,
+    static const uint64_t first_words[CALLS][4] = {
+        {0, 0, 0, 0}, {0, 20, 0, 0}, {0, 20, 3, 2}, {0, 0, 0, 0}, {14, 0, 0, 0}, {0, 25, 4, 2},
+        {0, 25, 20, (uint64_t)-5}, {0, 25, UNIT_NONE, 0}, {11, 0, 0, 0}, {11, 0, 0, 0},
+        {0, 45, 0, 2}, {16, 0, 0, 0}, {0, 0, 0, 0}, {17, 1, 0, 0},
     };
-    uint64_t out[44] = {[40] = 7, 7, 7, 7};
-    fill(route, LENT, UNTOUCHED);
+    static const uint64_t legs[4] = {25, 2, 20, 1};
+    static const uint32_t roads_left[] = {2, 3, 4}, log_left[] = {3, 1, 2, 3}, ended[] = {6, 1, 0};
+    static uint64_t out[(CALLS + 1) * UNIT_ANSWER_WORDS], wanted[(CALLS + 1) * UNIT_ANSWER_WORDS];
+    uint32_t words[SCRIPT + 3];
+    memcpy(words, script, sizeof script);
+    memcpy(words + SCRIPT, ended, sizeof ended);
+    for (size_t i = 0; i < UNIT_ANSWER_WORDS; i++) {
+        out[CALLS * UNIT_ANSWER_WORDS + i] = wanted[CALLS * UNIT_ANSWER_WORDS + i] = 7;
+    }
+    for (size_t i = 0; i < CALLS; i++) {
+        memcpy(wanted + UNIT_ANSWER_WORDS * i, first_words[i], sizeof first_words[i]);
+    }
+    memcpy(wanted + UNIT_ANSWER_WORDS * 10 + 4, legs, sizeof legs);
+    fill(route, ROUTE, UNTOUCHED);
     fill(entries, LENT, UNTOUCHED);
     fill(work, 2 * N + 1, UNTOUCHED);
     UnitAnswer answer = unit_replay(card, CARD, ranks, N, pairs, 4 * PAIRS, live, M, down, N, estimates, N, elapsed, N, leaving, M,
-        groups, N + 1, route, LENT, entries, LENT, work, 2 * N, script, 37, out, 44);
-    return handed(answer) == 0 && header.target == 3 && header.aimed == 1 && memcmp(out, wanted, sizeof out) == 0 &&
-        same(route, roads_23, 2) && filled(route + 2, LENT - 2, UNTOUCHED) && same(entries, log_4, 4) &&
+        groups, N + 1, route, ROUTE, entries, LENT, work, 2 * N, words, SCRIPT + 3, out, (CALLS + 1) * UNIT_ANSWER_WORDS);
+    return handed(answer) == 0 && header.target == 0 && header.aimed == 1 && memcmp(out, wanted, sizeof out) == 0 &&
+        same(route, roads_left, 3) && filled(route + 3, ROUTE - 3, UNTOUCHED) && same(entries, log_left, 4) &&
         filled(entries + 4, LENT - 4, UNTOUCHED) && work[2 * N] == UNTOUCHED;
 }
 
 int main(void) {
     static const uint32_t roads_01[] = {0, 1}, roads_23[] = {2, 3};
     static const uint32_t log_3[] = {0, 1, 3}, log_4[] = {0, 1, 2, 3}, log_of_3[] = {3}, log_2[] = {0, 1};
+    static const uint32_t there_and_back[] = {0, 3, 0}, stay[] = {0, 0};
+    static const Journey both_ways = {0, 0, 2, 40, {20, 20}, {2, 1}, 3, {0, 1, 4}, 3, {3, 0, 3}, 0};
+    static const Journey no_way_back = {17, 1, 0, 0, {0, 0}, {0, 0}, 2, {0, 1}, 3, {3, 1, 3}, 0};
+    static const Journey stayed = {0, 0, 1, 0, {0, 0}, {0, 0}, 0, {0}, 1, {0}, 0};
 
     told("card: written, 104 bytes; read, 4 junctions, 5 roads", writes_and_reads());
     told("P1  the five records", prepare(PAIRS) == 0 && same(pairs, RECORDS, 4 * PAIRS));
@@ -219,6 +277,12 @@ int main(void) {
     told("A2  roads 1 and 2 closed; road 2 at 15: none, then 25",
         prepared_at(3) && set(1, UNIT_CLOSED) == 0 && set(2, UNIT_CLOSED) == 0 && foreseen(2, 15, UNIT_NONE, 25, 0, 0));
     told("A2  refused by 9 to 13, by the first that says no", unforeseen());
-    told("replay: the program's example and previews as one script", replayed());
+    told("A3  stops 0, 3, 0: 20 by 2 roads, 20 by 1: 40; roads 0, 1, 4",
+        prepare(PAIRS) == 0 && called(there_and_back, 3, 3 * N, N, &both_ways));
+    told("A3  road 4 closed: 17, leg 1; target 0, roads 0, 1",
+        prepared_at(3) && set(4, UNIT_CLOSED) == 0 && called(there_and_back, 3, ROUTE, LENT, &no_way_back));
+    told("A3  stops 0, 0: 0 by no road", prepared_at(3) && called(stay, 2, 2 * N, N, &stayed));
+    told("A3  refused by 16, 12 and 14, by the first that says no", uncalled());
+    told("replay: the program's example, previews and stops as one script", replayed());
     return all_right ? 0 : 1;
 }

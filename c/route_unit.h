@@ -1,9 +1,9 @@
 /*
- * The route unit for C and C++: reading and writing a card, preparing it, the five calls, and a script of calls.
+ * The route unit for C and C++: reading and writing a card, preparing it, the six calls, and a script of calls.
  *
  * Link with libunit_c.a (`rt staticlib unit_c` leaves it in target/staticlib). Words as "none" and "question 9" are
- * those of document 01, the areas leaving and groups and the call preview those of document 02, A1 and A2; the contract of
- * each function, for every input, stands at its namesake in crates/unit_c.
+ * those of document 01, the areas leaving and groups and the calls preview and stops those of document 02, A1 to A3; the
+ * contract of each function, for every input, stands at its namesake in crates/unit_c.
  *
  * Areas. A slice is a pointer and, right after it, its length in elements (bytes of a card, words of all others). Each
  * pointer is aligned for its type, is not null even where the length is 0, and points at as many elements as the length
@@ -12,12 +12,13 @@
  * given, and writes only through pointers that are not const. No function keeps a pointer, has a state of its own or
  * allocates.
  *
- * Stack. Nothing proves how deep it goes: an estimate may ask for 4,095 others, one within the other, and so may a go and a
- * preview. On the deepest map that is tried, a line of 4,096 junctions in rank order, 2 MiB are enough for every function.
+ * Stack. Nothing proves how deep it goes: an estimate may ask for 4,095 others, one within the other, and so may a go, a
+ * preview and a list of stops. On the deepest map that is tried, a line of 4,096 junctions in rank order, 2 MiB are enough for
+ * every function.
  *
  * Lengths. With n junctions and m roads: card 28 + 12 m + 4 n bytes; ranks, down, estimates, elapsed n words; live, leaving m
  * words; groups n + 1 words; pairs a multiple of 4 words, four for each pair there is to be room for, at most 262,144; route and
- * log at least n words; work 2 n words.
+ * log at least n words, route of a list of s stops at least s n; work 2 n words.
  *
  * Refusals, by the number of the question that is answered with no, in order:
  *    1  card: at least 28 bytes?
@@ -32,11 +33,14 @@
  *       4,096 junctions and 16,384 roads?
  *   10  set, preview: is the road below m?
  *   11  set, preview: is the time from the road's base time to 1,000,000, or closed?
- *   12  aim, estimate, go, preview: is the junction below n?
+ *   12  aim, estimate, go, preview: is the junction below n? stops: is each of them?
  *   13  estimate, go, preview: is there a target?
- *   14  go: have route and log at least n words?
+ *   14  go: have route and log at least n words? stops: has route at least n words for each stop, and log at least n?
  *   15  go: does a chain of open roads exist? If not: with the count; log, elapsed and estimates as the search leaves them.
- * All but 8 and 15 leave every area as it was, lent ones too, and a refused call leaves the header as it was.
+ *   16  stops: are there 2 to 32? Asked before 12.
+ *   17  stops: has each leg a chain of open roads? If not: with the first leg, from 0, that has none; header and areas as its aim and
+ *       its go, which finds none, leave them.
+ * All but 8, 15 and 17 leave every area as it was, lent ones too, and a call that is refused, but for 17, leaves the header as it was.
  */
 #ifndef ROUTE_UNIT_H
 #define ROUTE_UNIT_H
@@ -53,6 +57,12 @@ extern "C" {
 #define UNIT_CLOSED 4294967295u  /* the road is closed: live, the time of a set or a preview */
 #define UNIT_UNASKED 4294967294u /* not asked since the last aim: estimates */
 
+/* A list of stops has at most so many legs. */
+#define UNIT_MOST_LEGS 31
+
+/* An answer of unit_replay has so many words of out: four, and two for each of UNIT_MOST_LEGS legs. */
+#define UNIT_ANSWER_WORDS 66
+
 /*
  * The header, which preparing makes and each call is handed and hands back. A caller keeps it and alters nothing in it: the words
  * handed out stand for the header itself. Of other words, any aimed but 0 is taken as 1, and with aimed 0 the target is not read.
@@ -65,7 +75,7 @@ typedef struct UnitHeader {
     uint32_t target; /* the target, or 0 */
 } UnitHeader;
 
-/* What preparing and the calls hand back. What does not apply is 0. */
+/* What preparing and the calls but stops hand back. What does not apply is 0. */
 typedef struct UnitAnswer {
     UnitHeader header;  /* for the next call */
     uint32_t question;  /* 0 if accepted, or the number of the refusal */
@@ -78,12 +88,26 @@ typedef struct UnitAnswer {
     int64_t change;     /* preview: then minus total, if compared */
 } UnitAnswer;
 
+/* What a list of stops hands back. What does not apply is 0: of totals and roads the words past the last leg, after a refusal all. */
+typedef struct UnitStops {
+    UnitHeader header;                /* for the next call */
+    uint32_t question;                /* 0 if accepted, or the number of the refusal */
+    uint32_t leg;                     /* the leg of 17 */
+    uint32_t legs;                    /* how many legs there are */
+    uint64_t whole;                   /* the whole total: that of all legs */
+    uint64_t totals[UNIT_MOST_LEGS];  /* of each leg its total */
+    uint32_t roads[UNIT_MOST_LEGS];   /* and its number of roads */
+} UnitStops;
+
 /* The layout that the archive was built for; an array of -1 elements if a compiler has another. */
 typedef char UnitHeader_is_20_bytes[sizeof(UnitHeader) == 20 && offsetof(UnitHeader, target) == 16 ? 1 : -1];
 typedef char UnitAnswer_is_64_bytes[sizeof(UnitAnswer) == 64 && offsetof(UnitAnswer, question) == 20 &&
     offsetof(UnitAnswer, place) == 24 && offsetof(UnitAnswer, compared) == 28 && offsetof(UnitAnswer, total) == 32 &&
     offsetof(UnitAnswer, count) == 40 && offsetof(UnitAnswer, roads) == 44 && offsetof(UnitAnswer, then) == 48 &&
     offsetof(UnitAnswer, change) == 56 ? 1 : -1];
+typedef char UnitStops_is_416_bytes[sizeof(UnitStops) == 416 && offsetof(UnitStops, question) == 20 &&
+    offsetof(UnitStops, leg) == 24 && offsetof(UnitStops, legs) == 28 && offsetof(UnitStops, whole) == 32 &&
+    offsetof(UnitStops, totals) == 40 && offsetof(UnitStops, roads) == 288 ? 1 : -1];
 
 /*
  * Reads a card: questions 1 to 6. Returns 0 and writes n and m to *first and *second; or returns the refusal and writes
@@ -111,7 +135,7 @@ UnitAnswer unit_prepare(const uint8_t *card, size_t card_len, uint32_t *ranks, s
     uint32_t *leaving, size_t leaving_len, uint32_t *groups, size_t groups_len);
 
 /*
- * The five calls. They are handed the header that the last call handed back and the card and the eight areas it belongs to; none
+ * The six calls. They are handed the header that the last call handed back and the card and the eight areas it belongs to; none
  * writes ranks, pairs, leaving or groups. Where question 9 passes but these are not what a list of calls has left together, the
  * answer is free, 9 included.
  */
@@ -158,14 +182,28 @@ UnitAnswer unit_preview(UnitHeader header, const uint8_t *card, size_t card_len,
     uint32_t *work, size_t work_len, uint32_t road, uint32_t time, uint32_t start);
 
 /*
+ * Calls at the stops in their order, repeats allowed: questions 9, 16, 12, 14, 17. Each leg, from a stop to the next, is an aim at its
+ * end and a go from its start; areas and header are left so, up to the last leg or to the one that 17 names. The legs' roads follow
+ * one another in route, the rest of which is as it was; with 17 those of the legs before. Each leg's log stands first in log, so after
+ * that of the last one made there may be more of an earlier one. Writes down, estimates, elapsed, route and log.
+ */
+UnitStops unit_stops(UnitHeader header, const uint8_t *card, size_t card_len, const uint32_t *ranks, size_t ranks_len,
+    const uint32_t *pairs, size_t pairs_len, const uint32_t *live, size_t live_len, uint32_t *down, size_t down_len,
+    uint32_t *estimates, size_t estimates_len, uint32_t *elapsed, size_t elapsed_len,
+    const uint32_t *leaving, size_t leaving_len, const uint32_t *groups, size_t groups_len,
+    uint32_t *route, size_t route_len, uint32_t *log, size_t log_len, const uint32_t *stops, size_t stops_len);
+
+/*
  * Prepares a card and makes a list of calls. A call in script is its kind and as many words as that call has: 0, road, time for set;
- * 1, junction for aim; 2, junction for estimate; 3, start, entries of route, entries of log for go; 4, road, time, start for preview. A
- * go is lent the first so many entries of route and log, or all of them where there are fewer; what lies behind them is as it was. A
- * preview is lent all of work. The script ends with its last word, at any other kind, or at a call that is cut short: no call from
- * there on is made. The answer is four words of out: the refusal or 0; estimate or total; count; number of roads; of a preview 0, its
- * two totals, and its change as a two's complement of 64 bits. No more calls are made than there are four words in out; the rest of out
- * is as it was. What is handed back is preparing's answer, with the header after the last call. After a refused preparing the calls are
- * made all the same, on its header of zeros.
+ * 1, junction for aim; 2, junction for estimate; 3, start, entries of route, entries of log for go; 4, road, time, start for preview; 5,
+ * their number, entries of route, entries of log and then the stops for a list of stops. A go and a list of stops are lent the first so
+ * many entries of route and log, or all of them where there are fewer; what lies behind them is as it was. A preview is lent all of
+ * work. The script ends with its last word, at any other kind, or at a call that is cut short: no call from there on is made. An
+ * answer is UNIT_ANSWER_WORDS words of out: the refusal or 0; estimate, total or the leg of 17; count; number of roads; of a preview 0,
+ * its two totals, and its change as a two's complement of 64 bits; of a list of stops 0, the whole total, 0 and the number of legs; then
+ * of each of UNIT_MOST_LEGS legs its total and its number of roads, 0 where there is none. No more calls are made than out has room for
+ * answers; the rest of out is as it was. What is handed back is preparing's answer, with the header after the last call. After a refused
+ * preparing the calls are made all the same, on its header of zeros.
  */
 UnitAnswer unit_replay(const uint8_t *card, size_t card_len, uint32_t *ranks, size_t ranks_len,
     uint32_t *pairs, size_t pairs_len, uint32_t *live, size_t live_len, uint32_t *down, size_t down_len,

@@ -35,7 +35,8 @@ def use(module, names):
 
 
 REFUSALS = ["Short", "Kinds", "Starts", "Sizes", "Road", "Place", "AreaLengths", "Room", "Lengths",
-            "NoRoad", "NotAllowed", "NoJunction", "NoTarget", "LentLengths", "NoPath"]
+            "NoRoad", "NotAllowed", "NoJunction", "NoTarget", "LentLengths", "NoPath", "StopCount", "NoLeg"]
+PLACED = (5, 6, 15, 17)  # with a place, count or leg
 CALLS = {"set": "setCall", "aim": "aimCall", "est": "estimateCall", "preview": "previewCall"}
 
 
@@ -76,9 +77,20 @@ def change_text(change):
     return "none" if change is None else f"less {-change}" if change < 0 else f"more {change}"
 
 
+def stops_text(stops):
+    many = len(stops) > 4 and len(set(stops)) == 1
+    return argument(applied("replicate", len(stops), stops[0]) if many else row(stops))
+
+
+def lent_text(lent):
+    return f"({applied('lent', *map(len, lent))})"
+
+
 def call_text(call):
     if call[0] == "go":
-        return f"{applied('goCall', call[1])} ({applied('lent', *map(len, call[2:]))})"
+        return f"{applied('goCall', call[1])} {lent_text(call[2:])}"
+    if call[0] == "stops":
+        return f"stopsCall {stops_text(call[1])} {lent_text(call[2:])}"
     return applied(CALLS[call[0]], *call[1:])
 
 
@@ -115,7 +127,7 @@ def entry(text, indent):
 def turn_text(turn):
     (kind, place, *rest), answer, areas, rows = turn.call, turn.answer, turn.areas, [argument(row(area)) for area in turn.areas]
     live, down, estimates, elapsed = rows[2:6]
-    if answer[0] == "no" and answer[1] < 15:
+    if answer[0] == "no" and answer[1] not in (15, 17):
         return says(turn, f"no {refusal_text(answer[1:])} ({call_text(turn.call)})")
     if kind == "set":
         return says(turn, f"{applied(kind, place, *rest)} {live}", live=areas.live)
@@ -126,11 +138,30 @@ def turn_text(turn):
     if kind == "preview":
         totals = " ".join(argument(total_text(total)) for total in answer[1:3])
         return says(turn, f"{applied(kind, place, *rest[:2])} {totals} {argument(change_text(answer[3]))} {estimates}", estimates=areas.estimates)
+    if kind == "stops":
+        return journey_text(turn, down, estimates, elapsed)
     route, log = turn.lent[0][:answer[3] if answer[0] == "go" else 0], turn.lent[1][:answer[2]]
     assert turn.lent == (route + rest[0][len(route):], log + rest[1][len(log):])
-    start = f"{place} ({applied('lent', *map(len, rest))})"
+    start = f"{place} {lent_text(rest)}"
     found = f"go {start} {answer[1]} {argument(row(route))}" if answer[0] == "go" else f"lost {start}"
     return says(turn, f"{found} {argument(row(log))} {estimates} {elapsed}", estimates=areas.estimates, elapsed=areas.elapsed)
+
+
+def journey_text(turn, down, estimates, elapsed):
+    """A list of stops: the roads of the legs that have a chain, and what stands first in the log area."""
+    (_, stops, *rest), answer, areas = turn.call, turn.answer, turn.areas
+    route, log = [[new for new, old in zip(*both) if new != old] for both in zip(turn.lent, rest)]
+    assert turn.lent == (route + rest[0][len(route):], log + rest[1][len(log):])
+    called = f"{stops_text(stops)} {lent_text(rest)}"
+    if answer[0] == "stops":
+        legs = [f"{total} over {roads}" for total, roads in answer[1]]
+        listed_legs = f"(replicate {len(legs)} ({legs[0]}))" if len(legs) > 4 and len(set(legs)) == 1 else argument(listed(legs))
+        told, target = f"stops {called} {listed_legs} {answer[2]}", stops[-1]
+        assert answer[2] == sum(total for total, _ in answer[1]) and len(route) == sum(roads for _, roads in answer[1])
+    else:
+        told, target = f"stranded {called} {answer[2]}", stops[answer[2] + 1]
+    text = f"{told} {argument(row(route))} {argument(row(log))} {down} {estimates} {elapsed}"
+    return says(turn, text, target, down=areas.down, estimates=areas.estimates, elapsed=areas.elapsed)
 
 
 def says(turn, text, target=None, **altered):
@@ -169,9 +200,10 @@ RANDOM = f"""-- Maps and calls, some made for a purpose and some random, with wh
 use mathlib.Core.Path.{{refl}}
 use mathlib.Core.Option.{{none, some}}
 use mathlib.Core.List.{{[], _∷_}}
-use Rattle.model.specs.Types.{{Lengths, LentLengths, NoJunction, NoRoad, NoTarget, NotAllowed}}
-use Rattle.model.specs.Calls.{{aimCall, estimateCall, goCall, previewCall, setCall}}
-{use(NOTATION, "Holds _–_–_ aim est go lent less lost more no pair played preview set ∞ □".split())}"""
+use lib.ListN.{{replicate}}
+use Rattle.model.specs.Types.{{Lengths, LentLengths, NoJunction, NoRoad, NoTarget, NotAllowed, StopCount}}
+use Rattle.model.specs.Calls.{{aimCall, estimateCall, goCall, previewCall, setCall, stopsCall}}
+{use(NOTATION, "Holds _over_ _–_–_ aim est go lent less lost more no pair played preview set stops stranded ∞ □".split())}"""
 
 
 # ---- Cards.antt: what is given, in groups with a comment each
@@ -249,7 +281,9 @@ PREPARINGS = {
     "the room": [(SMALL, FITTING._replace(pairs=0)), (MAP_P, Areas(4, 16, 5, 4, 4, 4, 5, 5))],
 }
 CHANGES = [("set", 0, 5), ("set", 1, 0), ("preview", 0, 5, 0, 0), ("preview", 1, 0, 2, 0)]
-OTHERS = [("aim", 1), ("aim", 2), ("est", 0), ("go", 0, [60, 61], [80, 81, 82]), ("go", 2, [], [])]
+OTHERS = [("aim", 1), ("aim", 2), ("est", 0), ("go", 0, [60, 61], [80, 81, 82]), ("go", 2, [], []),
+          ("stops", [0, 1], [60, 61, 62, 63], [80, 81]), ("stops", [2, 1, 0], [], [])]
+LISTS = [("stops", [], [], []), ("stops", [0], [60, 61], [80, 81]), ("stops", [2] * 33, [], [])]
 WORKS = [("preview", 0, 5, 0, 1), ("preview", 0, 5, 0, 3), ("preview", 1, 0, 2, 5), ("preview", 1, 0, 2, 8)]
 FORGED = [(1, 1, 1), (3, 1, 1), (2, 0, 1), (2, 2, 1), (2, 1, 2), (0, 0, 0), (2 ** 30 + 2, 1, 1), (2, 2 ** 30 + 1, 1), (2, 1, 2 ** 30 + 1)]
 UNMAPPED = Areas(0, 8, 0, 0, 0, 0, 0, 1)
@@ -259,7 +293,10 @@ CALLINGS = {
     "fewer pairs than the header has": [("all", (2, 1, 1), None, 48, FITTING._replace(pairs=0))],
     "forged headers": [("all", numbers, 0, 48, FITTING) for numbers in FORGED],
     "the header of a refused preparing, with areas that it calls for": [
-        ("changes", (0, 0, 0), None, 28, UNMAPPED), ("others", (0, 0, 0), None, 28, UNMAPPED)],
+        ("changes", (0, 0, 0), None, 28, UNMAPPED), ("others", (0, 0, 0), None, 28, UNMAPPED), ("lists", (0, 0, 0), None, 28, UNMAPPED)],
+    "lists of a wrong number of stops": [
+        ("lists", (2, 1, 1), 0, 48, FITTING), ("lists", (2, 1, 1), None, 48, FITTING), ("lists", (2, 1, 1), 1, 47, FITTING),
+        ("lists", (2, 1, 1), 1, 48, FITTING._replace(groups=4))],
     "the same with a work area": [("works", (0, 0, 0), None, 28, UNMAPPED)],
     "a work area of another length": [("works", (2, 1, 1), target, 48, FITTING) for target in (0, None)],
     "the same with no start of a group, and with two": [
@@ -322,9 +359,10 @@ def preparing_line(given):
 def calling_line(given):
     name, numbers, target, length, lengths = given
     header, areas, questions = Header(*numbers, target), Areas(*[[7] * length for length in lengths]), set()
-    for call in {"changes": CHANGES, "others": OTHERS, "works": WORKS, "all": CHANGES + OTHERS}[name]:
-        answer, *left = model.step(bytes([7] * length), header, areas, call)
-        assert answer[0] == "no" and left == [header, areas, call[2:] if call[0] == "go" else ([], [])]
+    # the model reads a map from the card, though these questions look at none: so it gets one where the lengths fit
+    for call in {"changes": CHANGES, "others": OTHERS, "works": WORKS, "lists": LISTS, "all": CHANGES + OTHERS}[name]:
+        answer, *left = model.step(SMALL.data if length == 48 else bytes([7] * length), header, areas, call)
+        assert answer[0] == "no" and left == [header, areas, call[2:] if call[0] in ("go", "stops") else ([], [])]
         questions.add(answer[1])
     (question,) = questions
     aimed = "Absent" if target is None else f"(At {target})"
@@ -378,13 +416,13 @@ use Rattle.model.specs.Bytes.{{wordAt}}
 use Rattle.model.specs.Card.{{Written, cardRefusal, readCard, sizesOk}}
 use Rattle.model.specs.Areas.{{areasOf}}
 use Rattle.model.specs.State.{{Step, inRange, question9}}
-use Rattle.model.specs.Calls.{{Call, aimCall, estimateCall, goCall, previewCall, setCall}}
+use Rattle.model.specs.Calls.{{Call, aimCall, estimateCall, goCall, previewCall, setCall, stopsCall}}
 {use(NOTATION, CARDS_NOTATION.split())}
 -- document 01's number of each refusal
 numbers :
     map (λ (q : Refusal). q .question)
-    ({within(listed(applied(name, 0) if number in (5, 6, 15) else name for number, name in enumerate(REFUSALS, 1)))})
-    ≡ {row(range(1, 16))}
+    ({within(listed(applied(name, 0) if number in PLACED else name for number, name in enumerate(REFUSALS, 1)))})
+    ≡ {row(range(1, 18))}
 numbers = refl
 
 -- the lowest byte first
@@ -400,7 +438,8 @@ abbrev changes : List Call
 changes = {listed(map(call_text, CHANGES))}
 
 abbrev others : List Call
-others = {listed(map(call_text, OTHERS))}
+others =
+    {within(listed(map(call_text, OTHERS)))}
 
 abbrev all : List Call
 all = changes ++ others
@@ -408,6 +447,10 @@ all = changes ++ others
 -- previews with a work area that fits neither of the headers below
 abbrev works : List Call
 works = {listed(map(call_text, WORKS))}
+
+-- lists of fewer than 2 stops and of more than 32
+abbrev lists : List Call
+lists = {listed(map(call_text, LISTS))}
 """
 
 
@@ -416,7 +459,7 @@ def cards_text(counts):
         ("readings", "(List ℕ) Reading", "reading", "readCard", "wordAt cardRefusal", READINGS, reading_line, ["accepted", *range(1, 7)]),
         ("writings", "Writing Written", "writing", "writes", "writes", WRITINGS, writing_line, ["accepted", *range(4, 8)]),
         ("preparings", "Preparing Step", "preparing", "prepares", "prepares", PREPARINGS, preparing_line, range(1, 9)),
-        ("callings", "Calling (List Step)", "calling", "answers", "answers", CALLINGS, calling_line, [9, 10, 12]),
+        ("callings", "Calling (List Step)", "calling", "answers", "answers", CALLINGS, calling_line, [9, 10, 12, 16]),
         ("sizes", "Bool Bool", "sized", "same", "sizesOk", SIZES, sizes_line, ["accepted", 4]),
         ("lengths", "Bool Bool", "fitting", "same", "question9", LENGTHS, lengths_line, ["accepted", 9]),
         ("ranges", "Bool Bool", "ranged", "same", "", RANGES, range_line, ["accepted", 9])))

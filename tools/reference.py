@@ -1,10 +1,11 @@
-"""Document 01, with A1 and A2 of document 02, as a plain model: the card, preparing, the five calls and the machine to compare with.
+"""Document 01, with A1 to A3 of document 02, as a plain model: the card, preparing, the six calls and the machine to compare with.
 
 It is written from the paper alone and shares nothing with the definitions of crates/model. Each least total comes from
 one function, which relaxes arcs until nothing changes; candidates, fillings and routes are read off the paper's sentences.
-A refusal is a tuple: the question's number and, after 5, 6 and 15, the place or count. A call is ("set", road, time),
-("aim", junction), ("est", junction), ("go", start, route area, log area) or ("preview", road, time, start, words of its
-work area). A preview's totals and change are numbers, or None.
+A refusal is a tuple: the question's number and, after 5, 6, 15 and 17, the place, count or leg. A call is ("set", road, time),
+("aim", junction), ("est", junction), ("go", start, route area, log area), ("preview", road, time, start, words of its
+work area) or ("stops", junctions, route area, log area). A preview's totals and change are numbers, or None; a leg of a list of
+stops is its total and its number of roads.
 """
 import math
 from collections import namedtuple
@@ -12,6 +13,7 @@ from collections import namedtuple
 NONE = CLOSED = 4_294_967_295
 UNASKED = 4_294_967_294
 SLOWEST = 1_000_000
+FEWEST_STOPS, MOST_STOPS = 2, 32
 
 Header = namedtuple("Header", "n m pairs target")
 Areas = namedtuple("Areas", "ranks pairs live down estimates elapsed leaving groups")
@@ -180,8 +182,17 @@ def work_right(n, call):
     return call[0] != "preview" or call[4] == 2 * n
 
 
+def stops_refusal(n, stops, route, log):
+    """Questions 16, 12 and 14 of a list of stops."""
+    if not FEWEST_STOPS <= len(stops) <= MOST_STOPS:
+        return (16,)
+    if any(stop >= n for stop in stops):
+        return (12,)
+    return (14,) if len(route) < len(stops) * n or len(log) < n else None
+
+
 def call_refusal(n, base, target, call):
-    """Questions 10 to 14, and 9 of a work area."""
+    """Questions 10 to 14 and 16, and 9 of a work area."""
     kind, place = call[:2]
     if not work_right(n, call):
         return (9,)
@@ -189,6 +200,8 @@ def call_refusal(n, base, target, call):
         return time_refusal(base, place, call[2])
     if kind == "preview":
         return time_refusal(base, place, call[2]) or call_refusal(n, base, target, ("est", call[3]))
+    if kind == "stops":
+        return stops_refusal(n, *call[1:])
     if place >= n:
         return (12,)
     if kind != "aim" and target is None:
@@ -205,6 +218,11 @@ def replaced(live, road, time):
 def preview_answer(present, new):
     """Both totals and, where both exist, the new one less the present one."""
     return "preview", present, new, None if present is None or new is None else new - present
+
+
+def stops_answer(legs):
+    """The legs and the whole total."""
+    return "stops", tuple(legs), sum(total for total, _ in legs)
 
 
 class Machine:
@@ -228,6 +246,8 @@ class Machine:
         if kind == "preview":
             return preview_answer(*[least_totals(chart.open_roads(live), self.target).get(call[3])
                                     for live in (self.live, replaced(self.live, place, call[2]))]), [], []
+        if kind == "stops":
+            return self.journey(*call[1:])
         estimate = least_totals(chart.roads, self.target)
         if kind == "est":
             return ("est", estimate.get(place, NONE)), [], []
@@ -238,6 +258,18 @@ class Machine:
             return ("no", 15, len(log)), [], list(log)
         route = route_back(arcs, log, self.target)
         return ("go", total, len(log), len(route)), route, list(log)
+
+    def journey(self, stops, *lent):
+        """An aim and a go for each leg: the legs' roads, and the log of the last leg that is made."""
+        roads, legs = [], []
+        for start, end in zip(stops, stops[1:]):
+            self.step(("aim", end))
+            answer, route, log = self.step(("go", start, *lent))
+            if answer[0] == "no":
+                return ("no", 17, len(legs)), roads, log
+            roads += route
+            legs.append((answer[1], len(route)))
+        return stops_answer(legs), roads, log
 
 
 # ---- the unit
@@ -301,9 +333,9 @@ def filled(chart, header, areas, asked):
 
 
 def step(card, header, areas, call):
-    """The answer, the header, the areas, and go's two areas (empty for another call)."""
+    """The answer, the header, the areas, and the two areas that go and stops are lent (empty for another call)."""
     kind, place = call[:2]
-    lent = call[2:] if kind == "go" else ([], [])
+    lent = call[2:] if kind in ("go", "stops") else ([], [])
     if not all_lengths_right([*map(len, areas)], len(card), *header[:3]) or not work_right(header.n, call):
         return ("no", 9), header, areas, lent
     chart, target = Map(card) if header.n else None, header.target  # no map after a refused preparing
@@ -323,6 +355,8 @@ def step(card, header, areas, call):
         asked = [junction for _, _, some in both for junction in some]
         areas = areas._replace(estimates=filled(chart, header, areas, asked))
         return preview_answer(*[times.get(target) for _, times, _ in both]), header, areas, lent
+    if kind == "stops":
+        return journey(card, header, areas, place, *lent)
     arcs, times, asked = searched(chart, areas.live, place, target)
     areas = areas._replace(estimates=filled(chart, header, areas, asked),
                            elapsed=[times.get(junction, NONE) for junction in range(header.n)])
@@ -331,3 +365,17 @@ def step(card, header, areas, call):
         return ("no", 15, len(times)), header, areas, (lent[0], log)
     route = route_back(arcs, times, target)
     return ("go", times[target], len(times), len(route)), header, areas, (route + lent[0][len(route):], log)
+
+
+def journey(card, header, areas, stops, route, log):
+    """Each leg is an aim and a go, which is lent the route area behind the roads of the legs before it; up to one without a chain."""
+    roads, legs = [], []
+    for start, end in zip(stops, stops[1:]):
+        _, header, areas, _ = step(card, header, areas, ("aim", end))
+        answer, header, areas, (rest, log) = step(card, header, areas, ("go", start, route[len(roads):], log))
+        route = roads + rest
+        if answer[0] == "no":
+            return ("no", 17, len(legs)), header, areas, (route, log)
+        roads = route[:len(roads) + answer[3]]
+        legs.append((answer[1], answer[3]))
+    return stops_answer(legs), header, areas, (route, log)

@@ -1,4 +1,4 @@
-"""Scripts for the five calls: maps with lists of calls, random and made for a purpose, chosen so that each kind of case occurs."""
+"""Scripts for the six calls: maps with lists of calls, random and made for a purpose, chosen so that each kind of case occurs."""
 from collections import Counter, namedtuple
 
 import reference as model
@@ -48,16 +48,17 @@ class Script:
             self.kinds[name] += bool(holds)
 
     def play(self, kind, place, *rest):
-        """A call; for go the rest is the lengths of the two areas that it is lent."""
+        """A call; for go and stops the rest is the lengths of the two areas that it is lent."""
         self.calls.append((kind, place, *rest))
-        if kind == "go":
+        if kind in ("go", "stops"):
             rest = [*range(60, 60 + rest[0])], [*range(80, 80 + rest[1])]
         call, before = (kind, place, *rest), (self.header, self.areas)
         turn = Turn(call, before, *model.step(self.card, *before, call))
         answer, route, log = self.machine.step(call)
         assert (turn.answer, turn.lent[0][:len(route)], turn.lent[1][:len(log)]) == (answer, route, log)
         no = answer[1] if answer[0] == "no" else 0
-        case = (place, self.header.target, self.areas.live) if kind == "go" and no in (0, 15) else (call, before)
+        searches = kind in ("go", "stops") and no in (0, 15, 17)
+        case = (kind, place, self.header.target, self.areas.live) if searches else (call, before)
         if case not in self.cases:
             self.count(KINDS[kind](self, turn, no))
             self.cases.append(case)
@@ -90,7 +91,7 @@ def random_script(seed):
 
 def random_call(dice, script):
     n, m, live, base = script.header.n, script.header.m, script.areas.live, script.chart.base
-    kind = dice.pick("set", "set", "set", "aim", "est", "go", "go", "go", "go", "preview", "preview", "preview")
+    kind = dice.pick("set", "set", "set", "aim", "est", "go", "go", "go", "go", "preview", "preview", "preview", "stops", "stops")
     junction = dice.below(n) if dice.below(20) else dice.pick(n, UNASKED)
     if kind in ("set", "preview"):
         road = dice.pick(*[road for road in range(m) if live[road] != base[road]] or range(m), *range(m), m, NONE)
@@ -101,9 +102,20 @@ def random_call(dice, script):
         return kind, road, time, junction, 2 * n if dice.below(12) else dice.pick(0, n, 2 * n - 1, 2 * n + 1)
     if kind == "go":
         return kind, junction, *[n + dice.pick(0, 0, 1, 2) - (dice.below(20) == 0) for _ in range(2)]
+    if kind == "stops":
+        return kind, *random_stops(dice, n, junction)
     if kind == "aim" and script.header.target is not None and dice.below(4) == 0:
         return kind, script.header.target
     return kind, junction
+
+
+def random_stops(dice, n, junction):
+    """A list that ends with a junction, now and then one that is none or too few, and the lengths of the two areas."""
+    stops = [dice.below(n) for _ in range(dice.pick(0, 1, 1, 1, 1, 2, 2, 2, 2, 3, 3, 4))] + [junction]
+    if dice.below(3) == 0:
+        stops.insert(0, stops[0])
+    most = len(stops) * n
+    return stops, dice.pick(most, most, most, most, most + 1, most + 2, most - 1, most - n), dice.pick(n, n, n, n, n + 1, n + 2, n - 1)
 
 
 def chosen_scripts():
@@ -125,6 +137,14 @@ def chosen_scripts():
                ("aim", 1), ("preview", 3, CLOSED, 0, 8), ("preview", 0, 9, 0, 8), ("set", 0, CLOSED), ("aim", 1), ("preview", 0, 1, 0, 8), ("aim", 1),
                ("set", 3, CLOSED), ("preview", 2, CLOSED, 0, 8), ("set", 2, CLOSED), ("aim", 1), ("preview", 2, CLOSED, 0, 8), ("preview", 2, 1, 0, 8),
                ("aim", 1), ("preview", 2, 3, 0, 8)),
+        Script("lists of stops at one junction: the most, too few, too many, and lengths", [], [0], 0,
+               ("stops", [0] * 32, 32, 1), ("stops", [0] * 33, 33, 1), ("stops", [], 0, 1), ("stops", [0], 1, 1), ("stops", [1], 0, 0),
+               ("stops", [0, 0], 2, 1), ("stops", [0, 0], 1, 1), ("stops", [0, 0], 2, 0), ("stops", [0, 1], 1, 0), ("stops", [1] * 33, 0, 0),
+               ("stops", [0] * 31 + [1], 32, 1)),
+        Script("lists of stops on map P", *MAP_P, 0,
+               ("stops", [0, 3, 0], 12, 4), ("stops", [0, 0], 8, 4), ("stops", [0, 3, 3, 1, 2], 20, 4), ("stops", [0, 3, 0], 11, 4),
+               ("stops", [0, 3, 0], 12, 3), ("stops", [0, 3, 4], 12, 4), ("set", 4, CLOSED), ("stops", [0, 3, 0], 13, 6), ("set", 1, CLOSED),
+               ("aim", 3), ("go", 0, 4, 4), ("stops", [0, 3, 3, 1], 17, 4), ("set", 3, CLOSED), ("stops", [0, 3], 8, 4), ("stops", [3, 0, 3], 12, 4)),
     ]
     pool, chosen = [random_script(seed) for seed in range(POOL)], []
     while seldom := too_seldom(made + chosen):
@@ -148,7 +168,7 @@ MAP_P = [(0, 1, 10), (1, 3, 10), (0, 2, 15), (2, 3, 10), (3, 0, 20)], [1, 2, 0, 
 # ---- kinds of maps and calls, each with whether it occurs here
 
 # How often a kind must occur at least, by its name or its first word; others four times.
-MINIMA = {"map": 3, "map of one junction": 1, "map without roads": 2, "room": 1, "go": 5, "go that finds a route": 50, "preview": 3}
+MINIMA = {"stops with 31 legs": 1, "map": 3, "map of one junction": 1, "map without roads": 2, "room": 1, "go": 5, "go that finds a route": 50, "preview": 3, "stops": 2, "stops:": 2}
 
 
 def minimum(kind):
@@ -369,4 +389,50 @@ def outlook_kinds(script, turn, base, live):
     }
 
 
-KINDS = {"set": set_kinds, "aim": aim_kinds, "est": est_kinds, "go": go_kinds, "preview": preview_kinds}
+def stops_kinds(script, turn, no):
+    (_, stops, *lengths), (n, _, _, target) = (*turn.call[:2], *map(len, turn.call[2:])), script.header
+    outside, short = [stop for stop in stops if stop >= n], lengths[0] < len(stops) * n
+    kinds = {
+        "stops: 16 by too few": no == 16 and len(stops) < 2,
+        "stops: 16 by too many": no == 16 and len(stops) > 32,
+        "stops: 16 where 12 would refuse too": no == 16 and outside,
+        "stops: 12 by a stop that is not the first": no == 12 and stops[0] < n,
+        "stops: 12 where an area is short too": no == 12 and (short or lengths[1] < n),
+        "stops: 14 by the route area, of n entries for each leg": no == 14 and short and lengths[0] >= (len(stops) - 1) * n,
+        "stops: 14 by the log area": no == 14 and not short,
+    }
+    return kinds | journey_kinds(script, turn, stops, target, lengths, no) if no in (0, 17) else kinds
+
+
+def journey_kinds(script, turn, stops, target, lengths, no):
+    legs, n, before = turn.answer[2] if no else len(turn.answer[1]), script.header.n, script.areas
+    arcs, logs = script.chart.open_roads(before.live), []
+    for start, end in list(zip(stops, stops[1:]))[:legs + bool(no)]:
+        logs.append(list(model.search(arcs, model.least_totals(script.chart.roads, end), start, end)[0]))
+    roads = sum(word < 60 for word in turn.lent[0])
+    return {
+        "stops: 17 with the first leg": no and legs == 0,
+        "stops: 17 with a leg between": no and 0 < legs < len(stops) - 2,
+        "stops: 17 with the last of several": no and 0 < legs == len(stops) - 2,
+        "stops: 17 with an empty log": no and not logs[-1],
+        "stops: 17 with roads of the legs before": no and roads,
+        "stops with one leg": not no and legs == 1,
+        "stops with two legs": not no and legs == 2,
+        "stops with three legs and more": not no and legs > 2,
+        "stops with 31 legs": not no and legs == 31,
+        "stops with three legs that have roads": not no and sum(count > 0 for _, count in turn.answer[1]) > 2,
+        "stops with equal neighbours": any(a == b for a, b in zip(stops, stops[1:])),
+        "stops that come again": any(a == b for i, a in enumerate(stops) for b in stops[i + 2:]),
+        "stops without a target before": target is None,
+        "stops whose first leg leads to the target": target == stops[1] and set(before.estimates) - {UNASKED},
+        "stops whose last target is the one before": target == turn.header.target and len(stops) > 2,
+        "stops whose log has more of an earlier leg behind it": any(len(log) > len(logs[-1]) for log in logs),
+        "stops over a delayed road": any(turn.lent[0][i] < 60 and before.live[turn.lent[0][i]] > script.chart.base[turn.lent[0][i]]
+                                         for i in range(roads)),
+        "stops that leave estimates unasked": UNASKED in turn.areas.estimates,
+        "stops with longer areas": lengths[0] > len(stops) * n and lengths[1] > n,
+        "stops with areas just long enough": lengths == [len(stops) * n, n],
+    }
+
+
+KINDS = {"set": set_kinds, "aim": aim_kinds, "est": est_kinds, "go": go_kinds, "preview": preview_kinds, "stops": stops_kinds}

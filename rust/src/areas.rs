@@ -1,15 +1,15 @@
-//! Aim, estimate, set and preview in plain Rust over the unit's areas, and nothing else: records of four words
-//! in one slice, with no place for where each rank's begin. Each is a function with the arguments, the answer
-//! and the questions of its export: a header by value that is handed back, and nine slices, of a preview its
-//! work area too.
+//! Aim, estimate, set, preview and stops in plain Rust over the unit's areas, and nothing else: records of four
+//! words in one slice, with no place for where each rank's begin. Each is a function with the arguments, the
+//! answer and the questions of its export: a header by value that is handed back, and nine slices, of a preview
+//! its work area too, of a list of stops route, log and stops.
 #![allow(improper_ctypes_definitions, clippy::too_many_arguments)]
 
-use crate::calls::{Previewed, Refusal};
+use crate::calls::{Previewed, Refusal, Stopped, FEWEST_STOPS, MOST_STOPS};
 use crate::card::{self, LONGEST, MOST_JUNCTIONS, MOST_ROADS};
 use crate::order::MOST_PAIRS;
 use crate::time::{add, Time, CLOSED, NONE, UNASKED};
-use crate::unit::{Header, Returned, Unit};
-use std::cmp::Reverse;
+use crate::unit::{Header, Returned, ReturnedStops, Unit};
+use std::cmp::{Ordering, Reverse};
 use std::collections::BinaryHeap;
 
 /// Lends a unit's areas to a function.
@@ -44,6 +44,31 @@ pub fn preview(
 ) -> Result<Previewed, Refusal> {
     let (live, down) = (&unit.live, &unit.down);
     lend!(preview_on(unit, live, down, &mut unit.estimates, work, road, time, start))?.previewed()
+}
+
+pub fn stops(
+    unit: &mut Unit,
+    stops: &[u32],
+    route: &mut [u32],
+    log: &mut [u32],
+) -> Result<Stopped, Refusal> {
+    let returned = stops_on(
+        unit.header,
+        &unit.card,
+        &unit.ranks,
+        &unit.pairs,
+        &unit.live,
+        &mut unit.down,
+        &mut unit.estimates,
+        &mut unit.elapsed,
+        &unit.leaving,
+        &unit.groups,
+        route,
+        log,
+        stops,
+    );
+    unit.header = returned.header;
+    returned.stopped()
 }
 
 fn answer(header: Header, question: u32) -> Returned {
@@ -109,16 +134,20 @@ extern "C" fn aim_on(
     if target >= header.n {
         return answer(header, 12);
     }
-    let order = order(card, header);
+    descend(order(card, header), ranks, records(pairs, header), down, target);
+    estimates.fill(UNASKED);
+    answer(Header { aimed: 1, target, ..header }, 0)
+}
+
+/// The down totals of a target.
+fn descend(order: &[[u8; 4]], ranks: &[u32], records: &[[u32; 4]], down: &mut [Time], target: u32) {
     down.fill(NONE);
     down[target as usize] = 0;
-    for &[low, high, _, time] in from(records(pairs, header), ranks[target as usize]) {
+    for &[low, high, _, time] in from(records, ranks[target as usize]) {
         let below = down[junction_at(order, low)];
         let total = &mut down[junction_at(order, high)];
         *total = add(time, below).min(*total);
     }
-    estimates.fill(UNASKED);
-    answer(Header { aimed: 1, target, ..header }, 0)
 }
 
 #[inline(never)]
@@ -282,8 +311,66 @@ impl Ways<'_> {
         changed: u32,
         time: Time,
     ) -> Time {
-        work.fill(NONE);
         let (times, logged) = work.split_at_mut(work.len() / 2);
+        let live = |road| if road == changed { time } else { self.live[road as usize] };
+        self.run(estimates, times, logged, start, live, |_| (), |_, _, _| ());
+        logged[self.target as usize]
+    }
+
+    /// A go: its total and number of roads, if there is a chain; roads and log stand first in the lent areas.
+    /// `times` and `by` are words to work on, for each junction one.
+    fn go(
+        &self,
+        estimates: &mut [Time],
+        elapsed: &mut [Time],
+        times: &mut [Time],
+        by: &mut [u32],
+        route: &mut [u32],
+        log: &mut [u32],
+        start: u32,
+    ) -> Option<(Time, u32)> {
+        let mut count = 0;
+        let logs = |junction| {
+            log[count] = junction;
+            count += 1;
+        };
+        // The smallest-numbered road that gives a candidate's time.
+        let leads = |road: u32, head: u32, order: Ordering| {
+            let old = &mut by[head as usize];
+            *old = if order.is_lt() { road } else { road.min(*old) };
+        };
+        let live = |road| self.live[road as usize];
+        self.run(estimates, times, elapsed, start, live, logs, leads);
+        let total = elapsed[self.target as usize];
+        if total == NONE {
+            return None;
+        }
+        let (mut roads, mut junction) = (0, self.target);
+        while junction != start {
+            let road = by[junction as usize];
+            route[roads] = road;
+            roads += 1;
+            junction = u32::from_le_bytes(self.roads[road as usize][0]);
+        }
+        route[..roads].reverse();
+        Some((total, roads as u32))
+    }
+
+    /// Logs one junction after the other, up to the target: `times` has the candidates' times, `logged` those
+    /// of the logged. Each that is logged is told, and each road that gives a candidate its time, a smaller one
+    /// than before or the same.
+    fn run(
+        &self,
+        estimates: &mut [Time],
+        times: &mut [Time],
+        logged: &mut [Time],
+        start: u32,
+        live: impl Fn(u32) -> Time,
+        mut logs: impl FnMut(u32),
+        mut leads: impl FnMut(u32, u32, Ordering),
+    ) {
+        times.fill(NONE);
+        logged.fill(NONE);
         let mut queue = BinaryHeap::new();
         let ahead = self.prepared.estimate(estimates, start as usize);
         if ahead != NONE {
@@ -296,24 +383,98 @@ impl Ways<'_> {
                 continue;
             }
             logged[at] = times[at];
+            logs(junction);
             if junction == self.target {
                 break;
             }
             for &road in &self.leaving[self.groups[at] as usize..self.groups[at + 1] as usize] {
-                let live = if road == changed { time } else { self.live[road as usize] };
+                let live = live(road);
                 if live == CLOSED {
                     continue;
                 }
                 let head = u32::from_le_bytes(self.roads[road as usize][1]);
                 let ahead = self.prepared.estimate(estimates, head as usize);
+                if ahead == NONE {
+                    continue;
+                }
                 let sum = logged[at] + live;
-                if ahead != NONE && sum < times[head as usize] {
+                let order = sum.cmp(&times[head as usize]);
+                if order.is_lt() {
                     times[head as usize] = sum;
                     queue.push(Reverse((u64::from(sum) + u64::from(ahead), head)));
                 }
+                if order.is_le() && logged[head as usize] == NONE {
+                    leads(road, head, order);
+                }
             }
         }
-        logged[self.target as usize]
+    }
+}
+
+#[inline(never)]
+extern "C" fn stops_on(
+    header: Header,
+    card: &[u8],
+    ranks: &[u32],
+    pairs: &[u32],
+    live: &[Time],
+    down: &mut [Time],
+    estimates: &mut [Time],
+    elapsed: &mut [Time],
+    leaving: &[u32],
+    groups: &[u32],
+    route: &mut [u32],
+    log: &mut [u32],
+    stops: &[u32],
+) -> ReturnedStops {
+    let (of_n, of_m) = ([ranks, down, estimates, elapsed], [live, leaving]);
+    let fits = fits(header, card, pairs, of_n, of_m, groups);
+    let mut answer = ReturnedStops { header, ..ReturnedStops::default() };
+    if let Some(question) = refused_stops(header, fits, stops, route.len(), log.len()) {
+        return ReturnedStops { question, ..answer };
+    }
+    let (order, records) = (order(card, header), records(pairs, header));
+    let (mut times, mut by) = (vec![NONE; header.n as usize], vec![0; header.n as usize]);
+    let mut at = 0;
+    for (leg, ends) in stops.windows(2).enumerate() {
+        let [start, target] = [ends[0], ends[1]];
+        descend(order, ranks, records, down, target);
+        estimates.fill(UNASKED);
+        answer.header = Header { aimed: 1, target, ..header };
+        let prepared = Prepared { order, ranks, records, down };
+        let ways = Ways { prepared, roads: roads(card), live, leaving, groups, target };
+        let found = ways.go(estimates, elapsed, &mut times, &mut by, &mut route[at..], log, start);
+        let Some((total, roads)) = found else {
+            let leg = leg as u32;
+            let header = answer.header;
+            return ReturnedStops { header, question: 17, leg, ..ReturnedStops::default() };
+        };
+        answer.totals[leg] = total.into();
+        answer.roads[leg] = roads;
+        answer.whole += u64::from(total);
+        answer.legs += 1;
+        at += roads as usize;
+    }
+    answer
+}
+
+/// Questions 9, 16, 12 and 14.
+fn refused_stops(
+    header: Header,
+    fits: bool,
+    stops: &[u32],
+    route: usize,
+    log: usize,
+) -> Option<u32> {
+    let n = header.n as usize;
+    if !fits {
+        Some(9)
+    } else if !(FEWEST_STOPS..=MOST_STOPS).contains(&stops.len()) {
+        Some(16)
+    } else if stops.iter().any(|&stop| stop >= header.n) {
+        Some(12)
+    } else {
+        (route < stops.len() * n || log < n).then_some(14)
     }
 }
 
@@ -332,6 +493,7 @@ mod tests {
         let mut random = Random::new(1);
         let mut maps: Vec<_> = (0..200).map(|_| maps::small(&mut random)).collect();
         maps.push(maps::town(&mut random, 20, 25, Streets::USUAL));
+        let mut met = [0; 18];
         for map in maps {
             let mut unit = Both::prepare(&map, order::pairs(&map)).unwrap().unit;
             let mut plain = unit.clone();
@@ -359,8 +521,21 @@ mod tests {
                     unit.preview(road, CLOSED, asked, &mut work.clone()),
                     preview(&mut plain, road, CLOSED, asked, &mut work)
                 );
+                let list: Vec<u32> = (0..random.below(6))
+                    .map(|_| random.below(map.n()) as u32)
+                    .chain([asked])
+                    .collect();
+                let entries = list.len() * map.n() - random.below(8) / 7;
+                let [mut route, mut other_route] = [(); 2].map(|()| vec![7; entries]);
+                let [mut log, mut other_log] = [(); 2].map(|()| vec![7; map.n()]);
+                let answer = unit.stops(&list, &mut route, &mut log);
+                let other = stops(&mut plain, &list, &mut other_route, &mut other_log);
+                assert_eq!(answer, other, "{list:?}");
+                assert!(route == other_route && log == other_log, "{list:?}: what is lent differs");
+                met[answer.map_or_else(|refusal| refusal.number() as usize, |_| 0)] += 1;
                 assert!(unit == plain, "the areas differ");
             }
         }
+        assert!([0, 9, 12, 14, 16, 17].iter().all(|&number| met[number] > 50), "{met:?}");
     }
 }

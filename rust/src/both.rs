@@ -2,13 +2,13 @@
 //! every word of every area are compared.
 
 use crate::by_tail::ByTail;
-use crate::calls::{Accepted, Answer, Call, Calls, Refusal};
+use crate::calls::{Call, Calls, Refusal};
 use crate::card;
 use crate::machine::Reply;
 use crate::maps::Map;
 use crate::random::setting;
 use crate::router::Router;
-use crate::unit::{Area, Header, LentAreas, Unit};
+use crate::unit::{Area, Header, LentAreas, Unit, UNWRITTEN};
 use std::panic::resume_unwind;
 use std::sync::mpsc::{self, RecvTimeoutError};
 use std::thread;
@@ -73,8 +73,7 @@ impl Both {
         }
         assert!(lent.guarded(), "no call alters guard words");
         self.check();
-        let (roads, count) = lengths(answer);
-        Reply { answer, route: lent.route[..roads].to_vec(), log: lent.log[..count].to_vec() }
+        Reply { answer, route: written(&lent.route), log: written(&lent.log) }
     }
 
     /// Header, areas and card are as they are to be.
@@ -106,13 +105,9 @@ impl Both {
     }
 }
 
-/// The number of roads in the route area, and of junctions in the log area.
-fn lengths(answer: Answer) -> (usize, usize) {
-    match answer {
-        Ok(Accepted::Trip(trip)) => (trip.roads as usize, trip.count as usize),
-        Err(Refusal::NoPath(count)) => (0, count as usize),
-        _ => (0, 0),
-    }
+/// What was written first in an area that nothing was written to; no road or junction is [`UNWRITTEN`].
+fn written(area: &[u32]) -> Vec<u32> {
+    area.iter().copied().take_while(|&word| word != UNWRITTEN).collect()
 }
 
 /// Two areas are the same, word by word.

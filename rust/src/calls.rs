@@ -1,6 +1,12 @@
 //! The calls of the unit and what they answer, in the terms of documents 01 and 02.
 
 use crate::time::Time;
+use std::ops::Deref;
+
+/// A list of stops has so many, and a leg less.
+pub const FEWEST_STOPS: usize = 2;
+pub const MOST_STOPS: usize = 32;
+pub const MOST_LEGS: usize = MOST_STOPS - 1;
 
 /// The question that refuses, under the names that `crates/network` has for them.
 #[derive(Clone, Copy, Debug, PartialEq, Eq)]
@@ -27,14 +33,19 @@ pub enum Refusal {
     NoRoad,
     /// 11: the time is not allowed.
     NotAllowed,
-    /// 12: the junction is not below n.
+    /// 12: the junction, or a stop, is not below n.
     NoJunction,
     /// 13: there is no target.
     NoTarget,
-    /// 14: go's route or log area has fewer than n entries.
+    /// 14: the route or the log area has fewer than n entries, or the route area of a list of stops fewer than
+    /// n for each.
     LentLengths,
     /// 15: no chain of open roads exists. With the count.
     NoPath(u32),
+    /// 16: there are not 2 to 32 stops.
+    StopCount,
+    /// 17, with the first leg, from 0, that no chain of open roads exists for.
+    NoLeg(u32),
 }
 
 impl Refusal {
@@ -56,13 +67,15 @@ impl Refusal {
             Refusal::NoTarget => 13,
             Refusal::LentLengths => 14,
             Refusal::NoPath(_) => 15,
+            Refusal::StopCount => 16,
+            Refusal::NoLeg(_) => 17,
         }
     }
 
-    /// The road or the place that fails, after 5 and 6.
+    /// The road, the place or the leg that fails, after 5, 6 and 17.
     pub fn place(self) -> Option<u32> {
         match self {
-            Refusal::Road(place) | Refusal::Place(place) => Some(place),
+            Refusal::Road(place) | Refusal::Place(place) | Refusal::NoLeg(place) => Some(place),
             _ => None,
         }
     }
@@ -99,8 +112,56 @@ impl Previewed {
     }
 }
 
+/// The answer to a list of stops: each leg's total and number of roads, and the whole total. What lies
+/// past the last leg is 0.
+#[derive(Clone, Copy, Debug, PartialEq, Eq)]
+pub struct Stopped {
+    /// How many legs there are.
+    pub legs: u32,
+    pub whole: u64,
+    pub totals: [u64; MOST_LEGS],
+    pub roads: [u32; MOST_LEGS],
+}
+
+impl Stopped {
+    /// Legs, each a total and a number of roads.
+    pub fn of(legs: &[(u64, u32)]) -> Stopped {
+        let (mut totals, mut roads) = ([0; MOST_LEGS], [0; MOST_LEGS]);
+        for (i, &(total, number)) in legs.iter().enumerate() {
+            (totals[i], roads[i]) = (total, number);
+        }
+        Stopped { legs: legs.len() as u32, whole: totals.iter().sum(), totals, roads }
+    }
+}
+
+/// The stops of a list, in their order: at most [`StopList::MOST`], which is more than a unit takes.
+#[derive(Clone, Copy, Debug, PartialEq, Eq)]
+pub struct StopList {
+    len: usize,
+    stops: [u32; StopList::MOST],
+}
+
+impl StopList {
+    pub const MOST: usize = MOST_STOPS + 4;
+
+    pub fn of(list: &[u32]) -> StopList {
+        let mut stops = [0; StopList::MOST];
+        stops[..list.len()].copy_from_slice(list);
+        StopList { len: list.len(), stops }
+    }
+}
+
+impl Deref for StopList {
+    type Target = [u32];
+
+    fn deref(&self) -> &[u32] {
+        &self.stops[..self.len]
+    }
+}
+
 /// A call with its arguments.
 #[derive(Clone, Copy, Debug, PartialEq, Eq)]
+#[allow(clippy::large_enum_variant)]
 pub enum Call {
     Set {
         road: u32,
@@ -125,10 +186,16 @@ pub enum Call {
         start: u32,
         work: usize,
     },
+    /// With the lengths of the two areas that are lent.
+    Stops {
+        stops: StopList,
+        route: usize,
+        log: usize,
+    },
 }
 
-/// What is lent with a call beside the unit's areas: go's route and log, and preview's work area. What a
-/// call does not take may have any length.
+/// What is lent with a call beside the unit's areas: route and log of a go and of a list of stops, and
+/// preview's work area. What a call does not take may have any length.
 pub struct Lent<'a> {
     pub route: &'a mut [u32],
     pub log: &'a mut [u32],
@@ -137,12 +204,14 @@ pub struct Lent<'a> {
 
 /// What an accepted call answers.
 #[derive(Clone, Copy, Debug, PartialEq, Eq)]
+#[allow(clippy::large_enum_variant)]
 pub enum Accepted {
     /// Of set and aim.
     Done,
     Estimate(Time),
     Trip(Trip),
     Previewed(Previewed),
+    Stopped(Stopped),
 }
 
 pub type Answer = Result<Accepted, Refusal>;
@@ -160,6 +229,12 @@ pub trait Calls {
         start: u32,
         work: &mut [u32],
     ) -> Result<Previewed, Refusal>;
+    fn stops(
+        &mut self,
+        stops: &[u32],
+        route: &mut [u32],
+        log: &mut [u32],
+    ) -> Result<Stopped, Refusal>;
 
     /// Makes a call. What is lent has the lengths that the call says.
     fn call(&mut self, call: Call, Lent { route, log, work }: Lent) -> Answer {
@@ -171,6 +246,7 @@ pub trait Calls {
             Call::Preview { road, time, start, .. } => {
                 self.preview(road, time, start, work).map(Accepted::Previewed)
             }
+            Call::Stops { stops, .. } => self.stops(&stops, route, log).map(Accepted::Stopped),
         }
     }
 }

@@ -1,7 +1,9 @@
 //! The plain machine that document 01 compares the unit with: a live time of its own for each road, and
 //! a target. It is fed the map, each call's arguments and the lengths of what is lent with it.
 
-use crate::calls::{Accepted, Answer, Call, Previewed, Refusal, Trip};
+use crate::calls::{
+    Accepted, Answer, Call, Previewed, Refusal, Stopped, Trip, FEWEST_STOPS, MOST_STOPS,
+};
 use crate::card::LONGEST;
 use crate::dijkstra;
 use crate::graph::Graph;
@@ -16,7 +18,7 @@ pub struct Machine<'a> {
     target: Option<u32>,
 }
 
-/// An answer, and what stands first in go's two areas.
+/// An answer, and what stands first in the route and the log area.
 #[derive(Clone, Debug, PartialEq, Eq)]
 pub struct Reply {
     pub answer: Answer,
@@ -41,6 +43,10 @@ impl Machine<'_> {
             Call::Preview { road, time, start, work } => {
                 self.preview(road, time, start, work).map(Accepted::Previewed)
             }
+            Call::Stops { stops, route, log } => match self.stops_refusal(&stops, route, log) {
+                Ok(()) => return self.stops(&stops),
+                Err(refusal) => Err(refusal),
+            },
         };
         Reply { answer, route: Vec::new(), log: Vec::new() }
     }
@@ -114,6 +120,38 @@ impl Machine<'_> {
             return Err(Refusal::LentLengths);
         }
         Ok(target)
+    }
+
+    /// Questions 16, 12 and 14.
+    fn stops_refusal(&self, stops: &[u32], route: usize, log: usize) -> Result<(), Refusal> {
+        if stops.len() < FEWEST_STOPS || stops.len() > MOST_STOPS {
+            return Err(Refusal::StopCount);
+        }
+        for &stop in stops {
+            self.ask_junction(stop)?;
+        }
+        if route < stops.len() * self.map.n() || log < self.map.n() {
+            return Err(Refusal::LentLengths);
+        }
+        Ok(())
+    }
+
+    /// For each leg an aim and a go. The roads follow one another; each log goes over those before it.
+    fn stops(&mut self, stops: &[u32]) -> Reply {
+        let (mut route, mut log, mut legs) = (Vec::new(), Vec::new(), Vec::new());
+        for leg in 0..stops.len() - 1 {
+            let (start, end) = (stops[leg], stops[leg + 1]);
+            self.target = Some(end);
+            let made = self.go(start, end);
+            let longer = log.split_off(made.log.len().min(log.len()));
+            log = [made.log, longer].concat();
+            let Ok(Accepted::Trip(trip)) = made.answer else {
+                return Reply { answer: Err(Refusal::NoLeg(leg as u32)), route, log };
+            };
+            route.extend(made.route);
+            legs.push((trip.total, trip.roads));
+        }
+        Reply { answer: Ok(Accepted::Stopped(Stopped::of(&legs))), route, log }
     }
 
     /// The estimates that the machine would answer: least base totals over roads, open or closed.
@@ -194,7 +232,7 @@ impl Machine<'_> {
 #[cfg(test)]
 mod tests {
     use super::*;
-    use crate::calls::Calls;
+    use crate::calls::{Calls, StopList};
     use crate::maps;
     use crate::random::Random;
     use crate::router::Router;
@@ -258,6 +296,33 @@ mod tests {
         }
     }
 
+    /// The lists of stops on map P that document 02's reading has.
+    #[test]
+    fn stops_of_map_p() {
+        let map = maps::map_p();
+        let call = |stops: &[u32]| Call::Stops {
+            stops: StopList::of(stops),
+            route: 4 * stops.len(),
+            log: 4,
+        };
+        let found = |legs: &[(u64, u32)], route: &[u32], log: &[u32]| {
+            let answer = Ok(Accepted::Stopped(Stopped::of(legs)));
+            Reply { answer, route: route.to_vec(), log: log.to_vec() }
+        };
+        let mut machine = Machine::new(&map);
+        let reply = machine.answer(call(&[0, 3, 0]));
+        assert_eq!(reply, found(&[(20, 2), (20, 1)], &[0, 1, 4], &[3, 0, 3]));
+        assert_eq!(machine.target, Some(0));
+        let Ok(Accepted::Stopped(stopped)) = reply.answer else { panic!("{reply:?}") };
+        assert_eq!((stopped.legs, stopped.whole), (2, 40));
+        assert_eq!(machine.answer(call(&[0, 0])), found(&[(0, 0)], &[], &[0]));
+        machine.answer(Call::Set { road: 4, time: CLOSED });
+        let lost = machine.answer(call(&[0, 3, 0]));
+        let answer = Err(Refusal::NoLeg(1));
+        assert_eq!(lost, Reply { answer, route: vec![0, 1], log: vec![3, 1, 3] });
+        assert_eq!(machine.target, Some(0));
+    }
+
     #[test]
     fn as_the_router_answers() {
         let mut random = Random::new(1);
@@ -272,11 +337,18 @@ mod tests {
                 let road = random.below(map.m() + 1) as u32;
                 let time = random.pick(&[1, 3, 12, LONGEST, LONGEST + 1, CLOSED]);
                 let less = random.below(8) / 7;
-                let call = match random.below(5) {
+                let call = match random.below(6) {
                     0 => Call::Set { road, time },
                     1 => Call::Aim { junction },
                     2 => Call::Estimate { junction },
                     3 => Call::Preview { road, time, start: junction, work: 2 * n - less },
+                    4 => {
+                        let mut stops: Vec<u32> =
+                            (0..random.below(5)).map(|_| random.below(n) as u32).collect();
+                        stops.push(junction);
+                        let (stops, entries) = (StopList::of(&stops), stops.len() * n);
+                        Call::Stops { stops, route: entries - less, log: n }
+                    }
                     _ => Call::Go { start: junction, route: n, log: n - less },
                 };
                 let mut lent = LentAreas::of(call);

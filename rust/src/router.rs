@@ -1,6 +1,6 @@
 //! The unit as one would write it in plain Rust: the same algorithms, over structures of its own.
 
-use crate::calls::{Calls, Previewed, Refusal, Trip};
+use crate::calls::{Calls, Previewed, Refusal, Stopped, Trip, FEWEST_STOPS, MOST_STOPS};
 use crate::card::{self, LONGEST};
 use crate::graph::Graph;
 use crate::hierarchy::Hierarchy;
@@ -122,5 +122,29 @@ impl Calls for Router {
         let new = self.total(start, target);
         self.live[road as usize] = old;
         Ok(Previewed::of(present, new))
+    }
+
+    fn stops(
+        &mut self,
+        stops: &[u32],
+        route: &mut [u32],
+        log: &mut [u32],
+    ) -> Result<Stopped, Refusal> {
+        let n = self.graph.n();
+        if !(FEWEST_STOPS..=MOST_STOPS).contains(&stops.len()) {
+            return Err(Refusal::StopCount);
+        }
+        stops.iter().try_for_each(|&stop| self.check_junction(stop))?;
+        if route.len() < stops.len() * n || log.len() < n {
+            return Err(Refusal::LentLengths);
+        }
+        let (mut legs, mut at) = (Vec::new(), 0);
+        for (leg, ends) in (0..).zip(stops.windows(2)) {
+            self.aim(ends[1])?;
+            let trip = self.go(ends[0], &mut route[at..], log).map_err(|_| Refusal::NoLeg(leg))?;
+            legs.push((trip.total, trip.roads));
+            at += trip.roads as usize;
+        }
+        Ok(Stopped::of(&legs))
     }
 }

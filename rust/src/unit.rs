@@ -3,7 +3,7 @@
 //! The declarations stand in the order of `unit_c`'s exports. The header file for C has the same, with the same
 //! assertions on layout; `tests/c.rs` compares that one with `unit_c`.
 
-use crate::calls::{Call, Calls, Lent, Previewed, Refusal, Trip};
+use crate::calls::{Call, Calls, Lent, Previewed, Refusal, Stopped, Trip, MOST_LEGS};
 use crate::time::{Time, NONE};
 use std::mem::offset_of;
 use std::ops::{Deref, DerefMut};
@@ -21,7 +21,7 @@ pub struct Header {
     pub target: u32,
 }
 
-/// What preparing and the calls return. A word that has nothing to say is 0.
+/// What preparing and the calls but stops return. A word that has nothing to say is 0.
 #[repr(C)]
 #[derive(Clone, Copy, Debug, Default, PartialEq, Eq)]
 pub(crate) struct Returned {
@@ -39,6 +39,20 @@ pub(crate) struct Returned {
     pub change: i64,
 }
 
+/// What a list of stops returns. A word that has nothing to say is 0.
+#[repr(C)]
+#[derive(Clone, Copy, Debug, Default, PartialEq, Eq)]
+pub(crate) struct ReturnedStops {
+    pub header: Header,
+    /// 0 for accepted.
+    pub question: u32,
+    pub leg: u32,
+    pub legs: u32,
+    pub whole: u64,
+    pub totals: [u64; MOST_LEGS],
+    pub roads: [u32; MOST_LEGS],
+}
+
 const _: () = assert!(size_of::<Header>() == 20 && offset_of!(Header, target) == 16);
 const _: () = assert!(
     size_of::<Returned>() == 64
@@ -50,6 +64,15 @@ const _: () = assert!(
         && offset_of!(Returned, roads) == 44
         && offset_of!(Returned, then) == 48
         && offset_of!(Returned, change) == 56
+);
+const _: () = assert!(
+    size_of::<ReturnedStops>() == 416
+        && offset_of!(ReturnedStops, question) == 20
+        && offset_of!(ReturnedStops, leg) == 24
+        && offset_of!(ReturnedStops, legs) == 28
+        && offset_of!(ReturnedStops, whole) == 32
+        && offset_of!(ReturnedStops, totals) == 40
+        && offset_of!(ReturnedStops, roads) == 288
 );
 
 extern "C" {
@@ -68,7 +91,8 @@ extern "C" {
 /// Declares exports that take a header or none, slices, and words. Each slice is a pointer and a length.
 macro_rules! exports {
     ($(
-        fn $export:ident($($header:ident)?; $($slice:ident: $access:tt $word:ty),+; $($last:ident),*);
+        fn $export:ident($($header:ident)?; $($slice:ident: $access:tt $word:ty),+; $($last:ident),*)
+            -> $returned:ident;
     )+) => {
         extern "C" {
             $(
@@ -76,7 +100,7 @@ macro_rules! exports {
                     $($header: Header,)?
                     $($slice: *$access $word, _: usize,)+
                     $($last: u32),*
-                ) -> Returned;
+                ) -> $returned;
             )+
         }
     };
@@ -94,7 +118,7 @@ exports! {
         elapsed: mut Time,
         leaving: mut u32,
         groups: mut u32;
-    );
+    ) -> Returned;
     fn unit_set(
         header;
         card: const u8,
@@ -108,7 +132,7 @@ exports! {
         groups: const u32;
         road,
         time
-    );
+    ) -> Returned;
     fn unit_aim(
         header;
         card: const u8,
@@ -121,7 +145,7 @@ exports! {
         leaving: const u32,
         groups: const u32;
         junction
-    );
+    ) -> Returned;
     fn unit_estimate(
         header;
         card: const u8,
@@ -134,7 +158,7 @@ exports! {
         leaving: const u32,
         groups: const u32;
         junction
-    );
+    ) -> Returned;
     fn unit_go(
         header;
         card: const u8,
@@ -149,7 +173,7 @@ exports! {
         route: mut u32,
         log: mut u32;
         start
-    );
+    ) -> Returned;
     fn unit_preview(
         header;
         card: const u8,
@@ -165,7 +189,22 @@ exports! {
         road,
         time,
         start
-    );
+    ) -> Returned;
+    fn unit_stops(
+        header;
+        card: const u8,
+        ranks: const u32,
+        pairs: const u32,
+        live: const Time,
+        down: mut Time,
+        estimates: mut Time,
+        elapsed: mut Time,
+        leaving: const u32,
+        groups: const u32,
+        route: mut u32,
+        log: mut u32,
+        stops: const u32;
+    ) -> ReturnedStops;
     fn unit_replay(
         ;
         card: const u8,
@@ -182,8 +221,11 @@ exports! {
         work: mut Time,
         script: const u32,
         out: mut u64;
-    );
+    ) -> Returned;
 }
+
+/// How many words of a script's answers there are for each call.
+pub const ANSWER_WORDS: usize = 4 + 2 * MOST_LEGS;
 
 /// What a word holds before a call that is to write it.
 pub const UNWRITTEN: u32 = 0xa5a5_a5a5;
@@ -240,6 +282,8 @@ fn refusal(number: u32, place: u32, count: u32) -> Refusal {
         (13, 0, 0) => Refusal::NoTarget,
         (14, 0, 0) => Refusal::LentLengths,
         (15, 0, count) => Refusal::NoPath(count),
+        (16, 0, 0) => Refusal::StopCount,
+        (17, leg, 0) => Refusal::NoLeg(leg),
         _ => panic!("no refusal has the number {number}, the place {place} and the count {count}"),
     }
 }
@@ -288,7 +332,7 @@ impl LentAreas {
     /// empty.
     pub fn of(call: Call) -> LentAreas {
         let (route, log, work) = match call {
-            Call::Go { route, log, .. } => (route, log, 0),
+            Call::Go { route, log, .. } | Call::Stops { route, log, .. } => (route, log, 0),
             Call::Preview { work, .. } => (0, 0, work),
             _ => (0, 0, 0),
         };
@@ -305,8 +349,8 @@ impl LentAreas {
     }
 }
 
-/// A script of calls: of each its kind, and as many words as that call has. A go's lengths are those that it
-/// asks for; a preview has none.
+/// A script of calls: of each its kind, and as many words as that call has. The lengths of a go and of a list
+/// of stops are those that it asks for; a preview has none.
 pub fn spelled(calls: &[Call]) -> Vec<u32> {
     let entries = |len: usize| u32::try_from(len).expect("a length of 32 bits");
     let mut words = Vec::new();
@@ -319,6 +363,10 @@ pub fn spelled(calls: &[Call]) -> Vec<u32> {
                 words.extend([3, start, entries(route), entries(log)]);
             }
             Call::Preview { road, time, start, .. } => words.extend([4, road, time, start]),
+            Call::Stops { stops, route, log } => {
+                words.extend([5, entries(stops.len()), entries(route), entries(log)]);
+                words.extend(&*stops);
+            }
         }
     }
     words
@@ -430,9 +478,9 @@ impl Unit {
         self.hand_back(returned)?.done()
     }
 
-    /// Prepares, and makes the calls of a script, as [`spelled`] has them; a go is lent the first entries of
-    /// route and log, as many as its last two words say, or all, and a preview all of the work area. The
-    /// answers go to `out`, four words each.
+    /// Prepares, and makes the calls of a script, as [`spelled`] has them; a go and a list of stops are lent
+    /// the first entries of route and log, as many as two of its words say, or all, and a preview all of the
+    /// work area. The answers go to `out`, [`ANSWER_WORDS`] each.
     pub fn replay(
         &mut self,
         Lent { route, log, work }: Lent,
@@ -496,13 +544,28 @@ impl Returned {
 
     pub(crate) fn previewed(self) -> Result<Previewed, Refusal> {
         let Returned { compared, total, then, change, .. } = self;
-        let [present, new] =
-            [total, then].map(|total| (total != NONE.into()).then_some(total));
+        let [present, new] = [total, then].map(|total| (total != NONE.into()).then_some(total));
         let both = present.is_some() && new.is_some();
         let change = if both { change } else { 0 };
         assert_eq!(compared, both.into(), "compared where both totals exist: {self:?}");
         self.says(Returned { compared, total, then, change, ..Returned::default() });
         Ok(Previewed { present, new, change: both.then_some(change) })
+    }
+}
+
+impl ReturnedStops {
+    /// The legs, or a refusal; the words that have nothing to say are 0.
+    pub(crate) fn stopped(self) -> Result<Stopped, Refusal> {
+        let ReturnedStops { header, question, leg, legs, whole, totals, roads } = self;
+        if question != 0 {
+            let refused = ReturnedStops { header, question, leg, ..ReturnedStops::default() };
+            assert_eq!(self, refused, "more than it has to say");
+            return Err(refusal(question, leg, 0));
+        }
+        let (past_totals, past_roads) = (&totals[legs as usize..], &roads[legs as usize..]);
+        let rest = past_totals.iter().copied().chain(past_roads.iter().map(|&k| k.into()));
+        assert!(leg == 0 && rest.max().unwrap_or(0) == 0, "more than it has to say: {self:?}");
+        Ok(Stopped { legs, whole, totals, roads })
     }
 }
 
@@ -602,5 +665,30 @@ impl Calls for Unit {
             start
         ));
         self.hand_back(returned)?.previewed()
+    }
+
+    fn stops(
+        &mut self,
+        stops: &[u32],
+        route: &mut [u32],
+        log: &mut [u32],
+    ) -> Result<Stopped, Refusal> {
+        let returned = lend!(unit_stops(
+            self.header;
+            self.card => as_ptr,
+            self.ranks => as_ptr,
+            self.pairs => as_ptr,
+            self.live => as_ptr,
+            self.down => as_mut_ptr,
+            self.estimates => as_mut_ptr,
+            self.elapsed => as_mut_ptr,
+            self.leaving => as_ptr,
+            self.groups => as_ptr,
+            route => as_mut_ptr,
+            log => as_mut_ptr,
+            stops => as_ptr;
+        ));
+        self.header = returned.header;
+        returned.stopped()
     }
 }

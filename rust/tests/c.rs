@@ -1,6 +1,8 @@
 //! The header file for C: it declares what `crates/unit_c` exports, C and C++ take it, and a C program that
 //! includes it drives map P.
 
+use harness::calls::{MOST_LEGS, MOST_STOPS};
+use harness::unit::ANSWER_WORDS;
 use std::path::{Path, PathBuf};
 use std::process::{Command, Output};
 use std::{env, fs, process, str};
@@ -43,6 +45,9 @@ fn declared(item: &str) -> String {
     }
     if let Some(kind) = kind.strip_prefix("&[").and_then(slice) {
         return format!("const {kind} *{name}, size_t {name}_len");
+    }
+    if let Some((kind, len)) = kind.strip_prefix('[').and_then(|kind| kind.split_once("; ")) {
+        return format!("{} {name}[UNIT_{}]", number(kind), len.trim_end_matches(']'));
     }
     match kind.strip_prefix("&mut ") {
         Some(kind) => format!("{} *{name}", number(kind)),
@@ -104,8 +109,25 @@ fn declarations() -> Vec<String> {
 #[test]
 fn header_declares_the_exports() {
     let exports = exports();
-    assert_eq!(exports.len(), 2 + 9);
+    assert_eq!(exports.len(), 3 + 10);
     assert_eq!(declarations(), exports, "c/route_unit.h (left), crates/unit_c (right)");
+}
+
+/// As many legs as a list of the most stops has, and as many words as an answer of a script.
+#[test]
+fn most_legs() {
+    let network = read("crates/network/src/lib.rt");
+    let (most, _) = between(&network, "pub const MOST_STOPS: usize = ", ";").unwrap();
+    let legs: usize = most.parse::<usize>().unwrap() - 1;
+    assert_eq!((legs, most.parse()), (MOST_LEGS, Ok(MOST_STOPS)));
+    assert!(read("crates/unit_stops/src/lib.rt").contains("MOST_LEGS: usize = MOST_STOPS - 1;"));
+    let header = read("c/route_unit.h");
+    assert!(header.contains(&format!("#define UNIT_MOST_LEGS {legs}\n")));
+    let script = read("crates/unit_script/src/lib.rt");
+    assert!(script.contains("LEG_WORDS: usize = 2;"));
+    assert!(script.contains("ANSWER_SIZE: usize = 4 + LEG_WORDS * MOST_LEGS;"));
+    assert_eq!(ANSWER_WORDS, 4 + 2 * legs);
+    assert!(header.contains(&format!("#define UNIT_ANSWER_WORDS {ANSWER_WORDS}\n")));
 }
 
 /// Taken by C, and by C++ if this machine has a compiler for it.
@@ -148,11 +170,12 @@ fn map_p() {
     let output = run("right", &read("c/map_p.c"));
     let said = told(&output.stdout);
     assert_eq!(output.status.code(), Some(0), "{said}");
-    assert_eq!((said.matches(" ok\n").count(), said.lines().count()), (19, 19), "{said}");
+    assert_eq!((said.matches(" ok\n").count(), said.lines().count()), (23, 23), "{said}");
     for case in 1..=10 {
         assert!(said.contains(&format!("P{case} ")), "{said}");
     }
-    assert_eq!((said.matches("A1 ").count(), said.matches("A2 ").count()), (1, 6), "{said}");
+    let requests = ["A1 ", "A2 ", "A3 "].map(|request| said.matches(request).count());
+    assert_eq!(requests, [1, 6, 4], "{said}");
 }
 
 /// The C program sees an answer that is not the one it waits for, in each case.
@@ -180,8 +203,17 @@ fn map_p_with_another_answer() {
         ("A2  roads 1 and 2", "UNIT_NONE, 25, 0, 0)", "UNIT_NONE, 25, 1, 0)"),
         ("A2  refused", "1, 9, N, 11,", "1, 9, N, 12,"),
         ("A2  refused", "2 * N + 1, 1, 15, 0, 9,", "2 * N + 1, 1, 15, 0, 0,"),
-        ("replay", "14, 0, 0, 0, 0, 25,", "14, 0, 0, 0, 0, 26,"),
+        ("A3  stops 0, 3, 0", "both_ways = {0, 0, 2, 40,", "both_ways = {0, 0, 2, 41,"),
+        ("A3  road 4 closed", "no_way_back = {17, 1,", "no_way_back = {17, 2,"),
+        ("A3  road 4 closed", "2, {0, 1}, 3, {3, 1, 3}, 0}", "2, {0, 1}, 3, {3, 1, 3}, 3}"),
+        ("A3  stops 0, 0", "stayed = {0, 0, 1, 0,", "stayed = {0, 0, 2, 0,"),
+        ("A3  refused", "3 * N - 1, N, &too_short", "3 * N, N, &too_short"),
+        ("A3  refused", "called(far, 3, 0, 0, &no_junction)", "called(far, 3, 0, 0, &too_short)"),
+        ("replay", "{0, 25, 4, 2}", "{0, 26, 4, 2}"),
         ("replay", "(uint64_t)-5", "5"),
+        ("replay", "{0, 45, 0, 2}", "{0, 45, 2, 0}"),
+        ("replay", "{25, 2, 20, 1}", "{25, 20, 2, 1}"),
+        ("replay", "{17, 1, 0, 0}", "{17, 0, 1, 0}"),
     ]
     .into_iter()
     .enumerate()

@@ -8,24 +8,27 @@
 
 use harness::both::{with_stack, Both};
 use harness::by_tail::Listed;
-use harness::calls::{Accepted, Answer, Call, Calls, Lent, Previewed, Refusal};
+use harness::calls::{
+    Accepted, Answer, Call, Calls, Lent, Previewed, Refusal, StopList, Stopped, MOST_STOPS,
+};
 use harness::card::{LONGEST, MOST_JUNCTIONS, MOST_ROADS};
 use harness::machine::Machine;
 use harness::maps::{self, Map, Streets};
 use harness::order::{self, MOST_PAIRS};
 use harness::random::{setting, Random};
 use harness::time::{Time, CLOSED, NONE, UNASKED};
-use harness::unit::{spelled, Area, LentAreas, Unit};
+use harness::unit::{spelled, Area, LentAreas, Unit, ANSWER_WORDS};
 use std::thread;
 
 /// How often each call was answered with each number, 0 for accepted, and estimates with none.
 #[derive(Debug, Default)]
 struct Tally {
-    set: [usize; 16],
-    aim: [usize; 16],
-    estimate: [usize; 16],
-    go: [usize; 16],
-    preview: [usize; 16],
+    set: [usize; 18],
+    aim: [usize; 18],
+    estimate: [usize; 18],
+    go: [usize; 18],
+    preview: [usize; 18],
+    stops: [usize; 18],
     none: usize,
     previews: Previews,
     /// How often each area had a wrong length, and at last the card.
@@ -42,6 +45,7 @@ impl Tally {
             Call::Estimate { .. } => &mut self.estimate,
             Call::Go { .. } => &mut self.go,
             Call::Preview { .. } => &mut self.preview,
+            Call::Stops { .. } => &mut self.stops,
         };
         met[answer.map_or_else(|refusal| refusal.number() as usize, |_| 0)] += 1;
         self.none += (answer == Ok(Accepted::Estimate(NONE))) as usize;
@@ -49,18 +53,20 @@ impl Tally {
     }
 
     fn calls(&self) -> usize {
-        [self.set, self.aim, self.estimate, self.go, self.preview].iter().flatten().sum()
+        let all = [self.set, self.aim, self.estimate, self.go, self.preview, self.stops];
+        all.iter().flatten().sum()
     }
 
     /// Each answer that a call can have was met at least so often.
     fn at_least(&self, least: usize) {
-        let met = |met: &[usize; 16], numbers: &[usize]| numbers.iter().all(|&i| met[i] >= least);
+        let met = |met: &[usize; 18], numbers: &[usize]| numbers.iter().all(|&i| met[i] >= least);
         assert!(
             met(&self.set, &[0, 9, 10, 11])
                 && met(&self.aim, &[0, 9, 12])
                 && met(&self.estimate, &[0, 9, 12, 13])
                 && met(&self.go, &[0, 9, 12, 13, 14, 15])
                 && met(&self.preview, &[0, 9, 10, 11, 12, 13])
+                && met(&self.stops, &[0, 9, 12, 14, 16, 17])
                 && self.none >= least
                 && self.lengths.iter().all(|&met| met >= least),
             "too few of one kind: {self:?}"
@@ -143,6 +149,23 @@ fn work(random: &mut Random, n: usize) -> usize {
     }
 }
 
+/// A list of stops: mostly few, since each is a search, and now and then too few or too many.
+fn stops(random: &mut Random, n: usize) -> Call {
+    let count = match random.below(60) {
+        0 => random.pick(&[0, 1, MOST_STOPS + 1, StopList::MOST]),
+        1 => MOST_STOPS,
+        2 => 2 + random.below(MOST_STOPS - 1),
+        _ => 2 + random.below(3),
+    };
+    let mut stops: Vec<u32> = (0..count).map(|_| random.below(n) as u32).collect();
+    if let Some(last) = stops.last_mut() {
+        *last = number(random, n);
+    }
+    let (more, less) = (random.below(8) * random.below(8), random.below(20) / 19);
+    let route = (count * n + more).saturating_sub(less * (more + 1));
+    Call::Stops { stops: StopList::of(&stops), route, log: lent(random, n) }
+}
+
 /// A road, and a time for it. Where a junction is given, often one that leaves it.
 fn change(random: &mut Random, map: &Map, near: Option<u32>) -> (u32, Time) {
     let leaves = |road: &u32| Some(map.roads[*road as usize].tail) == near;
@@ -157,7 +180,7 @@ fn change(random: &mut Random, map: &Map, near: Option<u32>) -> (u32, Time) {
 
 fn random_call(random: &mut Random, map: &Map) -> Call {
     let n = map.n();
-    match random.below(100) {
+    match random.below(106) {
         0..35 => {
             let (road, time) = change(random, map, None);
             Call::Set { road, time }
@@ -167,6 +190,7 @@ fn random_call(random: &mut Random, map: &Map) -> Call {
         60..80 => {
             Call::Go { start: number(random, n), route: lent(random, n), log: lent(random, n) }
         }
+        100.. => stops(random, n),
         _ => {
             let start = number(random, n);
             let (road, time) = change(random, map, Some(start));
@@ -319,12 +343,15 @@ fn lists_on_the_largest_maps() {
     });
 }
 
-/// The call as it is made: a go is lent what it asks for of areas of these lengths, or all of them, a preview
-/// the whole of its own.
+/// The call as it is made: a go and a list of stops are lent what they ask for of areas of these lengths, or
+/// all of them, a preview the whole of its own.
 fn lent_of(call: Call, LentAreas { route: route_area, log: log_area, work }: &LentAreas) -> Call {
     match call {
         Call::Go { start, route, log } => {
             Call::Go { start, route: route.min(route_area.len()), log: log.min(log_area.len()) }
+        }
+        Call::Stops { stops, route, log } => {
+            Call::Stops { stops, route: route.min(route_area.len()), log: log.min(log_area.len()) }
         }
         Call::Preview { road, time, start, .. } => {
             Call::Preview { road, time, start, work: work.len() }
@@ -333,9 +360,10 @@ fn lent_of(call: Call, LentAreas { route: route_area, log: log_area, work }: &Le
     }
 }
 
-/// An answer as four words.
-fn answer_words(answer: Answer) -> [u64; 4] {
-    match answer {
+/// An answer as four words, and behind them of each of 31 legs its total and its number of roads.
+fn answer_words(answer: Answer) -> [u64; ANSWER_WORDS] {
+    let mut words = [0; ANSWER_WORDS];
+    words[..4].copy_from_slice(&match answer {
         Ok(Accepted::Done) => [0; 4],
         Ok(Accepted::Estimate(estimate)) => [0, estimate.into(), 0, 0],
         Ok(Accepted::Trip(trip)) => [0, trip.total, trip.count.into(), trip.roads.into()],
@@ -343,9 +371,18 @@ fn answer_words(answer: Answer) -> [u64; 4] {
             let [present, new] = [present, new].map(|total| total.unwrap_or(NONE.into()));
             [0, present, new, change.unwrap_or(0) as u64]
         }
+        Ok(Accepted::Stopped(Stopped { legs, whole, .. })) => [0, whole, 0, legs.into()],
         Err(Refusal::NoPath(count)) => [15, 0, count.into(), 0],
+        Err(Refusal::NoLeg(leg)) => [17, leg.into(), 0, 0],
         Err(refusal) => [refusal.number().into(), 0, 0, 0],
+    });
+    if let Ok(Accepted::Stopped(Stopped { legs, totals, roads, .. })) = answer {
+        for leg in 0..legs as usize {
+            words[4 + 2 * leg] = totals[leg];
+            words[5 + 2 * leg] = roads[leg].into();
+        }
     }
+    words
 }
 
 /// An area of any words.
@@ -404,8 +441,8 @@ impl Tail {
                 words
             }
             Tail::Unknown => {
-                let any = random.word().max(5);
-                let kind = random.pick(&[5, 6, 256, 65_536, 1 << 31, u32::MAX, any]);
+                let any = random.word().max(6);
+                let kind = random.pick(&[6, 7, 256, 65_536, 1 << 31, u32::MAX, any]);
                 let behind: Vec<Call> = (0..3).map(|_| random_call(random, map)).collect();
                 [vec![kind], spelled(&behind)].concat()
             }
@@ -434,14 +471,14 @@ fn run_script(
     single.prepare().unwrap();
     let mut machine = Machine::new(map);
     let mut answers = Vec::new();
-    for (&call, words) in calls.iter().zip(want_out.chunks_exact_mut(4)) {
+    for (&call, words) in calls.iter().zip(want_out.chunks_exact_mut(ANSWER_WORDS)) {
         let call = lent_of(call, &lent);
         let reply = both.call(call);
         assert_eq!(reply, machine.answer(call), "{call:?}: proved (left), machine (right)");
         want.route[..reply.route.len()].copy_from_slice(&reply.route);
         want.log[..reply.log.len()].copy_from_slice(&reply.log);
         let mut some = one_by_one.lend();
-        if let Call::Go { route, log, .. } = call {
+        if let Call::Go { route, log, .. } | Call::Stops { route, log, .. } = call {
             some = Lent { route: &mut some.route[..route], log: &mut some.log[..log], ..some };
         }
         assert_eq!(single.call(call, some), reply.answer, "{call:?}");
@@ -462,12 +499,13 @@ fn run_script(
     answers
 }
 
-/// A number of entries that a go asks for, of an area of `len`: often fewer than n, or more than there are.
+/// A number of entries that a call asks for, of an area of `len`, where it needs n: often fewer, or more than
+/// there are.
 fn asked(random: &mut Random, n: usize, len: usize) -> usize {
     match random.below(12) {
         0 => 0,
-        1 => n - 1,
-        2 => random.below(n),
+        1 => n.saturating_sub(1),
+        2 => random.below(n.max(1)),
         3 | 4 => n,
         5 | 6 => len,
         7 => len + 1,
@@ -483,13 +521,15 @@ fn scripts() {
         let mut gos = Gos::default();
         let mut previews = Previews::default();
         let (mut foreseen, mut refused_by_9) = (0, 0);
+        // Lists of stops, by the number of their answer.
+        let mut stopped = [0; 18];
         // How many scripts of each tail were made to their last call, with room for an answer more.
         let mut ended = [0; 3];
         for most in [12; 400].into_iter().chain([200; 20]).chain([MOST_JUNCTIONS]) {
             let map = random_map(&mut random, most);
             let (n, len) = (map.n(), random.below(80));
-            let [route, log] = [0; 2].map(|_| {
-                let more = random.below(9);
+            let [route, log] = [5, 1].map(|times| {
+                let (n, more) = (n * random.pick(&[1, times]), random.below(9));
                 let len = random.pick(&[n - 1, n, n, n, n + 1, n + more, n + more, 2 * n]);
                 any_area(&mut random, len)
             });
@@ -502,15 +542,20 @@ fn scripts() {
                             [&lent.route, &lent.log].map(|area| asked(&mut random, n, area.len()));
                         Call::Go { start, route, log }
                     }
+                    Call::Stops { stops, .. } => {
+                        let route = asked(&mut random, stops.len() * n, lent.route.len());
+                        let log = asked(&mut random, n, lent.log.len());
+                        Call::Stops { stops, route, log }
+                    }
                     call => call,
                 })
                 .collect();
             let tail = random.pick(&Tail::ALL);
             let room = match random.chance(75) {
-                true => 4 * len + random.below(20),
-                false => random.below(4 * len + 1),
+                true => ANSWER_WORDS * len + random.below(5 * ANSWER_WORDS),
+                false => random.below(ANSWER_WORDS * len + 1),
             };
-            ended[tail as usize] += (room >= 4 * len + 4) as usize;
+            ended[tail as usize] += (room >= ANSWER_WORDS * (len + 1)) as usize;
             let tail = tail.words(&mut random, &map);
             let answers = run_script(&map, &calls, &tail, lent, room);
             gos.count(&answers);
@@ -520,9 +565,14 @@ fn scripts() {
                     assert_eq!(answer == Err(Refusal::Lengths), !right, "{call:?}: {answer:?}");
                     *if right { &mut foreseen } else { &mut refused_by_9 } += 1;
                 }
+                if matches!(call, Call::Stops { .. }) {
+                    stopped[answer.map_or_else(|refusal| refusal.number() as usize, |_| 0)] += 1;
+                }
                 previews.count(answer);
             }
         }
+        let enough = [0, 12, 14, 16, 17].iter().all(|&number| stopped[number] >= 5);
+        assert!(enough, "lists of stops by their answers: {stopped:?}");
         assert!(
             foreseen > 1_000 && refused_by_9 > 50 && previews.all().iter().all(|&met| met > 10),
             "{foreseen}, {refused_by_9}, {previews:?}"
@@ -541,12 +591,17 @@ fn scripts() {
             Call::Set { road: 0, time: 0 },
             Call::Go { start: 0, route: 0, log: 0 },
             Call::Preview { road: 0, time: 0, start: 0, work: 0 },
+            Call::Stops { stops: StopList::of(&[0, 0]), route: 0, log: 0 },
+            Call::Stops { stops: StopList::of(&[0]), route: 0, log: 0 },
         ];
         for (work, question) in [(0, 10), (1, 9)] {
             let mut lent = LentAreas::of(Call::Preview { road: 0, time: 0, start: 0, work });
-            let mut out = [1; 12];
+            let mut out = [1; 5 * ANSWER_WORDS];
             let answer = refused.replay(lent.lend(), &spelled(&calls), &mut out);
-            let want = [10, 0, 0, 0, 12, 0, 0, 0, question, 0, 0, 0];
+            let mut want = [0; 5 * ANSWER_WORDS];
+            for (call, number) in [10, 12, question, 12, 16].into_iter().enumerate() {
+                want[ANSWER_WORDS * call] = number;
+            }
             assert_eq!((answer, out), (Err(Refusal::Kinds), want));
         }
     });
@@ -574,8 +629,9 @@ fn scripts_of_each_length() {
                     calls.push(Call::Go { start: random.below(n) as u32, route, log });
                 }
             }
-            let last = 4 * calls.len();
-            for room in if most > 12 { vec![last] } else { (0..=last).step_by(4).collect() } {
+            let last = ANSWER_WORDS * calls.len();
+            let rooms = (0..=last).step_by(ANSWER_WORDS);
+            for room in if most > 12 { vec![last] } else { rooms.collect() } {
                 let answers = run_script(&map, &calls, &[], lent.clone(), room);
                 for (call, answer) in answers.iter().copied() {
                     if let Call::Go { route, log, .. } = call {
@@ -601,6 +657,7 @@ fn scripts_of_each_length() {
 fn scripts_that_end_early() {
     let map = maps::map_p();
     let go = |start, route, log| Call::Go { start, route, log };
+    let list = |stops: &[u32], route, log| Call::Stops { stops: StopList::of(stops), route, log };
     let calls = [
         Call::Estimate { junction: 0 },
         Call::Aim { junction: 3 },
@@ -614,26 +671,39 @@ fn scripts_that_end_early() {
         Call::Aim { junction: 1 },
         go(3, 4, 4),
         Call::Preview { road: 4, time: CLOSED, start: 3, work: 8 },
+        list(&[3, 0, 2, 2], 16, 4),
+        list(&[], 16, 4),
+        list(&[3, 0, 3], 16, 4),
+        list(&[0], 0, 0),
+        Call::Aim { junction: 2 },
     ];
     let script = spelled(&calls);
-    assert_eq!(script.len(), 2 * 3 + 4 * 2 + 4 * 4 + 2 * 4);
-    let lent = || LentAreas { route: Area::new(6), log: Area::new(5), work: Area::new(8) };
-    let (mut cuts, mut kinds, mut made) = (0, 0, 0);
+    assert_eq!(script.len(), 2 * 3 + 5 * 2 + 4 * 4 + 2 * 4 + 4 * 4 + 8);
+    let lent = || LentAreas { route: Area::new(16), log: Area::new(5), work: Area::new(8) };
+    let room = ANSWER_WORDS * (calls.len() + 1);
+    let (mut cuts, mut kinds, mut lists, mut made) = (0, 0, 0, 0);
     for whole in 0..=calls.len() {
         let (before, behind) = calls.split_at(whole);
         let rest = spelled(behind);
         let next = behind.first().map_or(1, |&call| spelled(&[call]).len());
         for cut in 0..next {
-            made += run_script(&map, before, &rest[..cut], lent(), 4 * calls.len()).len();
+            made += run_script(&map, before, &rest[..cut], lent(), room).len();
             cuts += 1;
         }
-        for kind in [5, 6, 260, 65_540, u32::MAX] {
+        for kind in [6, 7, 261, 65_541, u32::MAX] {
             let tail = [&[kind][..], rest.get(1..).unwrap_or(&[])].concat();
-            made += run_script(&map, before, &tail, lent(), 4 * calls.len() + 4).len();
+            made += run_script(&map, before, &tail, lent(), room).len();
             kinds += 1;
         }
+        // A list of more stops than there are words.
+        for count in [rest.len() as u32 + 1, rest.len() as u32 + 9, u32::MAX - 3, u32::MAX] {
+            let tail = [&[5, count, 16, 4][..], &rest].concat();
+            made += run_script(&map, before, &tail, lent(), room).len();
+            lists += 1;
+        }
     }
-    assert_eq!((cuts, kinds, made), (script.len() + 1, 13 * 5, 5 * 78 + 237));
+    assert_eq!((cuts, kinds, lists), (script.len() + 1, 18 * 5, 18 * 4));
+    assert_eq!(made, 9 * 153 + 595);
 }
 
 /// Changes to lengths, each of which question 9 refuses, by the call's header.
@@ -679,6 +749,7 @@ fn wrong_lengths_are_refused_first() {
                 let n = map.n();
                 for [road, junction, entries, work] in [[0, 0, n, 2 * n], [map.m(), n, n - 1, 0]] {
                     let (road, junction) = (road as u32, junction as u32);
+                    let list = |count| StopList::of(&vec![junction; count]);
                     for call in [
                         Call::Set { road, time: CLOSED },
                         Call::Set { road, time: 0 },
@@ -686,6 +757,8 @@ fn wrong_lengths_are_refused_first() {
                         Call::Estimate { junction },
                         Call::Go { start: junction, route: entries, log: entries },
                         Call::Preview { road, time: CLOSED, start: junction, work },
+                        Call::Stops { stops: list(3), route: 3 * entries, log: entries },
+                        Call::Stops { stops: list(1), route: entries, log: entries },
                     ] {
                         refused_lengths(&mut unit, call).unwrap_err();
                         refusals += 1;
@@ -695,7 +768,7 @@ fn wrong_lengths_are_refused_first() {
             both.call(Call::Aim { junction: 1 });
         }
     }
-    assert_eq!(refusals, 3 * 2 * (10 + 8 * 8) * 2 * 6);
+    assert_eq!(refusals, 3 * 2 * (10 + 8 * 8) * 2 * 8);
 }
 
 /// The deepest map, a line in rank order, with no more stack than c/route_unit.h says.
@@ -719,6 +792,9 @@ fn on_a_small_stack() {
             let previewed = unit.preview(0, CLOSED, first, &mut work).unwrap();
             let want = Previewed { present: Some(trip.total), new: None, change: None };
             assert_eq!(previewed, want, "a line without its first road");
+            let mut route = vec![0; 3 * map.n()];
+            let stopped = unit.stops(&[first, last, first], &mut route, &mut log).unwrap();
+            assert_eq!(stopped, Stopped::of(&[(trip.total, 4_095); 2]));
         }
     };
     thread::Builder::new().stack_size(2 << 20).spawn(calls).unwrap().join().unwrap();
@@ -741,6 +817,9 @@ fn after_a_refused_preparing() {
             assert_eq!(answer, Err(Refusal::NoRoad));
             let answer = unit.preview(argument, CLOSED, argument, &mut [1, 2]);
             assert_eq!(answer, Err(Refusal::Lengths));
+            let answer = unit.stops(&[argument; 2], &mut [], &mut []);
+            assert_eq!(answer, Err(Refusal::NoJunction));
+            assert_eq!(unit.stops(&[argument], &mut [], &mut []), Err(Refusal::StopCount));
         }
         assert!(unit == before, "a refused call alters the unit");
         for len in [0, 2] {
@@ -751,6 +830,8 @@ fn after_a_refused_preparing() {
                 Call::Estimate { junction: 0 },
                 Call::Go { start: 0, route: 0, log: 0 },
                 Call::Preview { road: 0, time: CLOSED, start: 0, work: 0 },
+                Call::Stops { stops: StopList::of(&[0, 0]), route: 0, log: 0 },
+                Call::Stops { stops: StopList::of(&[]), route: 0, log: 0 },
             ] {
                 refused_lengths(&mut unit, call).unwrap_err();
             }

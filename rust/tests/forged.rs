@@ -1,11 +1,14 @@
 //! Calls on states that no list of calls leaves: areas, headers and cards of right lengths and any
 //! contents. The answer is free, but the call ends, writes only in the areas that it is lent to write, leaves
-//! each estimate that is filled, but for an aim, and hands the header back as it was, but for its target. A
-//! preview's change is right wherever both totals are answered, and its questions are asked of whatever words
-//! there are. A header out of range is refused, by 9, whatever the lengths.
+//! each estimate that is filled, but for an aim and a list of stops, and hands the header back as it was, but for
+//! its target. A preview's change is right wherever both totals are answered, and its questions are asked of
+//! whatever words there are. A list of stops asks its questions so, and is then an aim and a go for each leg, up to
+//! one whose go answers no route. A header out of range is refused, by 9, whatever the lengths.
 
 use harness::both::with_stack;
-use harness::calls::{Accepted, Answer, Call, Calls, Previewed, Refusal};
+use harness::calls::{
+    Accepted, Answer, Call, Calls, Previewed, Refusal, StopList, Stopped, MOST_STOPS,
+};
 use harness::card::{self, LONGEST, MOST_JUNCTIONS, MOST_ROADS};
 use harness::damage::CardDamage;
 use harness::maps::{self, Streets};
@@ -213,9 +216,26 @@ fn road_on(unit: &Unit, road: u32) -> Option<[u32; 3]> {
     Some([words[0], words[1], words[2]].map(u32::from_le_bytes))
 }
 
+/// A list of stops, longer ones where the map is small, now and then of a wrong number or with a short area.
+fn stops(random: &mut Random, n: usize) -> Call {
+    let most = if n < 40 { MOST_STOPS + 1 } else { 4 };
+    let count = match random.below(6) {
+        0 => random.pick(&[0, 1, most, MOST_STOPS + 1]),
+        1 => 2 + random.below(most - 1),
+        _ => 2 + random.below(3),
+    };
+    let wrong = random.chance(20);
+    let stops: Vec<u32> = (0..count)
+        .map(|_| if wrong { number(random, n) } else { random.below(n.max(1)) as u32 })
+        .collect();
+    let less = if random.chance(10) { 1 + random.below(n + 1) } else { 0 };
+    let route = (count * n + 2 * random.below(2)).saturating_sub(less);
+    Call::Stops { stops: StopList::of(&stops), route, log: n + random.below(3) }
+}
+
 fn call(random: &mut Random, unit: &Unit) -> Call {
     let n = unit.header.n as usize;
-    match random.below(10) {
+    match random.below(12) {
         0 => {
             let time = [LONGEST, CLOSED, random.word()];
             Call::Set { road: number(random, unit.header.m as usize), time: random.pick(&time) }
@@ -230,6 +250,7 @@ fn call(random: &mut Random, unit: &Unit) -> Call {
             let work = 2 * n + random.pick(&[0, 0, 0, 0, 0, 0, 0, 1, n]);
             Call::Preview { road, time, start, work }
         }
+        10.. => stops(random, n),
         _ => {
             let start = number(random, n);
             Call::Go { start, route: n + random.below(3), log: n + random.below(3) }
@@ -241,7 +262,7 @@ fn call(random: &mut Random, unit: &Unit) -> Call {
 #[derive(Debug, Default)]
 struct Met {
     /// How often they were refused with each number, 0 for accepted.
-    refusals: [usize; 16],
+    refusals: [usize; 18],
     /// How many filled estimates the estimates that were answered found, and left.
     kept_by_estimates: usize,
     /// The same of the goes that searched.
@@ -250,13 +271,82 @@ struct Met {
     kept_by_previews: usize,
     groups: Groups,
     previews: Previews,
+    lists: Lists,
+}
+
+/// How the lists of stops were answered.
+#[derive(Debug, Default)]
+struct Lists {
+    /// Refused with each number, 0 for accepted.
+    refusals: [usize; 18],
+    /// 17 with the first leg, and with a later one.
+    lost: [usize; 2],
+    /// Found, with several legs, and of these with a route.
+    found: [usize; 2],
+}
+
+impl Lists {
+    /// What the questions refuse by the header, the lengths and the arguments.
+    fn refusal(unit: &Unit, call: Call) -> Option<Refusal> {
+        let Call::Stops { stops, route, log } = call else { panic!("no list of stops") };
+        let n = unit.header.n as usize;
+        if !(2..=32).contains(&stops.len()) {
+            Some(Refusal::StopCount)
+        } else if stops.iter().any(|&stop| stop as usize >= n) {
+            Some(Refusal::NoJunction)
+        } else {
+            (route < stops.len() * n || log < n).then_some(Refusal::LentLengths)
+        }
+    }
+
+    /// The legs one by one, each an aim and a go that is lent the route area behind the roads before.
+    fn legs(unit: &mut Unit, stops: &[u32], lent: &mut LentAreas) -> Answer {
+        let (mut legs, mut at) = (Vec::new(), 0);
+        for (leg, ends) in (0..).zip(stops.windows(2)) {
+            unit.aim(ends[1]).expect("a junction");
+            let trip = unit.go(ends[0], &mut lent.route[at..], &mut lent.log);
+            let trip = trip.map_err(|_| Refusal::NoLeg(leg))?;
+            legs.push((trip.total, trip.roads));
+            at = lent.route.len().min(at + trip.roads as usize);
+        }
+        Ok(Accepted::Stopped(Stopped::of(&legs)))
+    }
+
+    /// An answer, and what the call left: as the questions have it, or as the legs one by one.
+    fn check(&mut self, before: &Unit, after: &Unit, call: Call, lent: &LentAreas, answer: Answer) {
+        let Call::Stops { stops, .. } = call else { panic!("no list of stops") };
+        let (mut unit, mut areas) = (before.clone(), LentAreas::of(call));
+        let want = match Lists::refusal(before, call) {
+            Some(refusal) => {
+                // Words that no header has come back as those of the header that they stand for.
+                if unit.header.aimed == 0 {
+                    unit.header.target = 0;
+                }
+                unit.header.aimed = unit.header.aimed.min(1);
+                Err(refusal)
+            }
+            None => Lists::legs(&mut unit, &stops, &mut areas),
+        };
+        assert_eq!(answer, want, "{call:?}, {:?}", before.header);
+        assert!(*after == unit, "{call:?} leaves another unit than its legs");
+        assert!(*lent == areas, "{call:?} leaves another route or log than its legs");
+        self.refusals[answer.map_or_else(|refusal| refusal.number() as usize, |_| 0)] += 1;
+        match answer {
+            Ok(Accepted::Stopped(stopped)) if stopped.legs > 1 => {
+                self.found[0] += 1;
+                self.found[1] += (stopped.roads.iter().sum::<u32>() > 1) as usize;
+            }
+            Err(Refusal::NoLeg(leg)) => self.lost[(leg > 0) as usize] += 1,
+            _ => (),
+        }
+    }
 }
 
 /// How the previews were answered.
 #[derive(Debug, Default)]
 struct Previews {
     /// Refused with each number, 0 for accepted.
-    refusals: [usize; 16],
+    refusals: [usize; 18],
     /// With two totals: a change below 0, 0, and above.
     changes: [usize; 3],
     /// With no total now, with the time set, and either way.
@@ -372,7 +462,8 @@ fn free_call(unit: &mut Unit, call: Call, met: &mut Met) {
     let old = before.header;
     assert_eq!((n, m, pairs), (old.n, old.m, old.pairs), "{call:?}");
     let proper = old.aimed == 1 || (old.aimed == 0 && old.target == 0);
-    if proper && !matches!(call, Call::Aim { .. }) {
+    let aims = matches!(call, Call::Aim { .. } | Call::Stops { .. });
+    if proper && !aims {
         assert_eq!((aimed, target), (old.aimed, old.target), "{call:?}");
     }
 
@@ -382,6 +473,7 @@ fn free_call(unit: &mut Unit, call: Call, met: &mut Met) {
         Call::Estimate { .. } => &["estimates"],
         Call::Go { .. } => &["estimates", "elapsed"],
         Call::Preview { .. } => &["estimates"],
+        Call::Stops { .. } => &["down totals", "estimates", "elapsed"],
     };
     assert!(unit.card == before.card, "{call:?} alters the card");
     for ((name, area), (_, old)) in unit.areas().into_iter().zip(before.areas()) {
@@ -397,7 +489,10 @@ fn free_call(unit: &mut Unit, call: Call, met: &mut Met) {
             assert!(unit.estimates == before.estimates, "{call:?}, refused, alters estimates");
         }
     }
-    if !matches!(call, Call::Aim { .. }) {
+    if matches!(call, Call::Stops { .. }) {
+        met.lists.check(&before, unit, call, &lent, answer);
+    }
+    if !aims {
         let kept = kept(&before.estimates, &unit.estimates, call);
         match (call, refusal) {
             (Call::Estimate { .. }, 0) => met.kept_by_estimates += kept,
@@ -445,7 +540,7 @@ fn noise_in_every_area() {
         let [accepted, no_junction, no_path] = [0, 12, 15].map(|number| met.refusals[number]);
         let enough = accepted > calls / 4 && no_junction > calls / 20 && no_path > calls / 100;
         let kept = [met.kept_by_estimates, met.kept_by_goes, met.kept_by_previews];
-        assert!(enough && kept.iter().all(|&kept| kept > 5 * calls), "{met:?}");
+        assert!(enough && kept.iter().all(|&kept| kept > 4 * calls), "{met:?}");
         met.groups.at_least(calls / 200);
         let Previews { refusals, changes, absent } = met.previews;
         let refused = [9, 10, 11, 12, 13].map(|number| refusals[number]);
@@ -456,6 +551,11 @@ fn noise_in_every_area() {
                 && absent[2] > calls / 100,
             "{met:?}"
         );
+        let Lists { refusals, lost, found } = met.lists;
+        let refused = [12, 14, 16].map(|number| refusals[number]);
+        let met_each = refused.iter().all(|&met| met > calls / 200);
+        let made = [lost[0] / 100, lost[1], found[0]];
+        assert!(met_each && made.iter().all(|&met| met > calls / 2_000), "{met:?}");
     });
 }
 
@@ -470,6 +570,9 @@ fn damaged_states() {
         let Previews { refusals, changes, absent } = met.previews;
         let met_each = changes.iter().chain(&absent).all(|&met| met > calls / 5_000);
         assert!(refusals[0] > calls / 20 && met_each, "{met:?}");
+        let Lists { refusals, lost, found } = met.lists;
+        let met_each = found.iter().chain(&lost).all(|&met| met > calls / 200);
+        assert!(refusals[0] > calls / 50 && met_each, "{met:?}");
     });
 }
 
@@ -508,6 +611,8 @@ fn all_roads_from_every_other_junction() {
                 free_call(&mut unit, Call::Go { start, route: n, log: n }, &mut met);
                 let preview = Call::Preview { road: 0, time: CLOSED, start, work: 2 * n };
                 free_call(&mut unit, preview, &mut met);
+                let stops = StopList::of(&[start, 0, start]);
+                free_call(&mut unit, Call::Stops { stops, route: 3 * n, log: n }, &mut met);
             }
         }
         assert!(met.groups.crossed > 1_000 && met.groups.stray > 10_000_000, "{met:?}");
@@ -538,6 +643,8 @@ fn no_entry_is_asked_twice() {
             unit.estimates.fill(UNASKED);
             let preview = Call::Preview { road: 0, time: CLOSED, start: 0, work: 2 * n };
             free_call(&mut unit, preview, &mut met);
+            let stops = StopList::of(&[0, n as u32 - 1, 0]);
+            free_call(&mut unit, Call::Stops { stops, route: 3 * n, log: n }, &mut met);
         }
     });
 }
@@ -597,6 +704,8 @@ fn headers_of_any_size() {
                 start: 0,
                 work: 2 * header.n.min(9_999) as usize,
             },
+            Call::Stops { stops: StopList::of(&[0, 7, 0]), route: 3 * n, log: n },
+            Call::Stops { stops: StopList::of(&[u32::MAX]), route: 0, log: 0 },
         ] {
             if fits {
                 free_call(&mut unit, call, &mut met);

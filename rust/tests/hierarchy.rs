@@ -391,6 +391,7 @@ fn areas_of_each_others_lengths() {
     assert_eq!(unit.aim(0), Err(Refusal::Lengths));
     assert_eq!(unit.estimate(0), Err(Refusal::Lengths));
     assert_eq!(unit.go(0, &mut [0; 9], &mut [0; 9]), Err(Refusal::Lengths));
+    assert_eq!(unit.stops(&[0, 0], &mut [0; 18], &mut [0; 9]), Err(Refusal::Lengths));
 }
 
 /// A card that is refused, in areas of its map's lengths and in others.

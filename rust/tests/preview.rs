@@ -1,13 +1,10 @@
-//! Preview of the proved unit (document 02, A2) beside one that is written from the documents alone: least
-//! totals by rounds over all roads, each search's log by making its candidates anew before each choice, and
-//! which estimates lie above a junction by the chains that define a pair.
+//! Preview of the proved unit (document 02, A2) beside one that is written from the documents alone, with the
+//! searches of `literal`.
 
 use harness::both::{same, with_stack, Both};
-use harness::brute;
 use harness::calls::{Accepted, Call, Calls, Previewed, Refusal};
 use harness::card::{LONGEST, MOST_JUNCTIONS};
-use harness::dijkstra;
-use harness::graph::Graph;
+use harness::literal::{Literal, Searched};
 use harness::maps::{self, Map, Road, Streets};
 use harness::order;
 use harness::random::Random;
@@ -26,9 +23,7 @@ struct Asked {
 
 /// A unit, and beside it the live times and the target that it is to have.
 struct Trial {
-    map: Map,
-    /// Of each junction those that up times lead to, one after the other, itself among them.
-    above: Vec<Vec<u32>>,
+    literal: Literal,
     unit: Unit,
     live: Vec<Time>,
     target: Option<u32>,
@@ -39,17 +34,17 @@ impl Trial {
         let room = order::pairs(&map);
         let mut unit = Unit::new(&map.card().unwrap(), map.n(), map.m(), room);
         unit.prepare().unwrap();
-        Trial { above: above(&map), live: map.base(), target: None, unit, map }
+        Trial { live: map.base(), target: None, unit, literal: Literal::new(map) }
     }
 
     /// Some call between previews, which is right by other tests.
     fn other_call(&mut self, random: &mut Random) {
-        let (n, m) = (self.map.n(), self.map.m());
+        let (n, m) = (self.literal.map.n(), self.literal.map.m());
         let junction = random.below(n) as u32;
         match random.below(10) {
             0..4 if m > 0 => {
                 let road = random.below(m);
-                let base = self.map.roads[road].base;
+                let base = self.literal.map.roads[road].base;
                 self.set(road as u32, time(random, base));
             }
             0..6 => self.aim(junction),
@@ -81,21 +76,22 @@ impl Trial {
             assert_eq!(answer, Err(refusal), "{asked:?}");
             assert!(self.unit == before, "{asked:?}, refused, alters the unit");
             assert!(words == words_before, "{asked:?}, refused, alters its work area");
-            met.refused(asked, self.map.n(), &questions);
+            met.refused(asked, self.literal.map.n(), &questions);
             return None;
         }
         let target = self.target.expect("a target, by 13");
         let mut replaced = self.live.clone();
         replaced[road as usize] = time;
-        let [now, then] = [&self.live, &replaced].map(|live| self.search(live, start, target));
+        let [now, then] =
+            [&self.live, &replaced].map(|live| self.literal.search(live, start, target));
         let (present, new) = (now.total, then.total);
         let change = present.zip(new).map(|(present, new)| new as i64 - present as i64);
         let want = Previewed { present, new, change };
         assert_eq!(answer, Ok(want), "{asked:?}");
 
-        let least = dijkstra::to(&Graph::new(&self.map), &self.map.base(), target);
+        let least = self.literal.estimates(target);
         let mut estimates = before.estimates.to_vec();
-        for junction in 0..self.map.n() {
+        for junction in 0..self.literal.map.n() {
             if now.fills[junction] || then.fills[junction] {
                 estimates[junction] = least[junction];
             }
@@ -109,8 +105,8 @@ impl Trial {
 
     /// The questions that refuse, in order.
     fn refusals(&self, Asked { road, time, start, work }: Asked) -> Vec<Refusal> {
-        let n = self.map.n();
-        let base = self.map.roads.get(road as usize).map(|road| road.base);
+        let n = self.literal.map.n();
+        let base = self.literal.map.roads.get(road as usize).map(|road| road.base);
         let allowed = |base| time == CLOSED || (base <= time && time <= LONGEST);
         let questions = [
             (work == 2 * n, Refusal::Lengths),
@@ -121,80 +117,6 @@ impl Trial {
         ];
         questions.into_iter().filter(|(passes, _)| !passes).map(|(_, refusal)| refusal).collect()
     }
-
-    /// The search of a go, as document 01 defines it.
-    fn search(&self, live: &[Time], start: u32, target: u32) -> Searched {
-        let n = self.map.n();
-        let estimates = dijkstra::to(&Graph::new(&self.map), &self.map.base(), target);
-        let open = || self.map.roads.iter().zip(live).filter(|(_, &live)| live != CLOSED);
-        let mut times: Vec<Option<u64>> = vec![None; n];
-        let mut choices = 0;
-        while times[target as usize].is_none() {
-            let first = (choices == 0).then_some((start, 0));
-            let others = open().filter_map(|(road, &live)| {
-                let from = times[road.tail as usize]?;
-                let waits = times[road.head as usize].is_none();
-                waits.then_some((road.head, from + u64::from(live)))
-            });
-            let candidates = first.into_iter().chain(others);
-            let has_estimate = |&(junction, _): &(u32, u64)| estimates[junction as usize] != NONE;
-            let key = |&(junction, time): &(u32, u64)| {
-                (time + u64::from(estimates[junction as usize]), junction, time)
-            };
-            let Some((junction, time)) = candidates.filter(has_estimate).min_by_key(key) else {
-                break;
-            };
-            times[junction as usize] = Some(time);
-            choices += 1;
-        }
-
-        let mut fills = vec![false; n];
-        let from = |road: &Road| road.tail != target && times[road.tail as usize].is_some();
-        let heads = open().filter(|(road, _)| from(road)).map(|(road, _)| road.head);
-        for junction in heads.chain([start]) {
-            for &above in &self.above[junction as usize] {
-                fills[above as usize] = true;
-            }
-        }
-        let least = match n {
-            ..300 => brute::least(&self.map, live, start)[target as usize],
-            _ => dijkstra::from(&Graph::new(&self.map), live, start)[target as usize],
-        };
-        let total = (least != NONE).then_some(u64::from(least));
-        assert_eq!(times[target as usize], total, "the log's total (left), the least (right)");
-        Searched { total, fills }
-    }
-}
-
-/// What a search finds and fills.
-struct Searched {
-    total: Option<u64>,
-    /// By junction: the start, the heads of open roads from logged junctions but the target, and all above.
-    fills: Vec<bool>,
-}
-
-/// An up time leads from a junction to a higher one if a chain does whose inner junctions all rank below it.
-fn above(map: &Map) -> Vec<Vec<u32>> {
-    let graph = Graph::new(map);
-    let mut rank = vec![0; map.n()];
-    for (place, &junction) in map.order.iter().enumerate() {
-        rank[junction as usize] = place;
-    }
-    let mut above: Vec<Vec<u32>> = vec![Vec::new(); map.n()];
-    for &low in map.order.iter().rev() {
-        let below = |junction: u32| rank[junction as usize] < rank[low as usize];
-        let totals = dijkstra::from_within(&graph, &map.base(), low, below);
-        let mut reached = vec![low];
-        for (high, total) in (0..).zip(totals) {
-            if total != NONE && rank[high as usize] > rank[low as usize] {
-                reached.extend(&above[high as usize]);
-            }
-        }
-        reached.sort();
-        reached.dedup();
-        above[low as usize] = reached;
-    }
-    above
 }
 
 /// How often what is worth meeting was met.
@@ -324,14 +246,14 @@ fn time(random: &mut Random, base: Time) -> Time {
 
 /// Arguments, of which each is now and then one to refuse.
 fn asked(random: &mut Random, trial: &Trial, met: &mut Met) -> Asked {
-    let (n, m) = (trial.map.n(), trial.map.m());
+    let (n, m) = (trial.literal.map.n(), trial.literal.map.m());
     let start = match random.below(12) {
         0 => random.pick(&[n as u32, n as u32 + 1, u32::MAX]),
         1 => trial.target.unwrap_or(0),
         _ => random.below(n) as u32,
     };
     let near: Vec<u32> = (0..)
-        .zip(&trial.map.roads)
+        .zip(&trial.literal.map.roads)
         .filter(|(_, road)| road.tail == start)
         .map(|(i, _)| i)
         .collect();
@@ -341,7 +263,7 @@ fn asked(random: &mut Random, trial: &Trial, met: &mut Met) -> Asked {
         1..6 if !near.is_empty() => random.pick(&near),
         _ => random.below(m) as u32,
     };
-    let base = trial.map.roads.get(road as usize).map_or(1, |road| road.base);
+    let base = trial.literal.map.roads.get(road as usize).map_or(1, |road| road.base);
     let live = trial.live.get(road as usize).copied().unwrap_or(CLOSED);
     let time = if random.chance(15) { live } else { time(random, base) };
     let work = match random.below(20) {

@@ -6,7 +6,7 @@ use Prim.Native.Nat.{ℕ}
 use lib.Dec.{eqb}
 use lib.ListN.{take}
 use Rattle.graph.specs.Total.{Total}
-use Rattle.model.specs.Types.{Accepted, Answer, Estimated, Gone, Previewed, Refusal, Refused}
+use Rattle.model.specs.Types.{Accepted, Answer, Estimated, Gone, Previewed, Refusal, Refused, Stopped}
 use Rattle.model.specs.Word.{ofWord}
 use Rattle.line_texts.specs.Areas.{spaced}
 use Rattle.line_texts.specs.Ascii.{ascii}
@@ -37,5 +37,6 @@ worded (Refused q) route = refusalText q
 worded Accepted route = ascii "ok"
 worded (Estimated w) route = ascii "est" ++ timeText w
 worded (Gone total count k) route = tripText total count (take k route)
--- no line of the program asks for a preview
+-- no line of the program asks for a preview or a list of stops
 worded (Previewed present new change) route = ascii "ok"
+worded (Stopped legs whole) route = ascii "ok"

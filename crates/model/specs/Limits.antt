@@ -1,4 +1,4 @@
--- The limits of document 01, each once. Definitions only.
+-- The limits of documents 01 and 02, each once. Definitions only.
 use Prim.Native.Nat.{ℕ}
 
 -- "n is 1 to 4,096"
@@ -20,3 +20,14 @@ mostTime = 1000000
 -- "The largest least total is 4,095 × 1,000,000 = 4,095,000,000."
 abbrev pub mostTotal : ℕ
 mostTotal = 4095000000
+
+-- document 02, A3: "at 2 to 32 junctions"
+abbrev pub fewestStops : ℕ
+fewestStops = 2
+
+abbrev pub mostStops : ℕ
+mostStops = 32
+
+-- a leg leads from a stop to the next: one fewer than stops
+abbrev pub mostLegs : ℕ
+mostLegs = 31

@@ -13,12 +13,13 @@ use Rattle.graph.specs.Pairs.{down, up}
 use Rattle.graph.specs.Reach.{upTotal}
 use Rattle.graph.specs.Search.{back, backStep, before, below-or, bestBelow, better, consider, extend, firstVia, hasGoal, is, next}
 use Rattle.graph.specs.Search.{offerVia, offered, push, run, totalIn, wayIn}
-use Rattle.model.specs.Types.{Absent, Accepted, Answer, At, Estimated, Gone, Header, NoPath, Previewed, Refusal, Refused, Target}
+use Rattle.model.specs.Types.{Absent, Accepted, Answer, At, Estimated, Gone, Header, Leg, NoLeg, NoPath, Previewed, Refusal, Refused}
+use Rattle.model.specs.Types.{Stopped, Target}
 use Rattle.model.specs.Bytes.{wordAt}
 use Rattle.model.specs.Card.{Rows, Written, writeCard, writeRefusal}
 use Rattle.model.specs.Areas.{Areas, areasOf}
 use Rattle.model.specs.State.{Lent, State, Step, prepare}
-use Rattle.model.specs.Calls.{Call, aimCall, estimateCall, goCall, previewCall, setCall, step, steps}
+use Rattle.model.specs.Calls.{Call, aimCall, estimateCall, goCall, previewCall, setCall, step, steps, stopsCall}
 
 -- ---- words and cards
 
@@ -132,7 +133,7 @@ abbrev counted : (k length : ℕ) → List ℕ
 counted k zero = []
 counted k (suc n) = k ∷ counted (suc k) n
 
--- what go is lent: a route and a log area of so many entries
+-- what go and stops are lent: a route and a log area of so many entries
 abbrev pub lent : (route log : ℕ) → Lent
 lent r l = record { route = counted 60 r; log = counted 80 l }
 
@@ -156,7 +157,7 @@ refused q calls n m k z b r p l d e t g h =
 
 -- ---- scripts
 
--- a call, its answer, what it makes of the state, and what go's two areas then hold
+-- a call, its answer, what it makes of the state, and what the two lent areas then hold
 pub record Turn : Type 0 where
   pub call : Call
   pub answer : Answer
@@ -236,6 +237,28 @@ go j l total roads log = went (Gone total (length log) (length roads)) j l roads
 -- the same where no chain exists
 abbrev pub lost : (start : ℕ) → Lent → (log estimates elapsed : List ℕ) → Turn
 lost j l log = went (Refused (NoPath (length log))) j l [] log
+
+-- a leg of a list of stops: its total, and its number of roads
+infix 70 _over_
+abbrev pub _over_ : (total roads : ℕ) → Leg
+t over k = record { total = t; roads = k }
+
+abbrev called : Answer → (target : ℕ) → (stops : List ℕ) → Lent → (roads log down estimates elapsed : List ℕ) → Turn
+called a z stops l roads log down estimates elapsed = record {
+  call = stopsCall stops l;
+  answer = a;
+  after = λ s. becoming s (At z) (s .areas .live) down estimates elapsed;
+  holds = record { route = first roads (l .route); log = first log (l .log) };
+}
+
+-- A list of stops, its legs and the whole total; the roads of all legs, what stands first in the log area, which may be more than the last
+-- leg's log, and the down totals, estimates and elapsed after it. Its last stop is the target.
+abbrev pub stops : (stops : List ℕ) → Lent → (legs : List Leg) → (whole : ℕ) → (roads log down estimates elapsed : List ℕ) → Turn
+stops s l legs whole = called (Stopped legs whole) (getD s (length s - 1) 0) s l
+
+-- the same where leg k, from 0, is the first that has no chain: its end is the target, the roads are those of the legs before it
+abbrev pub stranded : (stops : List ℕ) → Lent → (k : ℕ) → (roads log down estimates elapsed : List ℕ) → Turn
+stranded s l k = called (Refused (NoLeg k)) (getD s (suc k) 0) s l
 
 -- A map that is prepared with room for so many pairs, the ranks, records and roads by tail that this leaves, and the turns that follow.
 pub record Script : Type 0 where

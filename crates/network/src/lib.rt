@@ -23,6 +23,11 @@ pub const MOST_PAIRS: u32 = 65536;
 
 pub const MOST_TIME: TimeWord = 1000000;
 
+// A list of stops (document 02, A3).
+pub const FEWEST_STOPS: usize = 2;
+
+pub const MOST_STOPS: usize = 32;
+
 // The limits as lengths: of an area by junction, of one by road, and of the pairs' area, of which a record has four words (two ranks and
 // two times).
 pub const JUNCTIONS: usize = MOST_JUNCTIONS as usize;
@@ -124,7 +129,7 @@ impl Time {
     }
 }
 
-// Why something is refused: the number of document 01's question; the road or place that 5 and 6 name and the count that 15 gives, else 0.
+// Why something is refused: the number of the question; the road, place or leg that 5, 6 and 17 name and the count that 15 gives, else 0.
 pub struct Refusal {
     pub question: u32,
     pub place: u32,
@@ -234,6 +239,23 @@ impl Refusal {
             question: 15,
             place: 0,
             count: count,
+        }
+    }
+
+    pub const STOP_COUNT: Refusal = Refusal {
+        question: 16,
+        place: 0,
+        count: 0,
+    };
+
+    // By 17, with the first leg that has no path.
+    pub fn no_leg(i: u32) -> Self
+        ensures { λ r. ⌜ refusalIn r ≡ model.NoLeg i ⌝ }
+    {
+        Refusal {
+            question: 17,
+            place: i,
+            count: 0,
         }
     }
 }

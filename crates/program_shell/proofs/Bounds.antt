@@ -10,7 +10,7 @@ use lib.ListN.{drop, length, length-append, length-take, take}
 use lib.Seq.{take-all, take-at}
 use native.Mathlib.Omega.{arith}
 use Rattle.graph.specs.Total.{Tested, Total, decide}
-use Rattle.model.specs.Types.{Accepted, Answer, Estimated, Gone, Previewed, Refusal, Refused}
+use Rattle.model.specs.Types.{Accepted, Answer, Estimated, Gone, Previewed, Refusal, Refused, Stopped}
 use Rattle.model.specs.Word.{ofWord}
 use Rattle.line_texts.specs.Areas.{Written, decimal, digitsIn, shown, spaced}
 use Rattle.line_answers.specs.Texts.{placesOf, refusalText, totalText, worded}
@@ -54,6 +54,7 @@ worded-length Accepted route h = omega arith
 worded-length (Estimated w) route h = omega (arith, total-length (ofWord w))
 worded-length (Gone t c k) route h = omega (arith, spaced-length (t ∷ c ∷ take k route), length-take k route)
 worded-length (Previewed a b c) route h = omega arith
+worded-length (Stopped legs t) route h = omega arith
 
 pub answer-length : (x : Answer) (route : List ℕ) → length route ≤ junctionLimit → length (answerText x route) ≤ outRoom
 answer-length x route h = omega (arith, worded-length x route h, length-append (worded x route) newline)

@@ -87,6 +87,7 @@ judged h model.Accepted a = Opens (before h a)
 judged h (model.Estimated t) a = Opens (before h a)
 judged h (model.Gone t c k) a = Opens (before h a)
 judged h (model.Previewed x y c) a = Opens (before h a)
+judged h (model.Stopped legs t) a = Opens (before h a)
 
 -- a preparing of any areas, and what it comes to
 unfoldable pub prepared : (file : List ℕ) → Areas → Opening

@@ -1,22 +1,24 @@
 -- Lines answered one after the other from a prepared card: what is printed is what the plain machine answers, and demand 3 holds of the
 -- calls of the readable lines. Assumes nothing.
 use mathlib.Core.Path.{_∙_, _≡_, ap, ap₂, refl, subst, sym}
+use mathlib.Core.Bool.{Bool, false, true}
 use mathlib.Core.Option.{Option, none, some}
 use mathlib.Core.List.{List, [], _++_, _∷_, map}
 use Prim.Native.Nat.{ℕ}
-use lib.ListN.{length, take}
+use lib.ListN.{drop, getD, length, take}
 use lib.Seq.{take-length}
 use Rattle.graph.specs.Total.{Total}
 use Rattle.graph.specs.Search.{Problem, countOf, routeOf}
 use Rattle.graph.specs.Map.{Map, timeOf}
-use Rattle.model.specs.Types.{Accepted, Answer, Refusal}
+use Rattle.model.specs.Types.{Accepted, Answer, Leg, Refusal}
 use Rattle.model.specs.Card.{mapOn}
 use Rattle.model.specs.Areas.{Areas}
 use Rattle.model.specs.State.{Lent, State, Step, answering, prepare}
 use Rattle.model.specs.Machine.{Machine, Told, knownTo, started, targetOf, unlessAsked}
 use Rattle.model.specs.Go.{foundTold, plainSearch}
+use Rattle.model.specs.Stops.{plainJourney, stopsAnswer}
 use Rattle.model.specs.Calls as calls
-use Rattle.model.specs.Calls.{Aim, Asked, Estimate, Go, Plain, Preview, Set, calling, machineStep, plain, refusalOf}
+use Rattle.model.specs.Calls.{Aim, Asked, Estimate, Go, Plain, Preview, Set, Stops, calling, machineStep, plain, refusalOf}
 use Rattle.model.specs.Demand3.{Demand3}
 use Rattle.model.specs.Chain.{Chain, chain-demand3}
 use Rattle.unit_answers.specs.Shape.{callIn}
@@ -125,6 +127,12 @@ go-text (some q) y G m route h = refl
 go-text none none G m route h = refl
 go-text none (some t) G m route h = ap (λ (r : List ℕ). tripText t (countOf G) r ++ newline) (h ∙ sym (take-length (routeOf G)))
 
+-- a list of stops, which no line asks for, prints none of its roads
+stops-text : (complete : Bool) (legs : List Leg) (route roads : List ℕ)
+    → answerText (stopsAnswer complete legs) route ≡ answerText (stopsAnswer complete legs) roads
+stops-text true legs route roads = refl
+stops-text false legs route roads = refl
+
 -- the machine's roads stand first in go's route area, so the same line is printed from it
 machine-text : (M : Map) (m : Machine) (c : Asked) (r l : ℕ) (route : List ℕ) → let t = machineStep M m (fed c r l) in
     take (length (t .roads)) route ≡ t .roads → answerText (t .answer) route ≡ answerText (t .answer) (t .roads)
@@ -135,6 +143,9 @@ machine-text M m (Go j) r l route h =
     let z = targetOf (m .target) in
     go-text (refusalOf (knownTo M m) (Go j) r l) (timeOf M (m .live) j z) (plainSearch M (m .live) j z) m route h
 machine-text M m (Preview i t j w) r l route h = unless-text (refusalOf (knownTo M m) (Preview i t j w) r l) m _ route refl
+machine-text M m (Stops stops) r l route h =
+    let j = plainJourney M m [] (getD stops 0 0) (drop 1 stops) in
+    unless-text (refusalOf (knownTo M m) (Stops stops) r l) m _ route (stops-text (j .complete) (j .legs) route (j .roads))
 
 texts : (M : Map) (turns : List Turn) (m : Machine) (r : List Step) → Demand3 M m (callsOf turns) r → Prints turns r
     → textsIn turns ≡ machineTexts (linesIn turns) M m

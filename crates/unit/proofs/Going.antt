@@ -34,9 +34,9 @@ use Rattle.search.specs.Searches.{Found, Searches}
 use Rattle.unit.specs.declared.Header as unit
 use Rattle.unit.specs.declared.Answered.{Answered}
 use Rattle.unit.specs.Shape.{answeredIn, headerIn, targetIn}
-use Rattle.unit.proofs.Bodies.{good-map}
+use Rattle.unit.specs.Roads.{good-map}
+use Rattle.unit.specs.Refused.{made-by}
 use Rattle.unit.proofs.Trips.{TripPassed, Trips, as-left, givenIn, on-card, total-read}
-use Rattle.unit.proofs.Refused.{made-by}
 
 -- ---- the questions
 

@@ -1,6 +1,5 @@
 pub mod Bodies
 pub mod Fitting
-pub mod Refused
 pub mod Questions
 pub mod Made
 pub mod Trips

@@ -42,9 +42,10 @@ use Rattle.unit.specs.declared.Target.the-variants as targets
 use Rattle.unit.specs.declared.Answered.{Answered}
 use Rattle.unit.specs.Shape.{answeredIn, headerIn, targetIn}
 use Rattle.unit.specs.Meets.{asks, withAimed, withLive}
-use Rattle.unit.proofs.Bodies.{descended-at, estimated-at, good-map, good-prepared}
+use Rattle.unit.specs.Roads.{good-map}
+use Rattle.unit.specs.Refused.{made-by, refused-by}
+use Rattle.unit.proofs.Bodies.{descended-at, estimated-at, good-prepared}
 use Rattle.unit.proofs.Fitting.{Fits, fits-facts}
-use Rattle.unit.proofs.Refused.{made-by, refused-by}
 
 -- ---- what the questions passed
 

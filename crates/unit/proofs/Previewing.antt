@@ -10,7 +10,7 @@ use lib.ListN.{length, set}
 use Rattle.graph.specs.Total.{Total}
 use Rattle.graph.specs.Search.{totalOf}
 use Rattle.graph.specs.Map.{Map}
-use Rattle.model.specs.Types.{Accepted, Answer, Estimated, Gone, Header, Lengths, NoJunction, NoTarget, Previewed, Refused}
+use Rattle.model.specs.Types.{Accepted, Answer, Estimated, Gone, Header, Lengths, NoJunction, NoTarget, Previewed, Refused, Stopped}
 use Rattle.model.specs.Word.{ofWord}
 use Rattle.model.specs.Card.{mapOn}
 use Rattle.model.specs.Areas.{Areas}
@@ -33,9 +33,9 @@ use Rattle.unit.specs.declared.Header as unit
 use Rattle.unit.specs.declared.Answered.{Answered}
 use Rattle.unit.specs.Shape.{answeredIn, headerIn, targetIn}
 use Rattle.unit.specs.Meets.{withAimed}
-use Rattle.unit.proofs.Bodies.{good-map}
+use Rattle.unit.specs.Roads.{good-map}
+use Rattle.unit.specs.Refused.{made-by, set-same}
 use Rattle.unit.proofs.Trips.{TripPassed, Trips, as-left, givenIn, on-card, total-read}
-use Rattle.unit.proofs.Refused.{made-by, set-same}
 
 -- ---- answers
 
@@ -46,6 +46,7 @@ ChangeIs (Refused q) = Unit {0}
 ChangeIs Accepted = Unit {0}
 ChangeIs (Estimated t) = Unit {0}
 ChangeIs (Gone t c k) = Unit {0}
+ChangeIs (Stopped legs t) = Unit {0}
 
 -- no refusal
 abbrev NoRefusal : Answer → Type 0
@@ -54,6 +55,7 @@ NoRefusal Accepted = Unit {0}
 NoRefusal (Estimated t) = Unit {0}
 NoRefusal (Gone t c k) = Unit {0}
 NoRefusal (Previewed a b c) = Unit {0}
+NoRefusal (Stopped legs t) = Unit {0}
 
 -- ---- the questions
 

@@ -24,7 +24,7 @@ use Rattle.model.specs.Contracts.{baseOn}
 use Rattle.card_layout.specs.Parts.{roadsIn}
 use Rattle.unit_questions.specs.Lending.{fitsBy}
 use Rattle.unit.specs.Meets.{asks, asksTrip, asksWay, targetAsked}
-use Rattle.unit.proofs.Bodies.{road-word}
+use Rattle.unit.specs.Roads.{road-word}
 
 -- a question and what follows it
 pub asked : {b c : Bool} (q : Refusal) {x y z : Option Refusal} → x ≡ ask b q y → b ≡ c → y ≡ z → x ≡ ask c q z

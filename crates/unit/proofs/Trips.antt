@@ -37,10 +37,11 @@ use Rattle.unit.specs.declared.Header as unit
 use Rattle.unit.specs.declared.Answered.{Answered}
 use Rattle.unit.specs.Shape.{answeredIn, headerIn, targetIn}
 use Rattle.unit.specs.Meets.{asksTrip}
-use Rattle.unit.proofs.Bodies.{good-groups, good-map, good-prepared}
+use Rattle.unit.specs.Roads.{good-map}
+use Rattle.unit.specs.Refused.{never-left, refused-by}
+use Rattle.unit.proofs.Bodies.{good-groups, good-prepared}
 use Rattle.unit.proofs.Fitting.{Fits, fits-facts, sized}
 use Rattle.unit.proofs.Made.{aimed-at}
-use Rattle.unit.proofs.Refused.{never-left, refused-by}
 
 -- ---- the questions
 

@@ -34,9 +34,15 @@ use Rattle.unit.specs.declared.Target.the-variants.{Absent, At}
 use Rattle.unit.specs.declared.Header.{Header}
 use Rattle.unit.specs.declared.Answered.{Answered}
 use Rattle.unit.specs.Meets.{Meets, MeetsAlone, MeetsPreview}
+use Rattle.unit_stops.specs.declared.Legs.{Legs}
+use Rattle.unit_stops.specs.declared.Stopped.{Stopped}
+use Rattle.unit_stops.specs.declared.Stopping.{Stopping}
+use Rattle.unit_stops.specs.Legs.{MeetsStops}
 use Rattle.unit_c.specs.declared.UnitHeader.{UnitHeader}
 use Rattle.unit_c.specs.declared.UnitAnswer.{UnitAnswer}
+use Rattle.unit_c.specs.declared.UnitStops.{UnitStops}
 use Rattle.unit_c.specs.Answers.{Tells, answerTo, answerWords, comparedTo, previewWords, targetOf}
+use Rattle.unit_c.specs.Stops.{TellsStops, stoppingTo, stopsWords}
 use Rattle.unit_c.specs.Words.{Wrote, readingNumber, readingWords}
 
 -- ---- headers
@@ -82,6 +88,15 @@ pub preview-told : {card : List ℕ} {a : Both Areas Areas} {work work′ : List
     → Tells (MeetsPreview card k a work work′ road time start) w
 preview-told {card} {a} {work} {work′} {road} {time} {start} x e told m =
     (x, told, subst (λ (y : Header). MeetsPreview card y a work work′ road time start x) e m)
+
+-- ---- a list of stops
+
+pub stopping-told : {h k : UnitHeader} {x y : Stopping} (l : Legs) → h ≡ k → y ≡ x → stoppingTo h x l ≡ stoppingTo k y l
+stopping-told l p q = ap₂ (λ (u : UnitHeader) (z : Stopping). stoppingTo u z l) p (sym q)
+
+pub stops-told : {card : List ℕ} {a : Both Areas Areas} {l : Both Lent Lent} {stops : List ℕ} {h k : Header} {w : UnitStops} (x : Stopped)
+    → h ≡ k → w ≡ stopsWords x → MeetsStops card h a l stops x → TellsStops (MeetsStops card k a l stops) w
+stops-told {card} {a} {l} {stops} x e told m = (x, told, subst (λ (y : Header). MeetsStops card y a l stops x) e m)
 
 -- ---- the card
 

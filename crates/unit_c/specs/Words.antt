@@ -2,7 +2,7 @@
 use mathlib.Core.Path.{_≡_}
 use mathlib.Core.List.{List, [], _∷_}
 use Prim.Native.Nat.{ℕ}
-use Rattle.model.specs.Types.{Accepted, Answer, Estimated, Gone, Previewed, Read, Reading, Refused, Unreadable}
+use Rattle.model.specs.Types.{Accepted, Answer, Estimated, Gone, Previewed, Read, Reading, Refused, Stopped, Unreadable}
 use Rattle.model.specs.Card.{Rows}
 use Rattle.model.specs.Contracts.{WriteContract}
 
@@ -22,6 +22,7 @@ answerNumber Accepted = 0
 answerNumber (Estimated t) = 0
 answerNumber (Gone t c k) = 0
 answerNumber (Previewed a b c) = 0
+answerNumber (Stopped legs whole) = 0
 
 abbrev pub answerPlace : Answer → ℕ
 answerPlace (Refused q) = q .place
@@ -29,6 +30,7 @@ answerPlace Accepted = 0
 answerPlace (Estimated t) = 0
 answerPlace (Gone t c k) = 0
 answerPlace (Previewed a b c) = 0
+answerPlace (Stopped legs whole) = 0
 
 -- the caller sees the number and the place of an answer that meets the writer's contract
 pub record Wrote (map : Rows) (area areaAfter : List ℕ) (number place : ℕ) : Type 0 where

@@ -10,8 +10,10 @@ ghost use Rattle.unit_questions.specs.Lending.{lent};
 ghost use Rattle.unit_preparing.specs.Preparing.{Prepares};
 ghost use Rattle.unit.specs.Shape.{answeredIn};
 ghost use Rattle.unit.specs.Meets.{Meets, MeetsAlone, MeetsPreview};
+ghost use Rattle.unit_stops.specs.Legs.{MeetsStops};
 ghost use Rattle.unit_script.specs.Script.{ReplayContract};
 ghost use Rattle.unit_c.specs.Answers.{Tells, answerWords, comparedTo, headerOf, headerWords, plainWords, previewWords, targetOf};
+ghost use Rattle.unit_c.specs.Stops.{TellsStops, stopsTo, stopsWords};
 ghost use Rattle.unit_c.specs.Words.{Wrote, readingNumber, readingWords};
 use card::Reading;
 use card::Writing;
@@ -24,6 +26,10 @@ use unit::Header;
 use unit::Target;
 use unit_answers::Answer;
 use unit_answers::Change;
+use unit_stops::Legs;
+use unit_stops::MOST_LEGS;
+use unit_stops::Stopped;
+use unit_stops::Stopping;
 
 // ---- headers and answers as C holds them
 
@@ -52,6 +58,19 @@ pub struct UnitAnswer {
     pub roads: u32,
     pub then: u64,
     pub change: i64,
+}
+
+// What a list of stops hands back. `question` and `leg` are 0, or the number of the refusal and the leg that 17 names; `legs` is their
+// number, `whole` the whole total, `totals` and `roads` each leg's. What does not apply is 0.
+#[repr(C)]
+pub struct UnitStops {
+    pub header: UnitHeader,
+    pub question: u32,
+    pub leg: u32,
+    pub legs: u32,
+    pub whole: u64,
+    pub totals: [u64; MOST_LEGS],
+    pub roads: [u32; MOST_LEGS],
 }
 
 // There is a target where `aimed` is not 0.
@@ -168,6 +187,44 @@ fn answer_of(r: Answered) -> UnitAnswer
         Answer::Estimated(t) => plain(header, 0, 0, t.0 as u64, 0, 0),
         Answer::Gone(t, c, k) => plain(header, 0, 0, t, c, k),
         Answer::Previewed(a, b, c) => previewed(header, a.word(), b.word(), c),
+    }
+}
+
+// The words of a list of stops.
+fn stops_of(
+    header: UnitHeader,
+    question: u32,
+    leg: u32,
+    legs: u32,
+    whole: u64,
+    rows: Legs,
+) -> UnitStops
+    ensures { λ x. ⌜ x ≡ stopsTo header question leg legs whole rows ⌝ }
+{
+    let totals = rows.totals;
+    let roads = rows.roads;
+    UnitStops {
+        header: header,
+        question: question,
+        leg: leg,
+        legs: legs,
+        whole: whole,
+        totals: totals,
+        roads: roads,
+    }
+}
+
+// The words of what a list of stops hands back.
+fn stopped_of(r: Stopped) -> UnitStops
+    ensures { λ x. ⌜ x ≡ stopsWords r ⌝ }
+{
+    let h = r.header;
+    let header = words_of(h);
+    let answer = r.answer;
+    let rows = r.legs;
+    match answer {
+        Stopping::Refused(q) => stops_of(header, q.question, q.place, 0, 0, rows),
+        Stopping::Stopped(k, whole) => stops_of(header, 0, 0, k, whole, rows),
     }
 }
 
@@ -419,14 +476,53 @@ pub extern "C" fn unit_preview(
     ))
 }
 
+// Calls at the stops in their order.
+#[no_mangle]
+pub extern "C" fn unit_stops(
+    header: UnitHeader,
+    card: &[u8],
+    ranks: &[u32],
+    pairs: &[u32],
+    live: &[TimeWord],
+    down: &mut [TimeWord],
+    estimates: &mut [TimeWord],
+    elapsed: &mut [TimeWord],
+    leaving: &[u32],
+    groups: &[u32],
+    route: &mut [u32],
+    log: &mut [u32],
+    stops: &[u32],
+) -> UnitStops
+    ensures { λ r. ⌜ TellsStops (MeetsStops (now (card .entry)) (headerOf header)
+        (areas ranks pairs live down estimates elapsed leaving groups) (lent route log) (now (stops .entry))) r ⌝ }
+{
+    let h = header_of(header);
+    stopped_of(unit_stops::stops(
+        h,
+        card,
+        ranks,
+        pairs,
+        live,
+        down,
+        estimates,
+        elapsed,
+        leaving,
+        groups,
+        route,
+        log,
+        stops,
+    ))
+}
+
 // ---- a script
 
 // Prepares a card on the eight areas and makes the calls of a script: a kind, and as many words as that call has. 0 road time is a set,
 // 1 junction an aim, 2 junction an estimate, 3 start r l a go, which is lent the first r entries of the route and l of the log, all if
-// there are fewer, 4 road time start a preview, which is lent the work area. Any other kind ends the script, and so does a call that is cut
-// short. `out` gets four words for each answer: the question that refuses, or 0; estimate or total; count; number of roads; of a preview 0,
-// present total, new total, change as two's complement. As many calls are made as `out` has room for. What is handed back is preparing's
-// answer with the last header.
+// there are fewer, 4 road time start a preview, which is lent the work area, 5 s r l and then s stops a list of stops, lent as a go. Any
+// other kind ends the script, and so does a call that is cut short. `out` gets 66 words for each answer: the question that refuses, or 0;
+// estimate, total or the leg of 17; count; number of roads; of a preview 0, present total, new total, change as two's complement; of a list
+// of stops 0, whole total, 0, number of legs; then total and number of roads of each of 31 legs, 0 where there is none. As many calls are
+// made as `out` has room for. What is handed back is preparing's answer with the last header.
 #[no_mangle]
 pub extern "C" fn unit_replay(
     card: &[u8],

@@ -1,4 +1,5 @@
 pub mod Words
+pub mod Answers
 pub mod Signs
 pub mod Worked
 pub mod Scripts

@@ -12,7 +12,7 @@ use native.Mathlib.Nat.{sub-zero}
 use native.Mathlib.Omega.{arith}
 use Rattle.graph.specs.Total.{Tested, and-true, decide}
 use Rattle.graph.specs.Map.{Map}
-use Rattle.model.specs.Types.{Accepted, Answer, Answered, Estimated, Gone, Header, Previewed, Refused}
+use Rattle.model.specs.Types.{Accepted, Answer, Answered, Header}
 use Rattle.model.specs.Card.{mapOn}
 use Rattle.model.specs.Areas.{Areas}
 use Rattle.model.specs.State.{Lent, State, Step, first, prepare}
@@ -23,50 +23,37 @@ use Rattle.model.specs.Contracts.{CallContract, PrepareContract, after, before}
 use Rattle.model.specs.Chain.{Chain, chain-demand3, chain-steps, left-prepared}
 use Rattle.network.specs.declared.Time.{Time}
 use Rattle.network.specs.declared.Junction.{Junction}
-use Rattle.unit_answers.specs.declared.Call as code
-use Rattle.unit_answers.specs.Shape.{callIn}
 use Rattle.unit_script.specs.declared.Asked as code-asked
 use Rattle.unit_script.specs.declared.Asked.the-variants as scripts
 use Rattle.unit_script.specs.declared.Scripted.{Scripted}
-use Rattle.unit_script.specs.Words.{Lending, answerWords, askedIn, callAt, endAt, isCall, putAt, roomIn, scriptedIn}
+use Rattle.unit_script.specs.Words.{Lending, answerSize, answerWords, askedIn, callAt, endAt, isCall, putAt, roomIn, scriptedIn}
 use Rattle.unit_script.specs.Script.{Held, Made, OneContract, ReplayContract, answersOf, begun, callsIn, callsOf, held, holding}
 use Rattle.unit_script.specs.Script.{isNext, lend, lending, machineAnswers, onward, scripted, told}
 use Rattle.unit_script.proofs.Words.{call-fits, ends-within}
 
 -- ---- the words of an answer
 
-answer-length : (x : Answer) → length (answerWords x) ≡ 4
-answer-length (Refused q) = refl
-answer-length Accepted = refl
-answer-length (Estimated t) = refl
-answer-length (Gone t c k) = refl
-answer-length (Previewed a b c) = refl
-
-told-length : (l : List Answer) → length (told l) ≡ 4 * length l
-told-length [] = refl
-told-length (x ∷ l) = let h = told-length l in length-append (answerWords x) (told l) ∙ omega (arith, h, answer-length x)
-
 told-snoc : (l : List Answer) (x : Answer) → told (l ++ (x ∷ [])) ≡ told l ++ answerWords x
 told-snoc [] x = append-nil (answerWords x)
 told-snoc (y ∷ l) x = ap (_++_ (answerWords y)) (told-snoc l x) ∙ sym (append-assoc (answerWords y) (told l) (answerWords x))
 
--- the words of one answer more
-written-turn : (l : List Answer) (x : Answer) (k : ℕ) (out₀ out out′ : List ℕ) → length l ≡ k → out ≡ first (told l) out₀
-    → out′ ≡ putAt out k (answerWords x) → out′ ≡ first (told (l ++ (x ∷ []))) out₀
-written-turn l x k out₀ out out′ n e f =
-    let q : length (told l) ≡ 4 * k = told-length l ∙ ap (λ (i : ℕ). 4 * i) n in
-    let o : out ≡ told l ++ drop (4 * k) out₀ = e ∙ ap (λ (i : ℕ). told l ++ drop i out₀) q in
-    let a : take (4 * k) out ≡ told l = ap (take (4 * k)) o ∙ take-at (told l) (drop (4 * k) out₀) (4 * k) q in
-    let d : drop (4 * k + 4) out ≡ drop (4 * k + 4) out₀ =
-    ap (drop (4 * k + 4)) o
-    ∙ ap (λ (i : ℕ). drop (i + 4) (told l ++ drop (4 * k) out₀)) (sym q)
-    ∙ drop-append-add (told l) (drop (4 * k) out₀) 4
-    ∙ drop-drop 4 (4 * k) out₀ in
-    let w : length (told (l ++ (x ∷ []))) ≡ 4 * k + 4 =
-    ap length (told-snoc l x) ∙ length-append (told l) (answerWords x) ∙ omega (arith, q, answer-length x) in
+-- the words of one answer more, behind those before it
+written-turn : (l : List Answer) (x : Answer) (i : ℕ) (out₀ out out′ : List ℕ) → length (told l) ≡ i → out ≡ first (told l) out₀
+    → out′ ≡ putAt out i (answerWords x) → out′ ≡ first (told (l ++ (x ∷ []))) out₀
+written-turn l x i out₀ out out′ n e f =
+    let w : List ℕ = answerWords x in
+    let o : out ≡ told l ++ drop i out₀ = e ∙ ap (λ (j : ℕ). told l ++ drop j out₀) n in
+    let a : take i out ≡ told l = ap (take i) o ∙ take-at (told l) (drop i out₀) i n in
+    let d : drop (i + length w) out ≡ drop (i + length w) out₀ =
+    ap (drop (i + length w)) o
+    ∙ ap (λ (j : ℕ). drop (j + length w) (told l ++ drop i out₀)) (sym n)
+    ∙ drop-append-add (told l) (drop i out₀) (length w)
+    ∙ drop-drop (length w) i out₀ in
+    let m : length (told (l ++ (x ∷ []))) ≡ i + length w =
+    ap length (told-snoc l x) ∙ length-append (told l) w ∙ ap (λ (j : ℕ). j + length w) n in
     f
-    ∙ ap₂ (λ (u : List ℕ) (v : List ℕ). u ++ answerWords x ++ v) a d
-    ∙ ap₂ (λ (u : List ℕ) (i : ℕ). u ++ drop i out₀) (sym (told-snoc l x)) (sym w)
+    ∙ ap₂ (λ (u : List ℕ) (v : List ℕ). u ++ w ++ v) a d
+    ∙ ap₂ (λ (u : List ℕ) (j : ℕ). u ++ drop j out₀) (sym (told-snoc l x)) (sym m)
 
 -- ---- one call more
 
@@ -99,11 +86,21 @@ meets-snoc card h [] (v ∷ r) p u n w m = let z : ⊥ = omega (arith, n) in abs
 meets-snoc card h (q ∷ l) [] p u n w m = let z : ⊥ = omega (arith, n) in absurd z
 meets-snoc card h (q ∷ l) (v ∷ r) p u n w m = (w .0, meets-snoc card (onward h v) l r p u (omega (arith, n)) (w .1) m)
 
+-- its answer fills its place, as those before it do
+filled-more : (r : List Step) (u : Step) (k : ℕ) → length (told (answersOf r)) ≡ answerSize * k
+    → length (answerWords (u .answer)) ≡ answerSize → length (told (answersOf (r ++ (u ∷ [])))) ≡ answerSize * (k + 1)
+filled-more r u k n m =
+    ap (λ (y : List Answer). length (told y)) (map-snoc (λ (v : Step). v .answer) r u)
+    ∙ ap length (told-snoc (answersOf r) (u .answer))
+    ∙ length-append (told (answersOf r)) (answerWords (u .answer))
+    ∙ omega (arith, n, m)
+
 -- one call more, p, which meets its contract and leaves u
-made-more : {card : List ℕ} {l : List Plain} {out₀ out : List ℕ} {h₀ h : Held} → Made card l out₀ out h₀ h → (k : ℕ) → length l ≡ k
-    → (p : Plain) (u : Step) (out′ : List ℕ) → plain (lend (h .lent) p) ≡ p → CallContract card (h .state) (lend (h .lent) p) u
-    → out′ ≡ putAt out k (answerWords (u .answer)) → Made card (l ++ (p ∷ [])) out₀ out′ h₀ (onward h u)
-made-more {card} {l} {out₀} {out} {h₀} {h} w k n p u out′ f m e =
+made-more : {card : List ℕ} {l : List Plain} {out₀ out : List ℕ} {h₀ h : Held} → (w : Made card l out₀ out h₀ h) → {i : ℕ}
+    → length (told (answersOf (w .results))) ≡ i → (p : Plain) (u : Step) {h′ : Held} {out′ : List ℕ} → h′ ≡ onward h u
+    → plain (lend (h .lent) p) ≡ p → CallContract card (h .state) (lend (h .lent) p) u
+    → out′ ≡ putAt out i (answerWords (u .answer)) → Made card (l ++ (p ∷ [])) out₀ out′ h₀ h′
+made-more {card} {l} {out₀} {out} {h₀} {h} w {i} n p u {h′} {out′} left f m e =
     let r : List Step = w .results in
     let many : length r ≡ length l =
     chain-length card (h₀ .state) (w .calls) r (w .meets) ∙ sym (length-map (w .calls) plain) ∙ ap length (w .fed) in
@@ -120,9 +117,9 @@ made-more {card} {l} {out₀} {out} {h₀} {h} w k n p u out′ f m e =
       meets =
           meets-snoc card h₀ l r p u many met
           (subst (λ (y : Held). CallContract card (y .state) (lend (y .lent) p) u) (w .leaves) m);
-      leaves = ap (λ (y : Held). onward y u) (w .leaves) ∙ sym (held-snoc h₀ r u);
+      leaves = left ∙ ap (λ (y : Held). onward y u) (w .leaves) ∙ sym (held-snoc h₀ r u);
       written =
-          written-turn (answersOf r) (u .answer) k out₀ out out′ (length-map r (λ (v : Step). v .answer) ∙ many ∙ n) (w .written) e
+          written-turn (answersOf r) (u .answer) i out₀ out out′ n (w .written) e
           ∙ ap (λ (y : List Answer). first (told y) out₀) (sym (map-snoc (λ (v : Step). v .answer) r u));
     }
 
@@ -140,17 +137,18 @@ back-first : (i j : ℕ) (l m : Lent) → length (m .route) ≡ i → length (m 
     → back i j l m ≡ record { route = first (m .route) (l .route); log = first (m .log) (l .log) }
 back-first i j l m e f = rw (← e, ← f)
 
-pub one-made : {card : List ℕ} {h : Header} {a b : Areas} {l m : Lent} {asked : Asked} {i j : ℕ} {x : Answered}
-    → i ≤ length (l .route) → j ≤ length (l .log)
+pub one-made : {card : List ℕ} {h : Header} {a b : Areas} {l m : Lent} {asked : Asked} {i j : ℕ} {x : Answered} {k : Header}
+    {words : List ℕ} → i ≤ length (l .route) → j ≤ length (l .log)
     → CallContract card (before h a) (calling asked (part i j l)) (after x b m)
     → length (m .route) ≡ length (take i (l .route)) → length (m .log) ≡ length (take j (l .log))
+    → k ≡ x .header → words ≡ answerWords (x .answer)
     → OneContract card h (record { entry = a; exit = b }) (record { entry = l; exit = back i j l m })
-    (record { asked = asked; route = i; log = j }) x
-one-made {b = b} {l} {m} {i = i} {j} {x} li lj c nr nl = record {
+    (record { asked = asked; route = i; log = j }) k words
+one-made {b = b} {l} {m} {i = i} {j} {x} {k} li lj c nr nl header-is words-are = record {
   left = after x b m;
-  answers = refl;
+  answers = words-are;
   meets = c;
-  leaves = ap (holding (x .header) b)
+  leaves = ap₂ (λ (y : Header) (z : Lent). holding y b z) header-is
       (back-first i j l m (nr ∙ length-take-le i (l .route) li) (nl ∙ length-take-le j (l .log) lj));
 }
 
@@ -159,34 +157,31 @@ put-back : (i j : ℕ) (l : Lent) → back i j l (part i j l) ≡ l
 put-back i j l =
     ap₂ (λ (r : List ℕ) (k : List ℕ). record { route = r; log = k }) (take-append-drop i (l .route)) (take-append-drop j (l .log))
 
--- a call of the script s, beside a work area of w entries
-module _ {card : List ℕ} {h : Header} {a b : Areas} {l : Lent} {x : Answered} (s : Scripted) (w : ℕ)
-    (route-fits : s .route ≤ length (l .route)) (log-fits : s .log ≤ length (l .log)) where
-  -- one of the four calls
-  pub four-made : {m : Lent} {c : code.Call} → s .asked ≡ scripts.Four c
-      → CallContract card (before h a) (calling (callIn c) (part (s .route) (s .log) l)) (after x b m)
+-- a call s of a script, beside a work area of w entries and with these stops, which handed x back
+module _ {card : List ℕ} {h : Header} {a b : Areas} {l : Lent} (x : Answered) {k : Header} {words : List ℕ} (s : Scripted) (w : ℕ)
+    (stops : List ℕ) (route-fits : s .route ≤ length (l .route)) (log-fits : s .log ≤ length (l .log)) (header-is : k ≡ x .header)
+    (words-are : words ≡ answerWords (x .answer)) where
+  -- one that is lent the first entries of route and log
+  pub lent-made : {m : Lent} {q : code-asked.Asked} → s .asked ≡ q
+      → CallContract card (before h a) (calling (askedIn q w stops) (part (s .route) (s .log) l)) (after x b m)
       → length (m .route) ≡ length (take (s .route) (l .route)) → length (m .log) ≡ length (take (s .log) (l .log))
-      → OneContract card h (record { entry = a; exit = b }) (record { entry = l; exit = back (s .route) (s .log) l m }) (scriptedIn s w) x
-  four-made {m} e c nr nl =
+      → OneContract card h (record { entry = a; exit = b }) (record { entry = l; exit = back (s .route) (s .log) l m })
+      (scriptedIn s w stops) k words
+  lent-made {m} e c nr nl =
       subst (λ (q : Asked). OneContract card h (record { entry = a; exit = b })
-      (record { entry = l; exit = back (s .route) (s .log) l m }) (record { asked = q; route = s .route; log = s .log }) x)
-      (sym (ap (λ (q : code-asked.Asked). askedIn q w) e))
-      (one-made route-fits log-fits c nr nl)
+      (record { entry = l; exit = back (s .route) (s .log) l m }) (record { asked = q; route = s .route; log = s .log }) k words)
+      (sym (ap (λ (q : code-asked.Asked). askedIn q w stops) e))
+      (one-made {x = x} route-fits log-fits c nr nl header-is words-are)
 
   -- a preview, which leaves route and log as they were
   pub preview-made : {i : ℕ} {t : Time} {j : Junction} → s .asked ≡ scripts.Preview i t j
-      → ((k : Lent) → CallContract card (before h a) (calling (Preview i (t .0) (j .0) w) k) (after x b k))
-      → OneContract card h (record { entry = a; exit = b }) (record { entry = l; exit = l }) (scriptedIn s w) x
+      → ((y : Lent) → CallContract card (before h a) (calling (Preview i (t .0) (j .0) w) y) (after x b y))
+      → OneContract card h (record { entry = a; exit = b }) (record { entry = l; exit = l }) (scriptedIn s w stops) k words
   preview-made {i} {t} {j} e c =
-      let k : Lent = part (s .route) (s .log) l in
-      let made : OneContract card h (record { entry = a; exit = b }) (record { entry = l; exit = back (s .route) (s .log) l k })
-      (record { asked = Preview i (t .0) (j .0) w; route = s .route; log = s .log }) x = one-made route-fits log-fits (c k) refl refl in
-      subst (λ (q : Asked). OneContract card h (record { entry = a; exit = b }) (record { entry = l; exit = l })
-      (record { asked = q; route = s .route; log = s .log }) x)
-      (sym (ap (λ (q : code-asked.Asked). askedIn q w) e))
-      (subst (λ (m : Lent). OneContract card h (record { entry = a; exit = b }) (record { entry = l; exit = m })
-      (record { asked = Preview i (t .0) (j .0) w; route = s .route; log = s .log }) x)
-      (put-back (s .route) (s .log) l) made)
+      subst (λ (m : Lent). OneContract card h (record { entry = a; exit = b }) (record { entry = l; exit = m })
+      (scriptedIn s w stops) k words)
+      (put-back (s .route) (s .log) l)
+      (lent-made e (c (part (s .route) (s .log) l)) refl refl)
 
 -- ---- the turns of a run
 
@@ -224,6 +219,8 @@ pub record Run (card script : List ℕ) (work room at k : ℕ) (out₀ out : Lis
   pub done : List Plain
   pub many : length done ≡ k
   pub made : Made card done out₀ out h₀ h
+  -- each answer fills its place
+  pub filled : length (told (answersOf (made .results))) ≡ answerSize * k
   pub rest : scripted script (lending (h₀ .lent) work) 0 room ≡ done ++ scripted script (lending (h₀ .lent) work) at (room - k)
 
 pub run-start : {card script out₀ : List ℕ} {work : ℕ} (room : ℕ) {h₀ : Held} → Run card script work room 0 0 out₀ out₀ h₀ h₀
@@ -231,33 +228,35 @@ run-start {card} {script} {out₀} {work} room {h₀} = record {
   done = [];
   many = refl;
   made = record { calls = []; results = []; lends = refl; fed = refl; meets = tt; leaves = refl; written = refl };
+  filled = refl;
   rest = ap (scripted script (lending (h₀ .lent) work) 0) (sym (sub-zero room));
 }
 
 module _ {card script : List ℕ} {work room at k : ℕ} {out₀ out : List ℕ} {h₀ h : Held}
     (w : Run card script work room at k out₀ out h₀ h) where
-  -- the next call p of the script, which ends at a place and handed x back
-  pub run-turn : isNext script at k room ≡ true → {v : ℕ} {p : Plain} {x : Answered} {end : ℕ} {b : Areas} {m : Lent} {out′ : List ℕ}
-      → length (h .lent .route) ≡ length (h₀ .lent .route) → length (h .lent .log) ≡ length (h₀ .lent .log) → v ≡ work
+  -- the next call p of the script, which ends at a place, handed back the header u, and has its answer's words written
+  pub run-turn : isNext script at k room ≡ true → {v : ℕ} {p : Plain} {u : Header} {words : List ℕ} {end : ℕ} {b : Areas} {m : Lent}
+      {out′ : List ℕ} → length (h .lent .route) ≡ length (h₀ .lent .route) → length (h .lent .log) ≡ length (h₀ .lent .log) → v ≡ work
       → p ≡ callAt script at (lending (h .lent) v) → end ≡ endAt script at
-      → OneContract card (h .state .header) (record { entry = h .state .areas; exit = b }) (record { entry = h .lent; exit = m }) p x
-      → out′ ≡ putAt out k (answerWords (x .answer))
-      → Run card script work room end (k + 1) out₀ out′ h₀ (holding (x .header) b m)
-  run-turn next {v} {p} {x} {end} {b} {m} {out′} er el ew e n c f =
+      → OneContract card (h .state .header) (record { entry = h .state .areas; exit = b }) (record { entry = h .lent; exit = m }) p u words
+      → length words ≡ answerSize → out′ ≡ putAt out (answerSize * k) words
+      → Run card script work room end (k + 1) out₀ out′ h₀ (holding u b m)
+  unfolding made-more
+  run-turn next {v} {p} {u} {words} {end} {b} {m} {out′} er el ew e n c size f =
       let left : List Plain = scripted script (lending (h₀ .lent) work) end (room - (k + 1)) in
       let same : lending (h .lent) v ≡ lending (h₀ .lent) work = rw (er, el, ew) in
       let is : callAt script at (lending (h₀ .lent) work) ≡ p = sym (e ∙ ap (callAt script at) same) in
       let (route-fits, log-fits) = call-fits script at (lending (h .lent) v) e in
-      let one : Made card (w .done ++ (p ∷ [])) out₀ out′ h₀ (onward h (c .left)) =
-      made-more (w .made) k (w .many) p (c .left) out′ (fed-back (h .lent) p route-fits log-fits) (c .meets)
-      (f ∙ ap (λ (y : Answer). putAt out k (answerWords y)) (sym (c .answers))) in
       let next-is : scripted script (lending (h₀ .lent) work) at (room - k) ≡ p ∷ left =
       scripted-next script (lending (h₀ .lent) work) at k room next
       ∙ ap₂ (λ (y : Plain) (i : ℕ). y ∷ scripted script (lending (h₀ .lent) work) i (room - (k + 1))) is (sym n) in
       record {
         done = w .done ++ (p ∷ []);
         many = length-append (w .done) (p ∷ []) ∙ ap (λ (i : ℕ). i + 1) (w .many);
-        made = subst (λ (y : Held). Made card (w .done ++ (p ∷ [])) out₀ out′ h₀ y) (sym (c .leaves)) one;
+        made =
+            made-more (w .made) (w .filled) p (c .left) (c .leaves) (fed-back (h .lent) p route-fits log-fits) (c .meets)
+            (f ∙ ap (putAt out (answerSize * k)) (c .answers));
+        filled = filled-more (w .made .results) (c .left) k (w .filled) (sym (ap length (c .answers)) ∙ size);
         rest = w .rest ∙ ap (_++_ (w .done)) next-is ∙ sym (append-assoc (w .done) (p ∷ []) left);
       }
 

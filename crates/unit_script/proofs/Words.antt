@@ -1,60 +1,73 @@
--- The words of a call and of an answer. Assumes nothing.
-use mathlib.Core.Path.{_∙_, _≡_, ap, refl, subst, sym}
+-- The words of a call, and a call at a place of a script. Assumes nothing.
+use mathlib.Core.Path.{_∙_, _≡_, ap, ap₂, refl, subst, sym}
 use mathlib.Core.Logic.{_≢_, inl, inr}
-use mathlib.Core.Option.{Option}
-use mathlib.Core.List.{List, [], _∷_}
-use Prim.Native.Nat.{_*_, _+_, _-_, _<_, _≤_, min, suc, zero, ℕ}
+use mathlib.Core.List.{List}
+use Prim.Native.Nat.{_+_, _-_, _<_, _≤_, min, suc, zero, ℕ}
 use borrow.Author.Tests.{le-leb, leb-true, lt-leb}
 use lib.Dec.{leb}
-use lib.IntN.{ℤ}
-use lib.ListN.{getD, length, set}
-use lib.Seq.{sets-eq}
+use lib.ListN.{drop, drop-of-length-le, getD, length, length-drop, take}
+use lib.Seq.{take-all}
 use native.Mathlib.Nat.{add-zero}
+use native.Mathlib.Decide.{decLt}
 use native.Mathlib.Omega.{arith}
-use Rattle.graph.specs.Total.{Tested, Total, decide}
-use Rattle.model.specs.Types.{Answer, Estimated, Previewed}
-use Rattle.model.specs.Word.{word}
-use Rattle.model.specs.Calls.{Go, Plain, Preview, Set}
-use Rattle.unit_script.specs.Words.{Lending, answerSize, answerWords, callAt, changeWord, endAt, putAt, spelled, withAll, wordsOf}
+use Rattle.graph.specs.Total.{Tested, decide}
+use Rattle.model.specs.Calls.{Go, Plain, Preview, Set, Stops}
+use Rattle.unit_script.specs.Words.{Lending, callAt, endAt, spelled, stopsAt, withAll, wordsOf}
 
 -- ---- the words of a call
 
-pub none-of : {kind : ℕ} → kind ≢ 0 → kind ≢ 1 → kind ≢ 2 → kind ≢ 3 → kind ≢ 4 → 0 ≡ wordsOf kind
-none-of {kind = zero} a b c d e = absurd (a refl)
-none-of {kind = suc zero} a b c d e = absurd (b refl)
-none-of {kind = suc (suc zero)} a b c d e = absurd (c refl)
-none-of {kind = suc (suc (suc zero))} a b c d e = absurd (d refl)
-none-of {kind = suc (suc (suc (suc zero)))} a b c d e = absurd (e refl)
-none-of {kind = suc (suc (suc (suc (suc k))))} a b c d e = refl
+pub stops-words : {kind : ℕ} (next : ℕ) → kind ≡ 5 → 4 + next ≡ wordsOf kind next
+stops-words next e = rw e
+
+pub none-of : {kind : ℕ} (next : ℕ) → kind ≢ 0 → kind ≢ 1 → kind ≢ 2 → kind ≢ 3 → kind ≢ 4 → kind ≢ 5 → 0 ≡ wordsOf kind next
+none-of {kind = zero} next a b c d e f = absurd (a refl)
+none-of {kind = suc zero} next a b c d e f = absurd (b refl)
+none-of {kind = suc (suc zero)} next a b c d e f = absurd (c refl)
+none-of {kind = suc (suc (suc zero))} next a b c d e f = absurd (d refl)
+none-of {kind = suc (suc (suc (suc zero)))} next a b c d e f = absurd (e refl)
+none-of {kind = suc (suc (suc (suc (suc zero))))} next a b c d e f = absurd (f refl)
+none-of {kind = suc (suc (suc (suc (suc (suc k)))))} next a b c d e f = refl
 
 -- a call of a kind is what its words spell
-module _ (one two three : ℕ) (l : Lending) where
-  pub spells-set : {kind t : ℕ} → kind ≡ 0 → t ≡ two → withAll l (Set one t) ≡ spelled kind one two three l
+module _ (one two three : ℕ) (stops : List ℕ) (l : Lending) where
+  pub spells-set : {kind t : ℕ} → kind ≡ 0 → t ≡ two → withAll l (Set one t) ≡ spelled kind one two three stops l
   spells-set e f = rw (e, f)
 
-  pub spells : {kind k : ℕ} → kind ≡ k → spelled k one two three l ≡ spelled kind one two three l
+  pub spells : {kind k : ℕ} → kind ≡ k → spelled k one two three stops l ≡ spelled kind one two three stops l
   spells e = rw e
 
-  pub spells-go : {kind i j : ℕ} → kind ≡ 3 → i ≡ min two (l .route) → j ≡ min three (l .log)
-      → _≡_ {A = Plain} (record { asked = Go one; route = i; log = j }) (spelled kind one two three l)
-  spells-go e f g = rw (e, f, g)
+  pub spells-preview : {kind t : ℕ} → kind ≡ 4 → t ≡ two
+      → withAll l (Preview one t three (l .work)) ≡ spelled kind one two three stops l
+  spells-preview e f = rw (e, f)
 
-  pub spells-preview : {kind t : ℕ} → kind ≢ 0 → kind ≢ 1 → kind ≢ 2 → kind ≢ 3 → t ≡ two
-      → withAll l (Preview one t three (l .work)) ≡ spelled kind one two three l
-  spells-preview {kind = zero} a b c d e = absurd (a refl)
-  spells-preview {kind = suc zero} a b c d e = absurd (b refl)
-  spells-preview {kind = suc (suc zero)} a b c d e = absurd (c refl)
-  spells-preview {kind = suc (suc (suc zero))} a b c d e = absurd (d refl)
-  spells-preview {kind = suc (suc (suc (suc k)))} a b c d e = rw e
+  module _ {kind i j : ℕ} (route-is : i ≡ min two (l .route)) (log-is : j ≡ min three (l .log)) where
+    pub spells-go : kind ≡ 3 → _≡_ {A = Plain} (record { asked = Go one; route = i; log = j }) (spelled kind one two three stops l)
+    spells-go e = rw (e, route-is, log-is)
+
+    pub spells-stops : kind ≢ 0 → kind ≢ 1 → kind ≢ 2 → kind ≢ 4 → kind ≢ 3
+        → _≡_ {A = Plain} (record { asked = Stops stops; route = i; log = j }) (spelled kind one two three stops l)
+    spells-stops a b c d e =
+        ap₂ (λ (x : ℕ) (y : ℕ). record { asked = Stops stops; route = x; log = y }) route-is log-is ∙ go kind a b c d e
+      where
+        go : (k : ℕ) → k ≢ 0 → k ≢ 1 → k ≢ 2 → k ≢ 4 → k ≢ 3
+            → _≡_ {A = Plain} (record { asked = Stops stops; route = min two (l .route); log = min three (l .log) })
+            (spelled k one two three stops l)
+        go zero a b c d e = absurd (a refl)
+        go (suc zero) a b c d e = absurd (b refl)
+        go (suc (suc zero)) a b c d e = absurd (c refl)
+        go (suc (suc (suc zero))) a b c d e = absurd (e refl)
+        go (suc (suc (suc (suc zero)))) a b c d e = absurd (d refl)
+        go (suc (suc (suc (suc (suc k))))) a b c d e = refl
 
 -- it is lent no more entries than there are
-spelled-fits : (kind one two three : ℕ) (l : Lending)
-    → (spelled kind one two three l .route ≤ l .route) × (spelled kind one two three l .log ≤ l .log)
-spelled-fits zero one two three l = (omega arith, omega arith)
-spelled-fits (suc zero) one two three l = (omega arith, omega arith)
-spelled-fits (suc (suc zero)) one two three l = (omega arith, omega arith)
-spelled-fits (suc (suc (suc zero))) one two three l = (omega arith, omega arith)
-spelled-fits (suc (suc (suc (suc k)))) one two three l = (omega arith, omega arith)
+spelled-fits : (kind one two three : ℕ) (stops : List ℕ) (l : Lending)
+    → (spelled kind one two three stops l .route ≤ l .route) × (spelled kind one two three stops l .log ≤ l .log)
+spelled-fits zero one two three stops l = (omega arith, omega arith)
+spelled-fits (suc zero) one two three stops l = (omega arith, omega arith)
+spelled-fits (suc (suc zero)) one two three stops l = (omega arith, omega arith)
+spelled-fits (suc (suc (suc zero))) one two three stops l = (omega arith, omega arith)
+spelled-fits (suc (suc (suc (suc zero)))) one two three stops l = (omega arith, omega arith)
+spelled-fits (suc (suc (suc (suc (suc k))))) one two three stops l = (omega arith, omega arith)
 
 -- ---- at a place of a script
 
@@ -62,9 +75,10 @@ pub kind-at : (script : List ℕ) (at : ℕ) → getD script (at + 0) 0 ≡ getD
 kind-at script at = ap (λ (i : ℕ). getD script i 0) (add-zero at)
 
 -- a call ends behind its words if all of them stand there
-module _ (script : List ℕ) (at : ℕ) {kind w : ℕ} (k : kind ≡ getD script (at + 0) 0) (e : w ≡ wordsOf kind) where
-  is-words : wordsOf (getD script at 0) ≡ w
-  is-words = sym (e ∙ ap wordsOf (k ∙ kind-at script at))
+module _ (script : List ℕ) (at : ℕ) {kind next w : ℕ} (k : kind ≡ getD script (at + 0) 0) (n : next ≡ getD script (at + 1) 0)
+    (e : w ≡ wordsOf kind next) where
+  is-words : wordsOf (getD script at 0) (getD script (at + 1) 0) ≡ w
+  is-words = sym (e ∙ ap₂ wordsOf (k ∙ kind-at script at) n)
 
   pub stands-whole : at ≤ length script → w ≤ length script - at → at + w ≡ endAt script at
   stands-whole h le =
@@ -79,9 +93,10 @@ module _ (script : List ℕ) (at : ℕ) {kind w : ℕ} (k : kind ≡ getD script
 -- it ends within the script
 pub ends-within : (script : List ℕ) (at : ℕ) {end : ℕ} → at ≤ length script → end ≡ endAt script at → end ≤ length script
 ends-within script at h e =
-    subst (λ (i : ℕ). i ≤ length script) (sym e) (go (decide (leb (at + wordsOf (getD script at 0)) (length script))))
+    subst (λ (i : ℕ). i ≤ length script) (sym e)
+    (go (decide (leb (at + wordsOf (getD script at 0) (getD script (at + 1) 0)) (length script))))
   where
-    go : Tested (leb (at + wordsOf (getD script at 0)) (length script)) → endAt script at ≤ length script
+    go : Tested (leb (at + wordsOf (getD script at 0) (getD script (at + 1) 0)) (length script)) → endAt script at ≤ length script
     go (inl q) = rw q (leb-true _ _ q)
     go (inr q) = rw q h
 
@@ -89,33 +104,49 @@ ends-within script at h e =
 pub call-fits : (script : List ℕ) (at : ℕ) (l : Lending) {p : Plain} → p ≡ callAt script at l → (p .route ≤ l .route) × (p .log ≤ l .log)
 call-fits script at l e =
     subst (λ (q : Plain). (q .route ≤ l .route) × (q .log ≤ l .log)) (sym e)
-    (spelled-fits (getD script at 0) (getD script (at + 1) 0) (getD script (at + 2) 0) (getD script (at + 3) 0) l)
+    (spelled-fits (getD script at 0) (getD script (at + 1) 0) (getD script (at + 2) 0) (getD script (at + 3) 0) (stopsAt script at) l)
+
+call-of : {kind one two three kind′ one′ two′ three′ : ℕ} → kind ≡ kind′ → one ≡ one′ → two ≡ two′ → three ≡ three′
+    → (stops : List ℕ) (l : Lending) {p : Plain} → p ≡ spelled kind one two three stops l → p ≡ spelled kind′ one′ two′ three′ stops l
+call-of a b c d stops l e = e ∙ rw (a, b, c, d)
 
 -- the call there, of the words from there on
 pub call-there : (script : List ℕ) (at : ℕ) (l : Lending) {kind one two three : ℕ} {p : Plain} → kind ≡ getD script (at + 0) 0
     → one ≡ getD script (at + 1) 0 → two ≡ getD script (at + 2) 0 → three ≡ getD script (at + 3) 0
-    → p ≡ spelled kind one two three l → p ≡ callAt script at l
-call-there script at l {kind} a b c d e =
-    let k : kind ≡ getD script at 0 = a ∙ kind-at script at in
-    e ∙ rw (k, b, c, d)
+    → p ≡ spelled kind one two three (stopsAt script at) l → p ≡ callAt script at l
+call-there script at l a b c d e = call-of (a ∙ kind-at script at) b c d (stopsAt script at) l e
 
--- ---- the words of an answer
+-- ---- the stops of a list
 
-pub four-stored : (s : List ℕ) (k a b c d : ℕ) → answerSize * k + answerSize ≤ length s
-    → set (set (set (set s (4 * k) a) (4 * k + 1) b) (4 * k + 2) c) (4 * k + 3) d ≡ putAt s k (a ∷ b ∷ c ∷ d ∷ [])
-four-stored s k a b c d h =
-    let e1 : 4 * k + 1 ≡ suc (4 * k) = omega arith in
-    let e2 : 4 * k + 2 ≡ suc (suc (4 * k)) = omega arith in
-    let e3 : 4 * k + 3 ≡ suc (suc (suc (4 * k))) = omega arith in
-    rw (e1, e2, e3) (sets-eq (a ∷ b ∷ c ∷ d ∷ []) s (4 * k) h)
+-- as many as there are
+take-few : (n : ℕ) (l : List ℕ) → take (min n (length l)) l ≡ take n l
+take-few n l = go (decLt n (length l))
+  where
+    go : Dec (n < length l) → take (min n (length l)) l ≡ take n l
+    go (yes h) = let e : min n (length l) ≡ n = omega (arith, h) in ap (λ (i : ℕ). take i l) e
+    go (no h) =
+        let e : min n (length l) ≡ length l = omega (arith, h) in
+        ap (λ (i : ℕ). take i l) e ∙ take-all (length l) l (omega arith) ∙ sym (take-all n l (omega (arith, h)))
 
--- four words stored are those of an answer
-pub put-told : (out : List ℕ) (k : ℕ) {after w v : List ℕ} → after ≡ putAt out k w → w ≡ v → after ≡ putAt out k v
-put-told out k e f = e ∙ ap (putAt out k) f
+-- past the end there is nothing
+drop-few : (at n : ℕ) (l : List ℕ) → at ≤ length l → drop (at + min n (length l - at)) l ≡ drop (at + n) l
+drop-few at n l h = go (decLt n (length l - at))
+  where
+    go : Dec (n < length l - at) → drop (at + min n (length l - at)) l ≡ drop (at + n) l
+    go (yes lt) = let e : at + min n (length l - at) ≡ at + n = omega (arith, lt) in ap (λ (i : ℕ). drop i l) e
+    go (no ge) =
+        drop-of-length-le l {i = at + min n (length l - at)} (omega (arith, h, ge))
+        ∙ sym (drop-of-length-le l {i = at + n} (omega (arith, h, ge)))
 
-pub estimated-words : {t u : ℕ} {x : Answer} → t ≡ u → x ≡ Estimated u → 0 ∷ t ∷ 0 ∷ 0 ∷ [] ≡ answerWords x
-estimated-words et e = ap (λ (y : ℕ). 0 ∷ y ∷ 0 ∷ 0 ∷ []) et ∙ ap answerWords (sym e)
-
-pub previewed-words : {x : Answer} {a b : Total} {c : Option ℤ} {t u d : ℕ} → x ≡ Previewed a b c
-    → t ≡ word a → u ≡ word b → d ≡ changeWord c → 0 ∷ t ∷ u ∷ d ∷ [] ≡ answerWords x
-previewed-words e f g h = rw (e, f, g, h)
+pub stops-there : (script : List ℕ) (at : ℕ) {start number end : ℕ} → at ≤ length script → start ≡ min 4 (length script - at)
+    → number ≡ getD script (at + 1) 0 → end ≡ min number (length script - at - start)
+    → take (at + start + end - (at + start)) (drop (at + start) script) ≡ stopsAt script at
+stops-there script at {start} {number} {end} h s n e =
+    let same : drop (at + start) script ≡ drop (at + 4) script =
+    ap (λ (i : ℕ). drop (at + i) script) s ∙ drop-few at 4 script h in
+    let long : length script - at - start ≡ length (drop (at + start) script) =
+    omega (arith, length-drop (at + start) script) in
+    let few : at + start + end - (at + start) ≡ min number (length (drop (at + start) script)) = omega (arith, e, long) in
+    ap (λ (i : ℕ). take i (drop (at + start) script)) few
+    ∙ take-few number (drop (at + start) script)
+    ∙ ap₂ take n same

@@ -20,7 +20,7 @@ use Rattle.unit_script.specs.Words.{Lending, answerWords, callAt, endAt,
 
 -- ---- a script, and the words of answers
 
--- the areas that are lent to its calls: go's two, and a work area of so many entries, whose content does not matter
+-- the areas that are lent to its calls: route and log, and a work area of so many entries, whose content does not matter
 abbrev pub lending : Lent → (work : ℕ) → Lending
 lending l w = record { route = length (l .route); log = length (l .log); work = w }
 
@@ -50,7 +50,7 @@ machineAnswers M m (p ∷ l) = machineStep M m p .answer ∷ machineAnswers M (m
 
 -- ---- calls one after the other
 
--- the unit's header and areas, and go's two areas
+-- the unit's header and areas, and the two areas that are lent to a go and to a list of stops: route and log
 pub record Held : Type 0 where
   pub state : State
   pub lent : Lent
@@ -62,7 +62,7 @@ holding h a l = record { state = before h a; lent = l }
 abbrev pub lend : Lent → Plain → Call
 lend l p = calling (p .asked) (record { route = take (p .route) (l .route); log = take (p .log) (l .log) })
 
--- what is held after a call that left u: what it was lent and left stands first in go's areas, the rest of which is untouched
+-- what is held after a call that left u: what it was lent and left stands first in route and log, the rest of which is untouched
 abbrev pub onward : Held → Step → Held
 onward h u = record {
   state = u .state;
@@ -90,23 +90,25 @@ pub record Made (card : List ℕ) (l : List Plain) (out₀ out : List ℕ) (h₀
   pub results : List Step
   -- a call is lent of the areas as the calls before it left them
   pub lends : calls ≡ callsOf h₀ l results
-  -- every call of l was made, and go's areas kept their lengths: what the plain machine is fed of the calls is l
+  -- every call of l was made, and route and log kept their lengths: what the plain machine is fed of the calls is l
   pub fed : map plain calls ≡ l
   -- each met its contract, from what the one before left
   pub meets : Chain card (h₀ .state) calls results
-  -- header, areas and go's two areas at the end
+  -- header, areas, route and log at the end
   pub leaves : h ≡ held h₀ results
   -- the words of the answers stand first in out, the rest of which is untouched
   pub written : out ≡ first (told (answersOf results)) out₀
 
 -- ---- the contracts
 
--- one call p of a script, from the header h, which hands x back; what it was lent and left stands first in go's areas
-pub record OneContract (card : List ℕ) (h : Header) (a : Both Areas Areas) (l : Both Lent Lent) (p : Plain) (x : Answered) : Type 0 where
+-- one call p of a script, from the header h: it hands back the header k, and the words of its answer; what it was lent and left stands
+-- first in route and log
+pub record OneContract (card : List ℕ) (h : Header) (a : Both Areas Areas) (l : Both Lent Lent) (p : Plain) (k : Header) (words : List ℕ)
+    : Type 0 where
   pub left : Step
-  pub answers : left .answer ≡ x .answer
+  pub answers : words ≡ answerWords (left .answer)
   pub meets : CallContract card (before h (a .entry)) (lend (l .entry) p) left
-  pub leaves : holding (x .header) (a .exit) (l .exit) ≡ onward (holding h (a .entry) (l .entry)) left
+  pub leaves : holding k (a .exit) (l .exit) ≡ onward (holding h (a .entry) (l .entry)) left
 
 -- the loop of calls, from the header h to the header k, with a work area of w entries
 abbrev pub MakeContract : (card : List ℕ) → Header → Both Areas Areas → Both Lent Lent → (w : ℕ) (script out₀ out : List ℕ) → Header
@@ -114,11 +116,11 @@ abbrev pub MakeContract : (card : List ℕ) → Header → Both Areas Areas → 
 MakeContract card h a l w script out₀ out k =
     Made card (callsIn script (lending (l .entry) w) out₀) out₀ out (holding h (a .entry) (l .entry)) (holding k (a .exit) (l .exit))
 
--- the areas and header that preparing on the areas a left, and go's two areas
+-- the areas and header that preparing on the areas a left, and route and log
 abbrev pub begun : (card : List ℕ) → Areas → Lent → Held
 begun card a l = record { state = prepare card a .state; lent = l }
 
--- the contract of a replay that prepares on the areas a, lends go of the areas l and a preview a work area of w entries, and hands x back
+-- the contract of a replay that prepares on the areas a, lends its calls of route and log, l, and a work area of w entries, hands x back
 pub record ReplayContract (card : List ℕ) (a : Both Areas Areas) (l : Both Lent Lent) (w : ℕ) (script out₀ out : List ℕ) (x : Answered)
     : Type 0 where
   pub prepared : x .answer ≡ prepare card (a .entry) .answer

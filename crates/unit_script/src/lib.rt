@@ -1,15 +1,18 @@
 // A script of calls as words: makes them one after the other, and writes the words of their answers.
 ghost use mathlib.Core.Path.{_≡_};
-ghost use mathlib.Core.List.{[], _∷_};
-ghost use Prim.Native.Nat.{_*_, _+_, _≤_, min, ℕ};
-ghost use lib.ListN.{getD, length};
 ghost use mathlib.Core.Option.{some};
+ghost use mathlib.Core.List.{List, [], _++_, _∷_};
+ghost use Prim.Native.Nat.{_*_, _+_, _≤_, min, ℕ};
+ghost use lib.ListN.{getD, length, replicate};
+ghost use Rattle.model.specs.Limits.{mostLegs};
 ghost use Rattle.unit_answers.specs.Shape.{answerIn, callIn, changeIn};
 ghost use Rattle.network.specs.Lending.{areas};
 ghost use Rattle.unit_questions.specs.Lending.{lent};
 ghost use Rattle.unit.specs.Shape.{answeredIn, headerIn};
-ghost use Rattle.unit_script.specs.Words.{answerSize, answerWords, changeWord, putAt, roomIn};
-ghost use Rattle.unit_script.specs.Words.{callAt, endAt, scriptedIn, spelled, wordsOf};
+ghost use Rattle.unit_stops.specs.Shape.{stoppingIn};
+ghost use Rattle.unit_stops.specs.Legs.{Rest};
+ghost use Rattle.unit_script.specs.Words.{answerSize, answerWords, changeWord, legsWords, madeWords, putAt, roomIn};
+ghost use Rattle.unit_script.specs.Words.{callAt, endAt, scriptedIn, spelled, stopsAt, wordsOf};
 ghost use Rattle.unit_script.specs.Script.{MakeContract, OneContract, ReplayContract, isNext};
 use network::Junction;
 use network::Time;
@@ -19,13 +22,19 @@ use unit::Header;
 use unit_answers::Answer;
 use unit_answers::Call;
 use unit_answers::Change;
+use unit_stops::Legs;
+use unit_stops::MOST_LEGS;
+use unit_stops::Stopped;
+use unit_stops::Stopping;
 
 // ---- the words of a call
 
-// What a call of a script asks: one of document 01's four, or a preview of a road, a time and a start.
+// What a call of a script asks: one of document 01's four, a preview of a road, a time and a start, or a list of stops, which stand in the
+// script.
 enum Asked {
     Four(Call),
     Preview(u32, Time, Junction),
+    Stops,
 }
 
 // A call of a script, and how many entries of route and log it is lent.
@@ -45,10 +54,12 @@ const ESTIMATE_WORDS: usize = 2;
 const GO_WORDS: usize = 4;
 // Preview: `4 road time start`.
 const PREVIEW_WORDS: usize = 4;
+// Stops: `5 stops route log`, and then so many stops.
+const STOPS_WORDS: usize = 4;
 
-// How many words a call has, its kind with them; 0 for a kind that is none.
-fn words_of(kind: u32) -> usize
-    ensures { λ r. ⌜ r ≡ wordsOf kind ⌝ }
+// How many words a call has, its kind with them, by its kind and the word behind it; 0 for a kind that is none.
+fn words_of(kind: u32, next: u32) -> usize
+    ensures { λ r. ⌜ r ≡ wordsOf kind next ⌝ }
 {
     if kind == 0 {
         return SET_WORDS;
@@ -65,6 +76,9 @@ fn words_of(kind: u32) -> usize
     if kind == 4 {
         return PREVIEW_WORDS;
     }
+    if kind == 5 {
+        return STOPS_WORDS + (next as usize);
+    }
     0
 }
 
@@ -78,7 +92,7 @@ fn at_most(word: u32, most: usize) -> usize
 
 // One of the four calls, and how many entries it is lent.
 fn lending(call: Call, route: usize, log: usize) -> Scripted
-    ensures { λ r. ⌜ ((w : ℕ) → scriptedIn r w ≡ record { asked = callIn call; route = route; log = log }) ⌝ }
+    ensures { λ r. ⌜ ((w : ℕ) (stops : List ℕ) → scriptedIn r w stops ≡ record { asked = callIn call; route = route; log = log }) ⌝ }
 {
     Scripted {
         asked: Asked::Four(call),
@@ -87,10 +101,11 @@ fn lending(call: Call, route: usize, log: usize) -> Scripted
     }
 }
 
-// The call that a kind and three words spell, beside areas of so many entries. Go is lent as many of them as its last two words say, all of
-// an area that has fewer; any other call is lent all, and leaves them.
+// The call that a kind and three words spell, beside areas of so many entries. A go and a list of stops are lent as many of them as their
+// last two words say, all of an area that has fewer; any other call is lent all, and leaves them.
 fn spell(kind: u32, one: u32, two: u32, three: u32, route: usize, log: usize) -> Scripted
-    ensures { λ r. ⌜ ((w : ℕ) → scriptedIn r w ≡ spelled kind one two three (record { route = route; log = log; work = w })) ⌝ }
+    ensures { λ r. ⌜ ((w : ℕ) (stops : List ℕ)
+        → scriptedIn r w stops ≡ spelled kind one two three stops (record { route = route; log = log; work = w })) ⌝ }
 {
     if kind == 0 {
         return lending(Call::Set(one, Time::of_word(two)), route, log);
@@ -101,15 +116,22 @@ fn spell(kind: u32, one: u32, two: u32, three: u32, route: usize, log: usize) ->
     if kind == 2 {
         return lending(Call::Estimate(Junction(one)), route, log);
     }
+    if kind == 4 {
+        return Scripted {
+            asked: Asked::Preview(one, Time::of_word(two), Junction(three)),
+            route: route,
+            log: log,
+        };
+    }
+    let roads = at_most(two, route);
+    let logged = at_most(three, log);
     if kind == 3 {
-        let roads = at_most(two, route);
-        let logged = at_most(three, log);
         return lending(Call::Go(Junction(one)), roads, logged);
     }
     Scripted {
-        asked: Asked::Preview(one, Time::of_word(two), Junction(three)),
-        route: route,
-        log: log,
+        asked: Asked::Stops,
+        route: roads,
+        log: logged,
     }
 }
 
@@ -132,14 +154,15 @@ fn end_at(script: &[u32], at: usize) -> usize
     requires { ⌜ at ≤ length (now script) ⌝ }
     ensures { λ r. ⌜ r ≡ endAt (now (script .entry)) at ⌝ }
 {
-    let w = words_of(word_at(script, at, 0));
+    let w = words_of(word_at(script, at, 0), word_at(script, at, 1));
     if w <= script.len() - at { at + w } else { at }
 }
 
 // That call, beside areas of so many entries.
 fn call_at(script: &[u32], at: usize, route: usize, log: usize) -> Scripted
     requires { ⌜ at ≤ length (now script) ⌝ }
-    ensures { λ r. ⌜ ((w : ℕ) → scriptedIn r w ≡ callAt (now (script .entry)) at (record { route = route; log = log; work = w })) ⌝ }
+    ensures { λ r. ⌜ ((w : ℕ) → scriptedIn r w (stopsAt (now (script .entry)) at)
+        ≡ callAt (now (script .entry)) at (record { route = route; log = log; work = w })) ⌝ }
 {
     spell(
         word_at(script, at, 0),
@@ -149,6 +172,25 @@ fn call_at(script: &[u32], at: usize, route: usize, log: usize) -> Scripted
         route,
         log,
     )
+}
+
+// The smaller of two numbers.
+fn smaller(a: usize, b: usize) -> usize
+    ensures { λ r. ⌜ r ≡ min a b ⌝ }
+{
+    if a < b { a } else { b }
+}
+
+// The stops of a list that stands there, as far as the script has them.
+fn stops_at(script: &[u32], at: usize) -> &[u32]
+    requires { ⌜ at ≤ length (now script) ⌝ }
+    ensures { λ r. ⌜ now r ≡ stopsAt (now (script .entry)) at ⌝ }
+{
+    let rest = script.len() - at;
+    let start = smaller(STOPS_WORDS, rest);
+    let number = word_at(script, at, 1) as usize;
+    let end = smaller(number, rest - start);
+    &script[at + start..at + start + end]
 }
 
 // Whether a call is made after k others, with room for so many answers: its answer has room, and it stands whole at its place.
@@ -161,26 +203,26 @@ fn is_next(script: &[u32], at: usize, k: usize, room: usize) -> bool
 
 // ---- the words of an answer
 
-// An answer is four words.
-const ANSWER_SIZE: usize = 4;
+// An answer is four words, and two for each leg that a list of stops may have.
+const LEG_WORDS: usize = 2;
+
+const ANSWER_SIZE: usize = 4 + LEG_WORDS * MOST_LEGS;
+
+// What a call hands back: the header, and its answer as words.
+struct Made {
+    header: Header,
+    one: u64,
+    two: u64,
+    three: u64,
+    four: u64,
+    legs: Legs,
+}
 
 // How many answers have room in an area of so many words.
 fn room_in(words: usize) -> usize
     ensures { λ r. ⌜ r ≡ roomIn words ⌝ }
 {
     words / ANSWER_SIZE
-}
-
-// Writes four words in the place of answer k.
-fn put_four(out: &mut [u64], k: usize, one: u64, two: u64, three: u64, four: u64)
-    requires { ⌜ answerSize * k + answerSize ≤ length (now out) ⌝ }
-    ensures { λ _. ⌜ now (out .exit) ≡ putAt (now (out .entry)) k (one ∷ two ∷ three ∷ four ∷ []) ⌝ }
-{
-    let i = ANSWER_SIZE * k;
-    out[i] = one;
-    out[i + 1] = two;
-    out[i + 2] = three;
-    out[i + 3] = four;
 }
 
 // The word of a signed number, two's complement.
@@ -203,24 +245,105 @@ fn change_word(change: Change) -> u64
     }
 }
 
-// Writes the words of answer k: the number of the question that refuses, or 0; estimate or total; count; number of roads. Of a preview: 0,
-// present total, new total, change.
-fn put_answer(out: &mut [u64], k: usize, x: Answer)
-    requires { ⌜ answerSize * k + answerSize ≤ length (now out) ⌝ }
-    ensures { λ _. ⌜ now (out .exit) ≡ putAt (now (out .entry)) k (answerWords (answerIn x)) ⌝ }
+// Four words, and no legs.
+fn four(header: Header, one: u64, two: u64, three: u64, four: u64) -> Made
+    ensures { λ r. ⌜ (headerIn (r .header) ≡ headerIn header)
+        × (madeWords r ≡ (one ∷ two ∷ three ∷ four ∷ []) ++ replicate (2 * mostLegs) 0) ⌝ }
 {
-    match x {
-        Answer::Refused(q) => put_four(out, k, q.question as u64, 0, q.count as u64, 0),
-        Answer::Accepted => put_four(out, k, 0, 0, 0, 0),
-        Answer::Estimated(t) => put_four(out, k, 0, t.word() as u64, 0, 0),
-        Answer::Gone(t, c, r) => put_four(out, k, 0, t, c as u64, r as u64),
-        Answer::Previewed(a, b, c) => put_four(out, k, 0, a.word(), b.word(), change_word(c)),
+    let totals = [0u64; MOST_LEGS];
+    let roads = [0u32; MOST_LEGS];
+    Made {
+        header: header,
+        one: one,
+        two: two,
+        three: three,
+        four: four,
+        legs: Legs {
+            totals: totals,
+            roads: roads,
+        },
     }
+}
+
+// The words of what a call handed back: the number of the question that refuses, or 0; estimate or total; count; number of roads. Of a
+// preview: 0, present total, new total, change.
+fn of_answered(r: Answered) -> Made
+    ensures { λ x. ⌜ (headerIn (x .header) ≡ headerIn (r .header)) × (madeWords x ≡ answerWords (answerIn (r .answer))) ⌝ }
+{
+    let header = r.header;
+    let answer = r.answer;
+    match answer {
+        Answer::Refused(q) => four(header, q.question as u64, q.place as u64, q.count as u64, 0),
+        Answer::Accepted => four(header, 0, 0, 0, 0),
+        Answer::Estimated(t) => four(header, 0, t.word() as u64, 0, 0),
+        Answer::Gone(t, c, k) => four(header, 0, t, c as u64, k as u64),
+        Answer::Previewed(a, b, c) => four(header, 0, a.word(), b.word(), change_word(c)),
+    }
+}
+
+// The words of what a list of stops handed back: 0, whole total, 0, number of legs, and total and number of roads of each.
+fn of_stopped(r: Stopped) -> Made
+    requires { ⌜ Rest r ⌝ }
+    ensures { λ x. ⌜ (headerIn (x .header) ≡ headerIn (r .header)) × (madeWords x ≡ answerWords (stoppingIn (r .answer) (r .legs))) ⌝ }
+{
+    let header = r.header;
+    let answer = r.answer;
+    let legs = r.legs;
+    match answer {
+        Stopping::Refused(q) => four(header, q.question as u64, q.place as u64, q.count as u64, 0),
+        Stopping::Stopped(k, whole) => Made {
+            header: header,
+            one: 0,
+            two: whole,
+            three: 0,
+            four: k as u64,
+            legs: legs,
+        },
+    }
+}
+
+// Writes four words in the place of answer k.
+fn put_four(out: &mut [u64], k: usize, one: u64, two: u64, three: u64, four: u64)
+    requires { ⌜ answerSize * k + answerSize ≤ length (now out) ⌝ }
+    ensures { λ _. ⌜ now (out .exit) ≡ putAt (now (out .entry)) (answerSize * k) (one ∷ two ∷ three ∷ four ∷ []) ⌝ }
+{
+    let i = ANSWER_SIZE * k;
+    out[i] = one;
+    out[i + 1] = two;
+    out[i + 2] = three;
+    out[i + 3] = four;
+}
+
+// Writes the legs in the place of answer k, behind its four words.
+fn put_legs(out: &mut [u64], k: usize, legs: Legs)
+    requires { ⌜ answerSize * k + answerSize ≤ length (now out) ⌝ }
+    ensures { λ _. ⌜ now (out .exit) ≡ putAt (now (out .entry)) (answerSize * k + 4)
+        (legsWords (legs .totals) (legs .roads) 0 mostLegs) ⌝ }
+{
+    let totals = legs.totals;
+    let roads = legs.roads;
+    let start = ANSWER_SIZE * k + 4;
+    let mut i = 0;
+    while i < MOST_LEGS {
+        out[start + LEG_WORDS * i] = totals[i];
+        out[start + LEG_WORDS * i + 1] = roads[i] as u64;
+        i += 1;
+    }
+}
+
+// Writes the words of answer k.
+fn put_made(out: &mut [u64], k: usize, m: Made)
+    requires { ⌜ answerSize * k + answerSize ≤ length (now out) ⌝ }
+    ensures { λ _. ⌜ now (out .exit) ≡ putAt (now (out .entry)) (answerSize * k) (madeWords m) ⌝ }
+{
+    put_four(out, k, m.one, m.two, m.three, m.four);
+    let legs = m.legs;
+    put_legs(out, k, legs);
 }
 
 // ---- the calls of a script
 
-// Makes one call, which is lent the first entries of route and log; a preview is lent the work area.
+// Makes one call, which is lent the first entries of route and log; a preview is lent the work area, a list of stops has its stops.
 fn make_call(
     header: Header,
     card: &[u8],
@@ -235,17 +358,18 @@ fn make_call(
     route: &mut [u32],
     log: &mut [u32],
     work: &mut [TimeWord],
+    stops: &[u32],
     c: Scripted,
-) -> Answered
+) -> Made
     requires { ⌜ (c .route ≤ length (now route)) × (c .log ≤ length (now log)) ⌝ }
     ensures { λ r. ⌜ OneContract (now (card .entry)) (headerIn header) (areas ranks pairs live down estimates elapsed leaving groups)
-        (lent route log) (scriptedIn c (length (now (work .entry)))) (answeredIn r) ⌝ }
+        (lent route log) (scriptedIn c (length (now (work .entry))) (now (stops .entry))) (headerIn (r .header)) (madeWords r) ⌝ }
 {
     let asked = c.asked;
     let roads = c.route;
     let logged = c.log;
     match asked {
-        Asked::Four(call) => unit::call(
+        Asked::Four(call) => of_answered(unit::call(
             header,
             card,
             ranks,
@@ -259,8 +383,8 @@ fn make_call(
             &mut route[..roads],
             &mut log[..logged],
             call,
-        ),
-        Asked::Preview(road, time, start) => header.preview(
+        )),
+        Asked::Preview(road, time, start) => of_answered(header.preview(
             card,
             ranks,
             pairs,
@@ -274,7 +398,22 @@ fn make_call(
             road,
             time,
             start,
-        ),
+        )),
+        Asked::Stops => of_stopped(unit_stops::stops(
+            header,
+            card,
+            ranks,
+            pairs,
+            live,
+            down,
+            estimates,
+            elapsed,
+            leaving,
+            groups,
+            &mut route[..roads],
+            &mut log[..logged],
+            stops,
+        )),
     }
 }
 
@@ -319,18 +458,18 @@ fn make_calls(
             route,
             log,
             work,
+            stops_at(script, at),
             c,
         );
         h = r.header;
-        let x = r.answer;
-        put_answer(out, k, x);
+        put_made(out, k, r);
         at = end_at(script, at);
         k += 1;
     }
     h
 }
 
-// Prepares the card and makes the calls of a script; writes four words for each answer. A preview is lent the work area.
+// Prepares the card and makes the calls of a script; writes the words of each answer. A preview is lent the work area.
 // Hands back preparing's answer and the last header.
 pub fn replay(
     card: &[u8],

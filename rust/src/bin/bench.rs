@@ -3,7 +3,7 @@
 
 use harness::areas;
 use harness::both::Both;
-use harness::calls::{Calls, Previewed, Refusal};
+use harness::calls::{Calls, Previewed, Refusal, Stopped};
 use harness::card::{self, LONGEST, MOST_JUNCTIONS};
 use harness::dijkstra;
 use harness::graph::Graph;
@@ -32,8 +32,10 @@ const TOWNS: [(usize, usize); 5] = [(10, 20), (20, 25), (25, 40), (40, 50), (64,
 /// How long the functions of a line are run in turn, and at least how often.
 const BUDGET: Duration = Duration::from_secs(1);
 const ROUNDS: usize = 20;
-/// Trips, and targets, on each map.
+/// Trips, targets, and lists of stops, on each map.
 const TRIPS: usize = 20;
+/// Stops of a list.
+const STOPS: usize = 8;
 
 fn main() {
     let asked = Asked::of(env::args_os().skip(1)).unwrap_or_else(refuse);
@@ -171,6 +173,7 @@ impl Measured {
         bench.estimates();
         bench.set();
         bench.preview();
+        bench.stops();
         for percent in [0, 1, 5] {
             bench.go(percent);
         }
@@ -335,6 +338,32 @@ impl Bench<'_> {
         Outlook { n: self.map.n(), road, time, start, target }
     }
 
+    /// Lists of stops. Each leg aims for itself, so no estimate is known to it.
+    fn stops(&mut self) {
+        let lists: Vec<[u32; STOPS]> = (0..TRIPS).map(|_| self.list()).collect();
+        let mut areas = self.both.unit.clone();
+        let Both { unit, router, .. } = &mut self.both;
+        for list in &lists {
+            stopped(unit, router, &mut areas, list);
+        }
+        let [lent, plain, other] = &mut Lent::three(self.map.n());
+        let times = measure(
+            TRIPS,
+            [
+                &mut |i| timed(|| unit.stops(&lists[i], &mut lent.route, &mut lent.log)),
+                &mut |i| timed(|| router.stops(&lists[i], &mut plain.route, &mut plain.log)),
+                &mut |i| {
+                    timed(|| areas::stops(&mut areas, &lists[i], &mut other.route, &mut other.log))
+                },
+            ],
+        );
+        self.line_with_areas("stops", times);
+    }
+
+    fn list(&mut self) -> [u32; STOPS] {
+        array::from_fn(|_| self.random.below(self.map.n()) as u32)
+    }
+
     /// Trips with so many percent of the roads changed: right after an aim, so with no estimate known,
     /// and again, with those known that they ask for.
     fn go(&mut self, percent: usize) {
@@ -432,6 +461,37 @@ impl Outlook {
         let answer = black_box(preview(work));
         (start.elapsed(), answer.ok())
     }
+}
+
+/// What is lent to a list of stops.
+#[derive(Clone, PartialEq, Eq)]
+struct Lent {
+    route: Vec<u32>,
+    log: Vec<u32>,
+}
+
+impl Lent {
+    fn three(n: usize) -> [Lent; 3] {
+        [(); 3].map(|()| Lent { route: vec![0; STOPS * n], log: vec![0; n] })
+    }
+}
+
+/// The answer to a list of stops, which is the same by all three, as are roads, log and areas.
+fn stopped(
+    unit: &mut Unit,
+    router: &mut Router,
+    areas: &mut Unit,
+    stops: &[u32],
+) -> Option<Stopped> {
+    let [mut lent, mut plain, mut other] = Lent::three(unit.ranks.len());
+    let answer = unit.stops(stops, &mut lent.route, &mut lent.log);
+    let by_router = router.stops(stops, &mut plain.route, &mut plain.log);
+    assert_eq!(answer, by_router, "proved (left), plain (right)");
+    let by_areas = areas::stops(areas, stops, &mut other.route, &mut other.log);
+    assert_eq!(answer, by_areas, "proved (left), areas (right)");
+    assert!(lent == plain && lent == other, "what is lent differs");
+    assert!(areas == unit, "the areas differ");
+    answer.ok()
 }
 
 /// The estimates of some junctions, right after an aim.
@@ -566,14 +626,16 @@ none, in a least-degree one, and has a table of its own at the end, under its na
   Of the changed roads, half are closed and half delayed to two to ten times their base time.
 - **preview**: 20 trips in the same way, no road changed, each with a road from the middle of its way previewed at ten times its base time, so
   two searches; **preview again**: the same once more. Under *areas* in Rust too over the unit's areas, the work area and a binary heap.
+- **stops**: 20 lists of 8 stops between any two junctions, no road changed, so 7 aims and 7 goes each. Under *areas* likewise.
 - **settled**: how many junctions the unit logs in a trip, and how many Dijkstra's algorithm settles; means.
 
 ";
 
 /// The largest town's ratios as earlier landings left them, in the columns of `Report::landings`.
-const BEFORE: [[&str; 6]; 2] = [
-    ["8, before A1", "1.52", "2.65 (3.90)", "1.98 (2.84)", "1.57 (2.33)", ""],
-    ["9, A1", "1.53", "0.892 (1.35)", "0.853 (1.30)", "0.833 (1.26)", ""],
+const BEFORE: [[&str; 7]; 3] = [
+    ["8, before A1", "1.52", "2.65 (3.90)", "1.98 (2.84)", "1.57 (2.33)", "", ""],
+    ["9, A1", "1.53", "0.892 (1.35)", "0.853 (1.30)", "0.833 (1.26)", "", ""],
+    ["10, A2", "1.43", "0.889 (1.37)", "0.857 (1.25)", "0.775 (1.06)", "1.16 (1.20)", ""],
 ];
 
 impl Display for Report {
@@ -668,15 +730,15 @@ impl Report {
         };
         let n = large.map.n();
         write!(f, "\nRatios at {n} junctions by landing, to Rust and in brackets to A\\*, ")?;
-        f.write_str("of a preview (A2) to Rust on the areas:\n\n")?;
-        f.write_str("| landing | prepare | again, 0 % | 1 % | 5 % | preview again |\n")?;
-        f.write_str("|:--|--:|--:|--:|--:|--:|\n")?;
+        f.write_str("of a preview (A2) and a list of stops (A3) to Rust on the areas:\n\n")?;
+        f.write_str("| landing | prepare | again, 0 % | 1 % | 5 % | preview again | stops |\n")?;
+        f.write_str("|:--|--:|--:|--:|--:|--:|--:|\n")?;
         for cells in BEFORE {
             writeln!(f, "| {} |", cells.join(" | "))?;
         }
         let again = ["0", "1", "5"].map(|part| ratio(&format!("again, {part} % of roads changed")));
-        let [prepare, preview] = ["prepare", "preview again"].map(ratio);
-        writeln!(f, "| this run | {prepare} | {} | {preview} |", again.join(" | "))
+        let [prepare, preview, stops] = ["prepare", "preview again", "stops"].map(ratio);
+        writeln!(f, "| this run | {prepare} | {} | {preview} | {stops} |", again.join(" | "))
     }
 }
 
@@ -817,10 +879,26 @@ mod tests {
         assert!(longer > TRIPS / 2, "{longer} of {TRIPS}");
     }
 
-    /// The landings' table has a column for each step of it, and one for previews.
+    /// Most lists lead all the way, and all three answer alike.
+    #[test]
+    fn lists_of_stops() {
+        let map = maps::town(&mut Random::new(1), 20, 25, Streets::USUAL);
+        let both = Both::prepare(&map, order::pairs(&map)).unwrap();
+        let mut bench = Bench { map: &map, both, random: Random::new(2), lines: Vec::new() };
+        let mut areas = bench.both.unit.clone();
+        let mut found = 0;
+        for _ in 0..TRIPS {
+            let list = bench.list();
+            let Both { unit, router, .. } = &mut bench.both;
+            found += stopped(unit, router, &mut areas, &list).is_some() as usize;
+        }
+        assert!(found > TRIPS / 2, "{found} of {TRIPS}");
+    }
+
+    /// The landings' table has a column for each step of it, one for previews and one for lists of stops.
     #[test]
     fn landings_in_the_report() {
-        let steps = ["prepare", "again, 0 % of roads changed", "preview again"];
+        let steps = ["prepare", "again, 0 % of roads changed", "preview again", "stops"];
         let towns = TOWNS.map(|(width, _)| {
             let lines = steps.map(|step| Line::with_areas(step, [3.0, 2.0, 6.0])).into();
             Measured { map: maps::line(width), pairs: width - 1, lines }
@@ -829,8 +907,8 @@ mod tests {
         let (_, table) = report.split_once("by landing").unwrap();
         let rows: Vec<&str> = table.lines().filter(|line| line.starts_with('|')).collect();
         let columns = rows.iter().map(|row| row.matches('|').count());
-        assert_eq!(columns.collect::<Vec<_>>(), [7; 3 + BEFORE.len()], "{table}");
-        let last = "| this run | 1.50 (0.500) | 1.50 (0.500) |  |  | 1.50 (0.500) |";
+        assert_eq!(columns.collect::<Vec<_>>(), [8; 3 + BEFORE.len()], "{table}");
+        let last = "| this run | 1.50 (0.500) | 1.50 (0.500) |  |  | 1.50 (0.500) | 1.50 (0.500) |";
         assert_eq!(rows.last(), Some(&last));
     }
 

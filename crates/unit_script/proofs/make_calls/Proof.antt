@@ -1,13 +1,15 @@
 -- Each turn makes the call that stands at a place of the script, writes its answer behind those before it, and goes on where the call ends.
 -- So the calls made and those from the place on are always the calls of the script (`Run`), and at the end none is left (`run-end`).
-use mathlib.Core.Path.{_∙_, _≡_, sym}
+use mathlib.Core.Path.{_∙_, _≡_, ap, sym}
 use mathlib.Core.Bool.{true}
 use Prim.Native.Nat.{_-_, _<_}
 use native.Mathlib.Omega.{arith}
 use Rattle.model.specs.Areas.{areasOf}
 use Rattle.unit_questions.specs.Lending.{lentOf}
 use Rattle.unit.specs.Shape.{headerIn}
+use Rattle.unit_script.specs.Words.{scriptedIn}
 use Rattle.unit_script.specs.Script.{holding, isNext}
+use Rattle.unit_script.proofs.Answers.{made-length}
 use Rattle.unit_script.proofs.Scripts.{AtTurn, run-end, run-turn, turn-ends, turn-fits, turn-room, turn-start}
 use Rattle.unit_script.proofs.make_calls.Statement.{statement}
 use Rattle.unit_script.proofs.make_calls.Tie as tie
@@ -38,31 +40,40 @@ room-left c = let at-loop = c .before .before in turn-room (at-loop .loop .inv) 
 
 -- ---- where it was made
 
-abbrev after-route : tie.After-put-answer-arg Inv-loop μ-loop → tie.After-route Inv-loop μ-loop
+abbrev after-route : tie.After-put-made-arg Inv-loop μ-loop → tie.After-route Inv-loop μ-loop
 after-route c = c .before .before .before .before .before .before .before
 
-abbrev after-make-call : tie.After-put-answer-arg Inv-loop μ-loop → tie.After-make-call Inv-loop μ-loop
+abbrev after-make-call : tie.After-put-made-arg Inv-loop μ-loop → tie.After-make-call Inv-loop μ-loop
 after-make-call c = after-route c .before .before .before .before .before .before .before .before .before
 
-abbrev after-call-at : tie.After-put-answer-arg Inv-loop μ-loop → tie.After-call-at Inv-loop μ-loop
-after-call-at c = after-make-call c .before .before .before .before .before .before .before .before
+abbrev after-stops-at : tie.After-put-made-arg Inv-loop μ-loop → tie.After-stops-at Inv-loop μ-loop
+after-stops-at c = after-make-call c .before
 
-abbrev then1 : tie.After-put-answer-arg Inv-loop μ-loop → tie.Then1 Inv-loop μ-loop
-then1 c = after-call-at c .before
+abbrev after-call-at : tie.After-stops-at Inv-loop μ-loop → tie.After-call-at Inv-loop μ-loop
+after-call-at c = c .before .before .before .before .before .before .before .before
 
-abbrev at-loop : tie.After-put-answer-arg Inv-loop μ-loop → tie.At-loop Inv-loop μ-loop
+abbrev then1 : tie.After-put-made-arg Inv-loop μ-loop → tie.Then1 Inv-loop μ-loop
+then1 c = after-call-at (after-stops-at c) .before
+
+abbrev at-loop : tie.After-put-made-arg Inv-loop μ-loop → tie.At-loop Inv-loop μ-loop
 at-loop c = then1 c .before .before
 
 -- ---- the answers
 
+stops-at-requires : tie.Need-stops-at-requires Inv-loop μ-loop
+stops-at-requires c κs =
+    let after-call-at = c .before .before .before .before .before .before .before in
+    let at-loop = after-call-at .before .before .before in
+    at-loop .loop .inv .within
+
 make-call-requires : tie.Need-make-call-requires Inv-loop μ-loop
 make-call-requires c κs =
-    let after-call-at = c .before .before .before .before .before .before .before in
+    let after-call-at = after-call-at c in
     let at-loop = after-call-at .before .before .before in
     turn-fits (at-loop .loop .inv) 0 (after-call-at .call-at .ensures 0)
 
-put-answer-requires : tie.Need-put-answer-requires Inv-loop μ-loop
-put-answer-requires c κs =
+put-made-requires : tie.Need-put-made-requires Inv-loop μ-loop
+put-made-requires c κs =
     omega (arith, room-left (then1 c), at-loop c .loop .inv .words, at-loop c .before .room-in .ensures)
 
 end-at-requires : tie.Need-end-at-requires Inv-loop μ-loop
@@ -78,13 +89,15 @@ loop-less c = let at-put = c .before .before .before .before in omega (arith, ro
 
 loop-again : tie.Need-loop-again Inv-loop μ-loop
 loop-again c =
-    let after-put-answer = c .before .before .before in
-    let at-put = after-put-answer .before in
+    let after-put-made = c .before .before .before in
+    let at-put = after-put-made .before in
     let make-call = after-make-call at-put .make-call in
+    let stops-at = after-stops-at at-put .stops-at in
+    let call-at = after-call-at (after-stops-at at-put) .call-at in
     let inv = at-loop at-put .loop .inv in
     let (_, (_, (_, (_, (live-kept, (down-kept, (estimates-kept, (elapsed-kept, kept)))))))) = make-call .kept in
     let (_, (_, (route-kept, (log-kept, (work-kept, _))))) = kept in
-    let (words-kept, _) = after-put-answer .put-answer .kept in
+    let (words-kept, _) = after-put-made .put-made .kept in
     record {
       within = turn-ends inv (c .end-at .ensures);
       live = live-kept ∙ inv .live;
@@ -96,7 +109,8 @@ loop-again c =
       work-is = work-kept ∙ inv .work-is;
       words = words-kept ∙ inv .words;
       run = run-turn (inv .run) (next-is (then1 at-put)) (inv .route) (inv .log) (inv .work-is)
-          (after-call-at at-put .call-at .ensures _) (c .end-at .ensures) (make-call .ensures) (after-put-answer .put-answer .ensures);
+          (ap (scriptedIn (call-at .result) _) (stops-at .ensures) ∙ call-at .ensures _) (c .end-at .ensures) (make-call .ensures)
+          (made-length (make-call .result)) (after-put-made .put-made .ensures);
     }
 
 returns : tie.Need-returns Inv-loop μ-loop
@@ -114,8 +128,9 @@ make-calls-spec =
     (λ c. turn-start)
     (λ c κs. c .loop .inv .within)
     (λ c κs. c .before .before .loop .inv .within)
+    stops-at-requires
     make-call-requires
-    put-answer-requires
+    put-made-requires
     end-at-requires
     add-k
     loop-less

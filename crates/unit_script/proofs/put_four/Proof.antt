@@ -1,7 +1,9 @@
 -- Four writes one behind the other are those four words in the place of what stood there (`four-stored`).
+use Prim.Native.Nat.{_*_}
 use lib.ListN.{length-set}
 use native.Mathlib.Omega.{arith}
-use Rattle.unit_script.proofs.Words.{four-stored}
+use Rattle.unit_script.specs.Words.{answerSize}
+use Rattle.unit_script.proofs.Answers.{four-stored}
 use borrow.Author.Needs.{needs}
 use Rattle.unit_script.proofs.put_four.Statement.{statement}
 use Rattle.unit_script.proofs.put_four.Tie as tie
@@ -16,7 +18,7 @@ slice-write-out-4 : tie.Need-slice-write-out-4
 slice-write-out-4 c = simp length-set (omega arith)
 
 returns : tie.Need-returns
-returns c = let a = c .args in four-stored (a .out .now) (a .k) (a .one) (a .two) (a .three) (a .four) (search needs)
+returns c = let a = c .args in four-stored (a .out .now) (answerSize * a .k) (a .one) (a .two) (a .three) (a .four) (omega (arith, c .pre))
 
 pub put-four-spec : {M : Type 1} → statement M
 put-four-spec =

@@ -20,12 +20,13 @@ use Rattle.model.specs.Aim.{aimRefusal}
 use Rattle.model.specs.Estimate.{estimateRefusal}
 use Rattle.model.specs.Go.{goRefusal}
 use Rattle.model.specs.Preview.{previewRefusal, workSize}
-use Rattle.model.specs.Calls.{Aim, Asked, Call, Estimate, Go, Left, Preview, Set, Writes, calling, knownOf, made, refusalBy, step}
+use Rattle.model.specs.Stops.{stopsRefusal}
+use Rattle.model.specs.Calls.{Aim, Asked, Call, Estimate, Go, Left, Preview, Set, Stops, Writes, calling, knownOf, made, refusalBy, step}
 use Rattle.model.specs.Contracts.{CallContract, baseOn, before, refusing}
 use Rattle.model.specs.Good.{Good, left-good, left-in-range, zero-refused}
 use Rattle.model.specs.Chain.{step-lengths}
 use Rattle.unit_questions.specs.Lending.{fitsBy}
-use Rattle.unit.proofs.Bodies.{good-base, road-word}
+use Rattle.unit.specs.Roads.{good-base, road-word}
 
 -- ---- in a state that a list of calls left
 
@@ -43,7 +44,7 @@ set-same {card} {s} i t good = go (decLt i (s .header .m))
 module _ {card : List ℕ} {s : State} (w : Left card s) where
   -- the card's base times are the map's, so the same questions refuse
   same-questions : (c : Call) → refusalBy (mapOn card .base .cost) (s .header) c ≡ refusalBy (baseOn card) (s .header) c
-  unfolding aimRefusal estimateRefusal goRefusal previewRefusal
+  unfolding aimRefusal estimateRefusal goRefusal previewRefusal stopsRefusal
   same-questions c = go (c .asked) (c .lent)
     where
       good : (i : ℕ) → i < s .header .m → Good card s
@@ -61,9 +62,10 @@ module _ {card : List ℕ} {s : State} (w : Left card s) where
       go (Estimate j) l = refl
       go (Go j) l = refl
       go (Preview i t j work) l = ap (previewed j work) (set-same i t (good i))
+      go (Stops stops) l = refl
 
 -- a call that none of its own questions refuses is made where there is a junction or a road
-passed-there : (base : ℕ → Option ℕ) (h : Header) (c : Call) → refusalBy base h c ≡ none → 0 < h .n + h .m
+pub passed-there : (base : ℕ → Option ℕ) (h : Header) (c : Call) → refusalBy base h c ≡ none → 0 < h .n + h .m
 passed-there base h c e = go (decLt 0 (h .n + h .m))
   where
     go : Dec (0 < h .n + h .m) → 0 < h .n + h .m
@@ -128,9 +130,14 @@ module _ {card : List ℕ} {h : Header} {a : Areas} {c : Call} where
       anywhere = λ g. record { refuses = λ q d. absurd (none-some x d); writes = λ d. w };
     }
 
+    -- what a list of calls left, as the definition makes it
+    pub made-left : {r : Step} → (Left card (before h a) → r ≡ made (mapOn card) (before h a) (c .asked) (c .lent))
+        → Writes (before h a) (c .asked) (c .lent) r → CallContract card (before h a) c r
+    made-left e w = made-where (λ l. e l ∙ steps-made card h a c f x l) w
+
     pub made-by : {r : Step} → (Good card (before h a) → r ≡ made (mapOn card) (before h a) (c .asked) (c .lent))
         → Writes (before h a) (c .asked) (c .lent) r → CallContract card (before h a) c r
-    made-by e w = made-where (λ l. e (left-good l (passed-there (baseOn card) h c x)) ∙ steps-made card h a c f x l) w
+    made-by e w = made-left (λ l. e (left-good l (passed-there (baseOn card) h c x))) w
 
     -- what no list of calls leaves
     pub never-left : {r : Step} → (Good card (before h a) → ⊥) → Writes (before h a) (c .asked) (c .lent) r

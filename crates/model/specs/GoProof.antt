@@ -1,0 +1,288 @@
+-- One go from a good state: its answer and its route are right (`go-right`), the plain machine tells the same (`go-told`), and the two lent
+-- areas keep their lengths (`go-lengths`). Assumes nothing.
+use mathlib.Core.Path.{_∙_, _≡_, ap, refl, subst, sym}
+use mathlib.Core.Logic.{_⊎_, inl, inr}
+use mathlib.Core.Bool.{Bool, _&&_, false, true}
+use mathlib.Core.Option.{Option, none, some}
+use mathlib.Core.List.{List}
+use Prim.Native.Nat.{_<_, _≤_, suc, zero, ℕ}
+use lib.Dec.{leb, lit<, ltb}
+use lib.ListN.{length, length-reverse, take}
+use native.Mathlib.Omega.{arith}
+use Rattle.graph.specs.Total.{Total, _⊕_, decideOption, noMore, none-some, some-some, true-false}
+use Rattle.graph.specs.Least.{least-unique}
+use Rattle.graph.specs.Lists.{countBelow, filter, range}
+use Rattle.graph.specs.Route.{listed-path, path-listed}
+use Rattle.graph.specs.Search.{Problem, countOf, history, logOf, routeOf, totalOf, vertices}
+use Rattle.graph.specs.Map.{Map, estimateOf, estimateOf-dist, liveNet, timeOf, timeOf-least}
+use Rattle.graph.specs.Go.{Demand, go-meets, go-well-formed, goOf}
+use Rattle.graph.specs.Complete.{history-reached, length-le, length-vertices}
+use Rattle.model.specs.Types.{Absent, Answer, At, Gone, LentLengths, NoJunction, NoPath, NoTarget, Refusal, Refused, Target}
+use Rattle.model.specs.Card.{ask, mapOn}
+use Rattle.model.specs.State.{Lent, State, Step, first, unless}
+use Rattle.model.specs.Machine.{Known, LivePath, Machine, isAt, knownTo, leastBase, targetOf}
+use Rattle.model.specs.Go.{GoRight, RouteRight, TripRight, byNumber, foundTold, goAnswer, goMade, goRefusal, goRoute, liveOf}
+use Rattle.model.specs.Go.{goTold, plainSearch, searchOf}
+use Rattle.model.specs.Calls.{Call, askedOf, goCall, refusalOf, step}
+use Rattle.model.specs.Demand3.{Same}
+use Rattle.model.specs.Laws.{first-length, first-take}
+use Rattle.model.specs.Accept.{card-facts}
+use Rattle.model.specs.Good.{Aims, Good, after-9, go-passed, good-fits, good-slower}
+use Rattle.model.specs.Alike.{count-same, log-same, route-same}
+
+-- ---- the machine that a state stands for
+
+abbrev pub machineOf : State → Machine
+machineOf s = record { live = liveOf (s .areas .live); target = s .header .target }
+
+-- ---- the questions
+
+module _ {card : List ℕ} {s : State} (g : Good card s) where
+  -- the target in force is a junction
+  target-below : (t : Target) (d e : List ℕ) → Aims (mapOn card) t d e → isAt t ≡ true → targetOf t < mapOn card .vertices
+  target-below (At z) d e a h = a .below
+  target-below Absent d e a h = absurd (true-false h refl)
+
+  -- the target in force, once a question asked for it
+  pub in-force : isAt (s .header .target) ≡ true → targetOf (s .header .target) < mapOn card .vertices
+  in-force h = target-below (s .header .target) (s .areas .aimed .down) (s .areas .aimed .estimates) (g .aims) h
+
+  pub target-in : (z : ℕ) → s .header .target ≡ At z → isAt (s .header .target) ≡ true → z < mapOn card .vertices
+  target-in z e h = let k : targetOf (s .header .target) ≡ z = ap targetOf e in rw k at (in-force h)
+
+  -- question 9 passes, so the machine asks the same questions
+  pub asked-is : (c : Call)
+      → askedOf card s c ≡ refusalOf (knownTo (mapOn card) (machineOf s)) (c .asked) (length (c .lent .route)) (length (c .lent .log))
+  asked-is c = rw (good-fits g, g .n-is, g .m-is)
+
+-- ---- the unit's totals are the machine's
+
+module _ {card : List ℕ} {s : State} (g : Good card s) where
+  pub estimate-is : (z v : ℕ) → z < mapOn card .vertices → v < mapOn card .vertices
+      → estimateOf (mapOn card) z v ≡ leastBase (mapOn card) z v
+  estimate-is z v lz lv = estimateOf-dist (card-facts card (g .accepted) .valid) z lz v lv
+
+  pub go-demand : (j z : ℕ) → j < mapOn card .vertices → z < mapOn card .vertices
+      → Demand (mapOn card) (liveOf (s .areas .live)) j z (searchOf (mapOn card) (s .areas .live) j z)
+  go-demand j z lj lz = go-meets (card-facts card (g .accepted) .valid) (good-slower g) byNumber lj lz
+
+  pub total-is : (j z : ℕ) → j < mapOn card .vertices → z < mapOn card .vertices
+      → totalOf (searchOf (mapOn card) (s .areas .live) j z) ≡ timeOf (mapOn card) (liveOf (s .areas .live)) j z
+  total-is j z lj lz =
+      least-unique (go-demand j z lj lz .total) (timeOf-least (card-facts card (g .accepted) .valid) (liveOf (s .areas .live)) j z)
+
+  -- the two searches have one log, one route and one count
+  pub search-is : (j z : ℕ) → z < mapOn card .vertices
+      → let G = searchOf (mapOn card) (s .areas .live) j z in
+      let P = plainSearch (mapOn card) (liveOf (s .areas .live)) j z in
+      (countOf G ≡ countOf P) × (routeOf G ≡ routeOf P) × (logOf G ≡ logOf P)
+  unfolding goOf plainSearch
+  search-is j z lz =
+      let G = searchOf (mapOn card) (s .areas .live) j z in
+      let p = leastBase (mapOn card) z in
+      let e : (v : ℕ) → v < mapOn card .vertices → estimateOf (mapOn card) z v ≡ p v = λ v lv. estimate-is z v lz lv in
+      (count-same G p e, route-same G p e, log-same G p e)
+
+-- ---- answers
+
+gone-not-refused : {a : Answer} {q : Refusal} {T c k : ℕ} → a ≡ Refused q → a ≡ Gone T c k → ⊥
+gone-not-refused p e = let z : _≡_ {A = ℕ} 0 1 = cc in omega arith
+
+pub refused-is : {a : Answer} {p q : Refusal} → a ≡ Refused p → a ≡ Refused q → p ≡ q
+refused-is e f = cc
+
+-- a total's answer
+gone-is : (x : Total) (c k : ℕ) {T c' k' : ℕ} → goAnswer x c k ≡ Gone T c' k' → (x ≡ some T) × (c ≡ c') × (k ≡ k')
+gone-is none c k e = absurd (gone-not-refused refl e)
+gone-is (some t) c k {T} {c'} {k'} e = parts refl e
+  where
+    parts : {a : Answer} → a ≡ Gone t c k → a ≡ Gone T c' k' → (some t ≡ some T) × (c ≡ c') × (k ≡ k')
+    parts p q = (cc, cc, cc)
+
+lost-is : (x : Total) (c k : ℕ) {q : Refusal} → goAnswer x c k ≡ Refused q → x ≡ none
+lost-is none c k e = refl
+lost-is (some t) c k e = absurd (gone-not-refused e refl)
+
+-- a refusal by a question before the k-th
+module _ (k : ℕ) where
+  pub asked-before : (b : Bool) (q : Refusal) (rest : Option Refusal) → q .question < k → ((p : Refusal) → rest ≡ some p → p .question < k)
+      → (p : Refusal) → ask b q rest ≡ some p → p .question < k
+  asked-before true q rest h f p e = f p e
+  asked-before false q rest h f p e = subst (λ (r : Refusal). r .question < k) (some-some refl e) h
+
+before-15 : (k : Known) (j r l : ℕ) (p : Refusal) → goRefusal k j r l ≡ some p → p .question < 15
+unfolding goRefusal
+before-15 k j r l =
+    asked-before 15 (ltb j (k .n)) NoJunction _ (lit< tt)
+    (asked-before 15 (isAt (k .target)) NoTarget _ (lit< tt)
+    (asked-before 15 (leb (k .n) r && leb (k .n) l) LentLengths none (lit< tt) (λ p e. absurd (none-some refl e))))
+
+not-15 : {p : Refusal} {c : ℕ} → p .question < 15 → p ≡ NoPath c → ⊥
+not-15 {p} {c} h e = let z : p .question ≡ 15 = ap (λ (r : Refusal). r .question) e in omega arith
+
+-- ---- counting depends on the numbers below n
+
+module _ (p q : ℕ → Bool) where
+  filter-same : (n : ℕ) → ((v : ℕ) → v < n → p v ≡ q v) → filter p (range n) ≡ filter q (range n)
+  unfolding filter range
+  filter-same zero h = refl
+  filter-same (suc n) h =
+      let r = filter-same n (λ v l. h v (omega arith)) in
+      rw (h n (omega arith), r)
+
+  count-below-same : (n : ℕ) → ((v : ℕ) → v < n → p v ≡ q v) → countBelow p n ≡ countBelow q n
+  unfolding countBelow
+  count-below-same n h = ap length (filter-same n h)
+
+-- ---- one go, of any step that answers by the search and writes its route first
+
+module _ {M : Map} {live : ℕ → Total} {s z : ℕ} {G : Problem} (D : Demand M live s z G)
+    (estimates : (v : ℕ) → v < M .vertices → estimateOf M z v ≡ leastBase M z v) (u : Step) (area : List ℕ)
+    (answer-is : u .answer ≡ goAnswer (totalOf G) (countOf G) (length (routeOf G)))
+    (route-is : u .lent .route ≡ goRoute (totalOf G) (routeOf G) area) where
+  count-right : (T : ℕ) → totalOf G ≡ some T
+      → countOf G ≤ countBelow (λ v. noMore (timeOf M live s v ⊕ leastBase M z v) (some T)) (M .vertices)
+  count-right T q =
+      let e =
+      count-below-same
+      (λ v. noMore (timeOf M live s v ⊕ estimateOf M z v) (some T))
+      (λ v. noMore (timeOf M live s v ⊕ leastBase M z v) (some T))
+      (M .vertices)
+      (λ v lv. ap (λ (x : Total). noMore (timeOf M live s v ⊕ x) (some T)) (estimates v lv)) in
+      omega (arith, D .count T q, e)
+
+  found-right : (T c k : ℕ) → u .answer ≡ Gone T c k → RouteRight M live s z T c k (u .lent .route)
+  found-right T c k e =
+      let p = gone-is (totalOf G) (countOf G) (length (routeOf G)) (sym answer-is ∙ e) in
+      let r : take k (u .lent .route) ≡ routeOf G = rw (route-is, p .0, ← (p .2)) (first-take (routeOf G) area) in
+      record {
+        leads = rw r (D .route T (p .0) .0);
+        total = rw r (D .route T (p .0) .1);
+        least = λ t w. rw (p .0) at (D .total .bound t (listed-path (liveNet M live) (w .arcs) (w .leads) (w .sums)));
+        count = rw (p .1) at (count-right T (p .0));
+      }
+
+  lost-right : (c : ℕ) → u .answer ≡ Refused (NoPath c) → (t : ℕ) → LivePath M live s z t → ⊥
+  lost-right c e t w =
+      let p = lost-is (totalOf G) (countOf G) (length (routeOf G)) (sym answer-is ∙ e) in
+      rw p at (D .total .bound t (listed-path (liveNet M live) (w .arcs) (w .leads) (w .sums)))
+
+  told-right : ((t : ℕ) → LivePath M live s z t → ⊥) → (c : ℕ) × (u .answer ≡ Refused (NoPath c))
+  told-right no-path = go (decideOption (totalOf G))
+    where
+      go : (totalOf G ≡ none) ⊎ ((t : ℕ) × (totalOf G ≡ some t)) → (c : ℕ) × (u .answer ≡ Refused (NoPath c))
+      go (inl q) = (countOf G, answer-is ∙ rw q)
+      go (inr q) = absurd (no-path (q .0) (path-listed (D .total .attained (q .0) (q .1))))
+
+-- ---- a go that was asked
+
+module _ {card : List ℕ} {s : State} (g : Good card s) where
+  pub go-right : (j : ℕ) (l : Lent) → GoRight (mapOn card) (machineOf s) j l (step card s (goCall j l))
+  unfolding step
+  go-right j l z e =
+      let k : targetOf (s .header .target) ≡ z = ap targetOf e in
+      subst (λ (y : ℕ). Trip y (askedOf card s (goCall j l))) k (go (askedOf card s (goCall j l)) refl)
+    where
+      Trip : (target : ℕ) → Option Refusal → Type 0
+      Trip z x = TripRight (mapOn card) (machineOf s) j (length (l .route)) (length (l .log)) z (unless x s l (goMade (mapOn card) s j l))
+
+      go : (x : Option Refusal) → askedOf card s (goCall j l) ≡ x → Trip (targetOf (s .header .target)) x
+      go (some q) h = record {
+        found = λ T c k a. absurd (gone-not-refused refl a);
+        lost = λ c a t w.
+            let asked = sym (asked-is g (goCall j l)) ∙ h in
+            let earlier = before-15 (knownTo (mapOn card) (machineOf s)) j (length (l .route)) (length (l .log)) q asked in
+            absurd (not-15 earlier (refused-is refl a));
+        told = λ a w. absurd (none-some a (sym (asked-is g (goCall j l)) ∙ h));
+      }
+      go none h =
+          let z = targetOf (s .header .target) in
+          let q = go-passed g j (length (l .route)) (length (l .log)) (after-9 g (goCall j l) h) in
+          let lz = in-force g (q .target) in
+          let D = go-demand g j z (q .start) lz in
+          let E : (v : ℕ) → v < mapOn card .vertices → estimateOf (mapOn card) z v ≡ leastBase (mapOn card) z v =
+          λ v lv. estimate-is g z v lz lv in
+          let u = goMade (mapOn card) s j l in
+          record {
+            found = found-right D E u (l .route) refl refl;
+            lost = lost-right D E u (l .route) refl refl;
+            told = λ a w. told-right D E u (l .route) refl refl w;
+          }
+
+-- a go's answer and what stands first in its areas
+go-same : (x : Total) (G P : Problem) (s : State) (m : Machine) (l : Lent)
+    → countOf G ≡ countOf P → routeOf G ≡ routeOf P → logOf G ≡ logOf P
+    → Same (record {
+      answer = goAnswer x (countOf G) (length (routeOf G));
+      state = s;
+      lent = record { route = goRoute x (routeOf G) (l .route); log = first (vertices (logOf G)) (l .log) };
+    }) (foundTold x P m)
+go-same none G P s m l c r k = record { answer = rw c; roads = refl; log = rw k (first-take (vertices (logOf P)) (l .log)) }
+go-same (some t) G P s m l c r k = record {
+  answer = rw (c, r);
+  roads = rw r (first-take (routeOf P) (l .route));
+  log = rw k (first-take (vertices (logOf P)) (l .log));
+}
+
+pub told-next : (x : Total) (P : Problem) (m : Machine) → foundTold x P m .next ≡ m
+told-next none P m = refl
+told-next (some t) P m = refl
+
+module _ {card : List ℕ} {s : State} (g : Good card s) where
+  -- a go that no question refuses is the machine's
+  pub go-told : (j : ℕ) (l : Lent) → j < mapOn card .vertices → isAt (s .header .target) ≡ true
+      → Same (goMade (mapOn card) s j l) (goTold (mapOn card) (machineOf s) j)
+  go-told j l lj h =
+      let M = mapOn card in
+      let z = targetOf (s .header .target) in
+      let lz = in-force g h in
+      let (counts, routes, logs) = search-is g j z lz in
+      let G = searchOf M (s .areas .live) j z in
+      let P = plainSearch M (liveOf (s .areas .live)) j z in
+      rw (← total-is g j z lj lz) (go-same (totalOf G) G P (goMade M s j l .state) (machineOf s) l counts routes logs)
+
+-- ---- lengths
+
+-- log and route have room in areas of n entries
+pub log-fits : {card : List ℕ} {s : State} → Good card s → (j z : ℕ) → j < mapOn card .vertices → z < mapOn card .vertices
+    → countOf (searchOf (mapOn card) (s .areas .live) j z) ≤ mapOn card .vertices
+unfolding goOf countOf logOf
+log-fits {card} {s} g j z lj lz =
+    let G = searchOf (mapOn card) (s .areas .live) j z in
+    omega (
+      arith,
+      length-reverse (history G),
+      length-le (go-well-formed (card-facts card (g .accepted) .valid) (good-slower g) byNumber lj lz) (history-reached G),
+    )
+
+route-length : (x : Total) (r area : List ℕ) → ((t : ℕ) → x ≡ some t → length r ≤ length area) → length (goRoute x r area) ≡ length area
+route-length none r area h = refl
+route-length (some t) r area h = first-length r area (h t refl)
+
+-- two lent areas have the lengths of two others
+pub record SameLengths (a b : Lent) : Type 0 where
+  pub route : length (a .route) ≡ length (b .route)
+  pub log : length (a .log) ≡ length (b .log)
+
+module _ {card : List ℕ} {s : State} (g : Good card s) where
+  -- a route has fewer roads than there are junctions
+  pub route-short : (j z t : ℕ) → j < mapOn card .vertices → z < mapOn card .vertices
+      → totalOf (searchOf (mapOn card) (s .areas .live) j z) ≡ some t
+      → length (routeOf (searchOf (mapOn card) (s .areas .live) j z)) < mapOn card .vertices
+  route-short j z t lj lz e = omega (arith, go-demand g j z lj lz .short t e, log-fits g j z lj lz)
+
+  -- a go's two areas keep their lengths
+  pub go-lengths : (j : ℕ) (l : Lent) → j < mapOn card .vertices → isAt (s .header .target) ≡ true
+      → mapOn card .vertices ≤ length (l .route) → mapOn card .vertices ≤ length (l .log)
+      → SameLengths (goMade (mapOn card) s j l .lent) l
+  unfolding countOf
+  go-lengths j l lj h lr ll =
+      let z = targetOf (s .header .target) in
+      let lz = in-force g h in
+      let G = searchOf (mapOn card) (s .areas .live) j z in
+      let k = log-fits g j z lj lz in
+      let v = length-vertices (logOf G) in
+      record {
+        route = route-length (totalOf G) (routeOf G) (l .route) (λ t e. (let d = route-short j z t lj lz e in omega (arith, d, lr)));
+        log = first-length (vertices (logOf G)) (l .log) (omega (arith, v, k, ll));
+      }

@@ -1,0 +1,319 @@
+-- A list of stops from a good state, by induction over the stops: each leg is a go whose laws GoProof has. The plain machine makes the same
+-- legs (`stops-told`), they are right and so is the whole (`stops-right`), and the two lent areas keep their lengths (`stops-lengths`).
+-- Assumes nothing.
+use mathlib.Core.Path.{_∙_, _≡_, ap, ap₂, refl, subst, sym}
+use mathlib.Core.Bool.{Bool, _&&_, false, true}
+use mathlib.Core.Option.{Option, none, some}
+use mathlib.Core.List.{List, List·Memᴰ·head, List·Memᴰ·tail, [], _++_, _∷_}
+use Prim.Native.Nat.{_*_, _<_, _≤_, suc, zero, ℕ}
+use lib.Dec.{leb, lit<}
+use lib.ListN.{drop, getD, length, length-append, length-drop, take}
+use lib.Seq.{drop-append-seam, length-take-le, take-append-add, take-append-seam}
+use native.Mathlib.Decide.{decLt}
+use native.Mathlib.Nat.{not-suc-le-zero}
+use native.Mathlib.Omega.{arith}
+use Rattle.graph.specs.Total.{Total, _⊕_, none-some, ⊕-some}
+use Rattle.graph.specs.Least.{IsLeast}
+use Rattle.graph.specs.Route.{listed-least, listed-path, path-listed}
+use Rattle.graph.specs.Search.{Problem, routeOf, totalOf}
+use Rattle.graph.specs.Stops.{Below, whole-at-most, wholeFrom}
+use Rattle.graph.specs.Map.{Map, liveNet, timeOf, timeOf-least}
+use Rattle.graph.specs.Go.{Demand}
+use Rattle.model.specs.Types.{Answer, Leg, LentLengths, NoJunction, NoLeg, Refusal, Refused, StopCount, Stopped}
+use Rattle.model.specs.Limits.{fewestStops, mostStops}
+use Rattle.model.specs.Card.{mapOn}
+use Rattle.model.specs.State.{Lent, State, Step, unless}
+use Rattle.model.specs.Machine.{Known, LivePath, Machine, knownTo}
+use Rattle.model.specs.Go.{foundTold, goRoute, liveOf, plainSearch, searchOf}
+use Rattle.model.specs.Stops.{FirstLost, Journey, JourneyRight, LegRight, LegsRight, NoChain, PlainJourney, StopsRight, allBelow}
+use Rattle.model.specs.Stops.{journey, legMade, past, plainJourney, plainLeg, stopsAnswer, stopsMade, stopsRefusal}
+use Rattle.model.specs.Stops.{stopsTold, wholeOf, withLeg}
+use Rattle.model.specs.Calls.{askedOf, step, stopsCall}
+use Rattle.model.specs.Demand3.{Same}
+use Rattle.model.specs.Laws.{first-take}
+use Rattle.model.specs.Accept.{card-facts}
+use Rattle.model.specs.Good.{Good, StopsPassed, after-9, aim-good, below-further, leg-good, stops-passed}
+use Rattle.model.specs.GoProof.{SameLengths, asked-before, asked-is, go-demand, go-lengths, go-told, machineOf, refused-is}
+use Rattle.model.specs.GoProof.{route-short, search-is, told-next, total-is}
+
+-- ---- the machine makes the same legs
+
+-- a journey of the unit, and one of the machine
+pub record Agree (j : Journey) (p : PlainJourney) : Type 0 where
+  pub legs : j .legs ≡ p .legs
+  pub complete : j .complete ≡ p .complete
+  pub next : p .next ≡ machineOf (j .state)
+  pub roads : take (length (p .roads)) (j .lent .route) ≡ p .roads
+  pub log : take (length (p .log)) (j .lent .log) ≡ p .log
+
+-- roads that stand first, and more that stand first after them
+roads-follow : (r more area : List ℕ) → take (length more) area ≡ more → take (length (r ++ more)) (r ++ area) ≡ r ++ more
+roads-follow r more area h = rw (length-append r more) (take-append-add r area (length more) ∙ ap (λ (l : List ℕ). r ++ l) h)
+
+-- one leg, of the route r: the unit's left u, the machine's has the search P and leaves m; j and p are the journeys on from there
+agree-leg : (x : Total) (P : Problem) (r : List ℕ) (m : Machine) (u : Step) (j : Journey) (p : PlainJourney)
+    → r ≡ routeOf P → m ≡ machineOf (u .state) → Same u (foundTold x P m) → Agree j p
+    → Agree (withLeg x (length r) u j) (plainLeg x (foundTold x P m) p)
+agree-leg none P r m u j p e next same on = record { legs = refl; complete = refl; next = next; roads = refl; log = same .log }
+agree-leg (some t) P r m u j p e next same on =
+    let first-roads : take (length r) (u .lent .route) ≡ routeOf P = rw e (same .roads) in
+    record {
+      legs = rw (e, on .legs);
+      complete = on .complete;
+      next = on .next;
+      roads = rw first-roads (roads-follow (routeOf P) (p .roads) (j .lent .route) (on .roads));
+      log = on .log;
+    }
+
+module _ {card : List ℕ} where
+  agree : (s : State) (log : List ℕ) (a : ℕ) (stops : List ℕ) (l : Lent) → Good card s → a < mapOn card .vertices
+      → Below (mapOn card .vertices) stops → take (length log) (l .log) ≡ log
+      → Agree (journey (mapOn card) s a stops l) (plainJourney (mapOn card) (machineOf s) log a stops)
+  agree s log a [] l g la below h = record { legs = refl; complete = refl; next = refl; roads = refl; log = h }
+  agree s log a (b ∷ stops) l g la below h =
+      let M = mapOn card in
+      let live = liveOf (s .areas .live) in
+      let lb = below b (List·Memᴰ·head refl) in
+      let G = searchOf M (s .areas .live) a b in
+      let P = plainSearch M live a b in
+      let k = length (routeOf G) in
+      let u = legMade M s a b l in
+      let m = machineOf (u .state) in
+      let t = foundTold (timeOf M live a b) P m in
+      let same : Same u t = go-told (aim-good g b l lb) a l la refl in
+      let further : Below (M .vertices) stops = λ v w. below v (List·Memᴰ·tail w) in
+      let on = agree (u .state) (t .log) b stops (past k (u .lent)) (leg-good g a b l lb) lb further (same .log) in
+      let j = journey M (u .state) b stops (past k (u .lent)) in
+      let next = told-next (timeOf M live a b) P m in
+      let p = plainJourney M (t .next) (t .log) b stops in
+      let on′ : Agree j p = subst (λ (m′ : Machine). Agree j (plainJourney M m′ (t .log) b stops)) (sym next) on in
+      let leg = agree-leg (timeOf M live a b) P (routeOf G) m u j p (search-is g a b lb .1) refl same on′ in
+      subst (λ (x : Total). Agree (withLeg x k u j) (plainLeg (timeOf M live a b) t p)) (sym (total-is g a b la lb)) leg
+
+-- the first stop of a list that 16 and 12 passed
+first-below : {n : ℕ} (stops : List ℕ) → fewestStops ≤ length stops → Below n stops → getD stops 0 0 < n
+first-below [] few below = absurd (not-suc-le-zero few)
+first-below (a ∷ stops) few below = below a (List·Memᴰ·head refl)
+
+module _ {card : List ℕ} {s : State} (g : Good card s) (stops : List ℕ) (l : Lent)
+    (q : StopsPassed g stops (length (l .route)) (length (l .log))) where
+  stops-agree : Agree (journey (mapOn card) s (getD stops 0 0) (drop 1 stops) l)
+      (plainJourney (mapOn card) (machineOf s) [] (getD stops 0 0) (drop 1 stops))
+  stops-agree =
+      agree s [] (getD stops 0 0) (drop 1 stops) l g (first-below stops (q .fewest) (q .below)) (below-further stops (q .below)) refl
+
+  -- a list of stops that no question refuses is the machine's
+  pub stops-told : Same (stopsMade (mapOn card) s stops l) (stopsTold (mapOn card) (machineOf s) stops)
+  stops-told =
+      let a = stops-agree in
+      record { answer = ap₂ stopsAnswer (a .complete) (a .legs); roads = a .roads; log = a .log }
+
+  -- and the machine goes on as the unit does
+  pub stops-next : stopsTold (mapOn card) (machineOf s) stops .next ≡ machineOf (stopsMade (mapOn card) s stops l .state)
+  stops-next = stops-agree .next
+
+-- ---- lengths
+
+-- a leg of k roads that keeps the lengths, and legs after it that keep those of what is lent to them
+leg-lengths : (x : Total) (k : ℕ) (u : Step) (j : Journey) (l : Lent) → SameLengths (u .lent) l
+    → ((t : ℕ) → x ≡ some t → (k ≤ length (l .route)) × SameLengths (j .lent) (past k (u .lent))) → SameLengths (withLeg x k u j .lent) l
+leg-lengths none k u j l leg on = leg
+leg-lengths (some t) k u j l leg on =
+    let (room, rest) = on t refl in
+    let whole = length-append (take k (u .lent .route)) (j .lent .route) in
+    let done = length-take-le k (u .lent .route) (omega (arith, room, leg .route)) in
+    let left = length-drop k (u .lent .route) in
+    record { route = omega (arith, room, whole, done, left, leg .route, rest .route); log = rest .log ∙ leg .log }
+
+module _ {card : List ℕ} where
+  -- each leg has fewer than n roads, so n entries are left of the route for each leg to come
+  pub journey-lengths : (s : State) (a : ℕ) (stops : List ℕ) (l : Lent) → Good card s → a < mapOn card .vertices
+      → Below (mapOn card .vertices) stops → length stops * mapOn card .vertices ≤ length (l .route)
+      → mapOn card .vertices ≤ length (l .log) → SameLengths (journey (mapOn card) s a stops l .lent) l
+  journey-lengths s a [] l g la below room log = record { route = refl; log = refl }
+  journey-lengths s a (b ∷ stops) l g la below room log =
+      let M = mapOn card in
+      let n = M .vertices in
+      let lb = below b (List·Memᴰ·head refl) in
+      let G = searchOf M (s .areas .live) a b in
+      let k = length (routeOf G) in
+      let u = legMade M s a b l in
+      let one : n ≤ length (l .route) = omega (arith, room) in
+      let leg = go-lengths (aim-good g b l lb) a l la refl one log in
+      let left = length-drop k (u .lent .route) in
+      leg-lengths (totalOf G) k u (journey M (u .state) b stops (past k (u .lent))) l leg (λ t e.
+      let short = route-short g a b t la lb e in (
+        omega (arith, short, one),
+        journey-lengths (u .state) b stops (past k (u .lent)) (leg-good g a b l lb) lb (λ v w. below v (List·Memᴰ·tail w))
+            (omega (arith, room, short, left, leg .route)) (omega (arith, log, leg .log)),
+      ))
+
+  pub stops-lengths : {s : State} (g : Good card s) (stops : List ℕ) (l : Lent)
+      → StopsPassed g stops (length (l .route)) (length (l .log)) → SameLengths (stopsMade (mapOn card) s stops l .lent) l
+  stops-lengths {s} g [] l q = absurd (not-suc-le-zero (q .fewest))
+  stops-lengths {s} g (a ∷ stops) l q =
+      let room : length stops * mapOn card .vertices ≤ length (l .route) = omega (arith, q .route) in
+      journey-lengths s a stops l g (q .below a (List·Memᴰ·head refl)) (λ v w. q .below v (List·Memᴰ·tail w)) room (q .log)
+
+-- ---- how a journey ends: with its last leg, or at the first one that has no chain
+
+pub data Ended (M : Map) (live : ℕ → Total) (a : ℕ) (stops : List ℕ) (j : Journey) : Type 0 where
+  arrived : j .complete ≡ true → LegsRight M live a stops (j .legs) (j .lent .route)
+      → wholeFrom (timeOf M live) a stops ≡ some (wholeOf (j .legs)) → Ended M live a stops j
+  left-off : j .complete ≡ false → FirstLost M live (a ∷ stops) (length (j .legs)) → Ended M live a stops j
+
+-- one leg more at the beginning
+module _ {M : Map} {live : ℕ → Total} {a b : ℕ} {G : Problem} (D : Demand M live a b G) (timed : totalOf G ≡ timeOf M live a b)
+    (stops : List ℕ) where
+  no-chain : totalOf G ≡ none → (t : ℕ) → LivePath M live a b t → ⊥
+  no-chain e t w = rw e at (D .total .bound t (listed-path (liveNet M live) (w .arcs) (w .leads) (w .sums)))
+
+  -- its roads stand first in its part of the area
+  leg-right : (t : ℕ) (more : List ℕ) → totalOf G ≡ some t
+      → LegRight M live a b (record { total = t; roads = length (routeOf G) }) (routeOf G ++ more)
+  leg-right t more e =
+      let (leads, sums) = D .route t e in
+      let first : take (length (routeOf G)) (routeOf G ++ more) ≡ routeOf G = take-append-seam (routeOf G) more in
+      record {
+        leads = rw first leads;
+        total = rw first sums;
+        least = λ u w. rw e at (D .total .bound u (listed-path (liveNet M live) (w .arcs) (w .leads) (w .sums)));
+      }
+
+  -- a later leg is lost, and this one is not
+  lost-later : (t k : ℕ) → totalOf G ≡ some t → FirstLost M live (b ∷ stops) k → FirstLost M live (a ∷ b ∷ stops) (suc k)
+  lost-later t k e f = record { inside = omega (arith, f .inside); lost = f .lost; first = earlier }
+    where
+      earlier : (i : ℕ) → i < suc k → NoChain M live (a ∷ b ∷ stops) i → ⊥
+      earlier zero h lost = lost t (path-listed (D .total .attained t e))
+      earlier (suc i) h lost = f .first i (omega arith) lost
+
+  ended-leg : (x : Total) (u : Step) (area : List ℕ) (j : Journey) → totalOf G ≡ x → u .lent .route ≡ goRoute x (routeOf G) area
+      → Ended M live b stops j → Ended M live a (b ∷ stops) (withLeg x (length (routeOf G)) u j)
+  ended-leg none u area j e r on =
+      left-off refl (record { inside = omega arith; lost = no-chain e; first = λ i h. absurd (not-suc-le-zero h) })
+  ended-leg (some t) u area j e r (left-off c f) = left-off c (lost-later t (length (j .legs)) e f)
+  ended-leg (some t) u area j e r (arrived c legs whole) =
+      let roads : take (length (routeOf G)) (u .lent .route) ≡ routeOf G = rw r (first-take (routeOf G) area) in
+      let rest = drop-append-seam (routeOf G) (j .lent .route) in
+      arrived c (rw roads (leg-right t (j .lent .route) e, rw rest legs)) (ap₂ _⊕_ (sym timed ∙ e) whole)
+
+module _ {card : List ℕ} where
+  ended : (s : State) (a : ℕ) (stops : List ℕ) (l : Lent) → Good card s → a < mapOn card .vertices → Below (mapOn card .vertices) stops
+      → Ended (mapOn card) (liveOf (s .areas .live)) a stops (journey (mapOn card) s a stops l)
+  ended s a [] l g la below = arrived refl tt refl
+  ended s a (b ∷ stops) l g la below =
+      let M = mapOn card in
+      let lb = below b (List·Memᴰ·head refl) in
+      let G = searchOf M (s .areas .live) a b in
+      let k = length (routeOf G) in
+      let u = legMade M s a b l in
+      let on = ended (u .state) b stops (past k (u .lent)) (leg-good g a b l lb) lb (λ v w. below v (List·Memᴰ·tail w)) in
+      let j = journey M (u .state) b stops (past k (u .lent)) in
+      ended-leg (go-demand g a b la lb) (total-is g a b la lb) stops (totalOf G) u (l .route) j refl refl on
+
+-- ---- answers
+
+stopped-not-refused : {a : Answer} {q : Refusal} {legs : List Leg} {t : ℕ} → a ≡ Refused q → a ≡ Stopped legs t → ⊥
+stopped-not-refused p e = let z : _≡_ {A = ℕ} 0 1 = cc in omega arith
+
+stopped-is : {a : Answer} {x y : List Leg} {t u : ℕ} → a ≡ Stopped x t → a ≡ Stopped y u → (x ≡ y) × (t ≡ u)
+stopped-is p q = (cc, cc)
+
+no-leg-is : {a : Answer} {i k : ℕ} → a ≡ Refused (NoLeg i) → a ≡ Refused (NoLeg k) → i ≡ k
+no-leg-is p q = ap (λ (r : Refusal). r .place) (refused-is p q)
+
+answer-arrived : (c : Bool) (legs : List Leg) → c ≡ true → stopsAnswer c legs ≡ Stopped legs (wholeOf legs)
+answer-arrived c legs e = rw e
+
+answer-left-off : (c : Bool) (legs : List Leg) → c ≡ false → stopsAnswer c legs ≡ Refused (NoLeg (length legs))
+answer-left-off c legs e = rw e
+
+before-17 : (k : Known) (stops : List ℕ) (r l : ℕ) (p : Refusal) → stopsRefusal k stops r l ≡ some p → p .question < 17
+unfolding stopsRefusal
+before-17 k stops r l =
+    asked-before 17 (leb fewestStops (length stops) && leb (length stops) mostStops) StopCount _ (lit< tt)
+    (asked-before 17 (allBelow (k .n) stops) NoJunction _ (lit< tt)
+    (asked-before 17 (leb (length stops * k .n) r && leb (k .n) l) LentLengths none (lit< tt) (λ p e. absurd (none-some refl e))))
+
+not-17 : {p : Refusal} {i : ℕ} → p .question < 17 → p ≡ NoLeg i → ⊥
+not-17 {p} {i} h e = let z : p .question ≡ 17 = ap (λ (r : Refusal). r .question) e in omega arith
+
+-- ---- what is right about a journey, by how it ended
+
+-- there is one first leg without a chain
+first-one : {M : Map} {live : ℕ → Total} {stops : List ℕ} {i k : ℕ} → FirstLost M live stops i → FirstLost M live stops k → i ≡ k
+first-one {i = i} {k} f h = go (decLt i k) (decLt k i)
+  where
+    go : Dec (i < k) → Dec (k < i) → i ≡ k
+    go (yes l) d = absurd (h .first i l (f .lost))
+    go (no l) (yes m) = absurd (f .first k m (h .lost))
+    go (no l) (no m) = omega arith
+
+-- where the whole is a number, every leg has a total
+each-leg : (leg : ℕ → ℕ → Total) (a : ℕ) (stops : List ℕ) (t : ℕ) → wholeFrom leg a stops ≡ some t
+    → (k : ℕ) → suc k < length (a ∷ stops) → (x : ℕ) × (leg (getD (a ∷ stops) k 0) (getD stops k 0) ≡ some x)
+each-leg leg a [] t e k h = let z : ⊥ = omega (arith, h) in absurd z
+each-leg leg a (b ∷ stops) t e zero h = let p = ⊕-some (leg a b) (wholeFrom leg b stops) t e in (p .0, p .2)
+each-leg leg a (b ∷ stops) t e (suc k) h =
+    let p = ⊕-some (leg a b) (wholeFrom leg b stops) t e in
+    each-leg leg b stops (p .1) (p .3) k (omega (arith, h))
+
+module _ {M : Map} {live : ℕ → Total} (least : (a b : ℕ) → IsLeast (LivePath M live a b) (timeOf M live a b)) {a : ℕ} {stops : List ℕ}
+    {j : Journey} (below : Below (M .vertices) (a ∷ stops)) where
+  journey-right : Ended M live a stops j → (legs : List Leg) (whole : ℕ) → stopsAnswer (j .complete) (j .legs) ≡ Stopped legs whole
+      → JourneyRight M live (a ∷ stops) legs whole (j .lent .route)
+  journey-right (left-off c f) legs whole e = absurd (stopped-not-refused (answer-left-off (j .complete) (j .legs) c) e)
+  journey-right (arrived c r w) legs whole e =
+      let (legs-are, whole-is) = stopped-is (answer-arrived (j .complete) (j .legs) c) e in
+      record {
+        legs-right = subst (λ (x : List Leg). LegsRight M live a stops x (j .lent .route)) legs-are r;
+        whole-is = sym whole-is ∙ ap wholeOf legs-are;
+        at-most = λ t m. rw (w ∙ ap some whole-is) at (whole-at-most (liveNet M live) (λ x y lx ly. least x y) a stops below t m);
+      }
+
+  lost-first : Ended M live a stops j → (k : ℕ) → stopsAnswer (j .complete) (j .legs) ≡ Refused (NoLeg k) → FirstLost M live (a ∷ stops) k
+  lost-first (arrived c r w) k e = absurd (stopped-not-refused e (answer-arrived (j .complete) (j .legs) c))
+  lost-first (left-off c f) k e =
+      let i-is = no-leg-is (answer-left-off (j .complete) (j .legs) c) e in
+      subst (λ (i : ℕ). FirstLost M live (a ∷ stops) i) i-is f
+
+  first-told : Ended M live a stops j → (k : ℕ) → FirstLost M live (a ∷ stops) k → stopsAnswer (j .complete) (j .legs) ≡ Refused (NoLeg k)
+  first-told (left-off c f) k h = answer-left-off (j .complete) (j .legs) c ∙ ap (λ (i : ℕ). Refused (NoLeg i)) (first-one f h)
+  first-told (arrived c r w) k h =
+      let (x, e) = each-leg (timeOf M live) a stops (wholeOf (j .legs)) w k (h .inside) in
+      absurd (h .lost x (least (getD (a ∷ stops) k 0) (getD stops k 0) .attained x e))
+
+-- ---- a list of stops that was asked
+
+module _ {card : List ℕ} {s : State} (g : Good card s) where
+  made-right : (stops : List ℕ) (l : Lent) → StopsPassed g stops (length (l .route)) (length (l .log))
+      → StopsRight (mapOn card) (machineOf s) stops l (stopsMade (mapOn card) s stops l)
+  made-right [] l q = absurd (not-suc-le-zero (q .fewest))
+  made-right (a ∷ stops) l q =
+      let live = liveOf (s .areas .live) in
+      let below = q .below in
+      let end = ended s a stops l g (below a (List·Memᴰ·head refl)) (λ v w. below v (List·Memᴰ·tail w)) in
+      let least : (x y : ℕ) → IsLeast (LivePath (mapOn card) live x y) (timeOf (mapOn card) live x y) =
+      λ x y. listed-least (timeOf-least (card-facts card (g .accepted) .valid) live x y) in
+      record {
+        found = journey-right least below end;
+        lost = lost-first least below end;
+        told = λ h. first-told least below end;
+      }
+
+  pub stops-right : (stops : List ℕ) (l : Lent) → StopsRight (mapOn card) (machineOf s) stops l (step card s (stopsCall stops l))
+  unfolding step
+  stops-right stops l = go (askedOf card s (stopsCall stops l)) refl
+    where
+      go : (x : Option Refusal) → askedOf card s (stopsCall stops l) ≡ x
+          → StopsRight (mapOn card) (machineOf s) stops l (unless x s l (stopsMade (mapOn card) s stops l))
+      go none h = made-right stops l (stops-passed g stops (length (l .route)) (length (l .log)) (after-9 g (stopsCall stops l) h))
+      go (some q) h =
+          let asked = sym (asked-is g (stopsCall stops l)) ∙ h in
+          let earlier = before-17 (knownTo (mapOn card) (machineOf s)) stops (length (l .route)) (length (l .log)) q asked in
+          record {
+            found = λ legs whole e. absurd (stopped-not-refused refl e);
+            lost = λ k e. absurd (not-17 earlier (refused-is refl e));
+            told = λ e k f. absurd (none-some e asked);
+          }

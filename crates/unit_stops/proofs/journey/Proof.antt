@@ -1,0 +1,158 @@
+-- Each turn makes one leg on the part of the route area behind the roads so far, and notes its total and number of roads (`turn-again`); a
+-- leg without a path ends the list (`turn-lost`), and so does the last stop (`turn-end`).
+use mathlib.Core.Path.{_∙_}
+use Prim.Native.Nat.{_-_, _<_}
+use borrow.Author.Needs.{needs}
+use native.Mathlib.Omega.{arith}
+use Rattle.model.specs.Limits.{mostLegs}
+use Rattle.model.specs.Areas.{areasOf}
+use Rattle.model.specs.Contracts.{before}
+use Rattle.unit_questions.specs.Lending.{lentOf}
+use Rattle.unit.specs.Shape.{headerIn}
+use Rattle.unit_stops.proofs.Turns.{AtLeg, route-stays, still-within, turn-again, turn-end, turn-lost, turn-start}
+use Rattle.unit_stops.proofs.journey.Statement.{statement}
+use Rattle.unit_stops.proofs.journey.Tie as tie
+
+abbrev Inv-loop : tie.InvT-loop
+Inv-loop card ranks pairs live down₀ estimates₀ elapsed₀ leaving groups route₀ log₀ stops totals₀ roads₀ number h₀ whole₀ at₀ i₀
+    down estimates elapsed route log totals roads h whole at i =
+    AtLeg card stops number
+    (before (headerIn h₀) (areasOf ranks pairs live down₀ estimates₀ elapsed₀ leaving groups)) (lentOf route₀ log₀)
+    (before (headerIn h) (areasOf ranks pairs live down estimates elapsed leaving groups)) (lentOf route log)
+    totals roads whole at i
+
+abbrev μ-loop : tie.MeasureT-loop
+μ-loop card ranks pairs live down₀ estimates₀ elapsed₀ leaving groups route₀ log₀ stops totals₀ roads₀ number h₀ whole₀ at₀ i₀
+    down estimates elapsed route log totals roads h whole at i = number - i
+
+-- ---- places
+
+abbrev start : tie.At-loop Inv-loop μ-loop → tie.Start Inv-loop μ-loop
+start c = c .before .before .before .before .before .before .before .before .before .before .before .before .before
+
+abbrev in-loop : tie.After-leg Inv-loop μ-loop → tie.In-loop Inv-loop μ-loop
+in-loop c = c .before .before .before .before .before .before .before .before
+
+-- the leg that was made: it has a path, or none
+abbrev found : tie.After-known-told Inv-loop μ-loop → tie.After-leg Inv-loop μ-loop
+found c = c .before .before .before .before .before .before .before .before .before .before .before .before .before .before
+
+abbrev lost : tie.At-match-keys2 Inv-loop μ-loop → tie.After-leg Inv-loop μ-loop
+lost c = c .before .before .before .before .before .before .before .before .before .before .before .before
+
+-- ---- facts
+
+-- a leg is below the number of legs, for which there is room
+few : (c : tie.In-loop Inv-loop μ-loop) → c .before .loop .i < mostLegs
+few c = omega (arith, c .loop-test .taken, start (c .before) .pre .many)
+
+-- ---- the answers
+
+sub-number : tie.Need-sub-number Inv-loop μ-loop
+sub-number c =
+    let start = c .before .before .before .before .before .before .before .before .before .before .before .before in
+    omega (arith, start .pre .few)
+
+further-requires : tie.Need-further-requires Inv-loop μ-loop
+further-requires c κs =
+    let leg = found (c .before) in
+    let (_, (_, (_, (_, (_, (_, (_, (_, kept)))))))) = leg .leg .kept in
+    let (_, (_, (route-kept, _))) = kept in
+    let at-loop = in-loop leg .before in
+    still-within (leg .leg .result) (in-loop leg .loop-test .taken) (at-loop .loop .inv) (leg .leg .ensures) route-kept
+
+same-length : tie.Need-same-length Inv-loop μ-loop
+same-length c =
+    let leg = lost (c .before .before) in
+    let (_, (_, (_, (_, (_, (down-kept, _)))))) = leg .leg .kept in
+    down-kept ∙ in-loop leg .before .loop .inv .down
+
+same-length-2 : tie.Need-same-length-2 Inv-loop μ-loop
+same-length-2 c =
+    let leg = lost (c .before .before) in
+    let (_, (_, (_, (_, (_, (_, (estimates-kept, _))))))) = leg .leg .kept in
+    estimates-kept ∙ in-loop leg .before .loop .inv .estimates
+
+same-length-3 : tie.Need-same-length-3 Inv-loop μ-loop
+same-length-3 c =
+    let leg = lost (c .before .before) in
+    let (_, (_, (_, (_, (_, (_, (_, (elapsed-kept, _)))))))) = leg .leg .kept in
+    elapsed-kept ∙ in-loop leg .before .loop .inv .elapsed
+
+same-length-4 : tie.Need-same-length-4 Inv-loop μ-loop
+same-length-4 c =
+    let leg = lost (c .before .before) in
+    let (_, (_, (_, (_, (_, (_, (_, (_, kept)))))))) = leg .leg .kept in
+    let (_, (_, (route-kept, _))) = kept in
+    let at-loop = in-loop leg .before in
+    route-stays (leg .leg .result) (in-loop leg .loop-test .taken) (at-loop .loop .inv) (leg .leg .ensures) route-kept
+
+same-length-5 : tie.Need-same-length-5 Inv-loop μ-loop
+same-length-5 c =
+    let leg = lost (c .before .before) in
+    let (_, (_, (_, (_, (_, (_, (_, (_, kept)))))))) = leg .leg .kept in
+    let (_, (_, (_, (log-kept, _)))) = kept in
+    log-kept ∙ in-loop leg .before .loop .inv .log
+
+returns : tie.Need-returns Inv-loop μ-loop
+returns c =
+    let in-match = c .before .before in
+    let leg = lost in-match in
+    let at-loop = in-loop leg .before in
+    turn-lost (leg .leg .result) (in-loop leg .loop-test .taken) (at-loop .loop .inv) (leg .leg .ensures) (in-match .match .keys2)
+    (c .before .no-leg .ensures) (c .refused .ensures)
+
+loop-again : tie.Need-loop-again Inv-loop μ-loop
+loop-again c =
+    let after-answer = c .before .before .before in
+    let leg = found (c .before .before) in
+    let at-loop = in-loop leg .before in
+    let (_, (_, (_, (_, (_, (down-kept, (estimates-kept, (elapsed-kept, kept)))))))) = leg .leg .kept in
+    let (_, (_, (route-kept, (log-kept, _)))) = kept in
+    turn-again (leg .leg .result) (in-loop leg .loop-test .taken) (at-loop .loop .inv) (leg .leg .ensures) (start at-loop .pre .many)
+    (after-answer .answer .given .1) down-kept estimates-kept elapsed-kept route-kept log-kept (c .before .sum .ensures)
+    (c .further .ensures)
+
+pub journey-spec : {M : Type 1} → statement M
+journey-spec =
+    tie.close
+    (tie.spec
+    Inv-loop
+    μ-loop
+    sub-number
+    (λ c. turn-start)
+    (λ c. search needs)
+    (λ c. search needs)
+    (λ c. search needs)
+    (λ c. search needs)
+    (λ c. search needs)
+    (λ c. search needs)
+    (λ c. search needs)
+    (λ c. search needs)
+    (λ c. search needs)
+    (λ c κs. search needs)
+    (λ c. search needs)
+    (λ c. omega (arith, few (in-loop (found c))))
+    (λ c. omega (arith, few (in-loop (found c))))
+    (λ c. omega (arith, few (in-loop (found c))))
+    (λ c. omega (arith, few (in-loop (found c))))
+    (λ c κs. search needs)
+    further-requires
+    (λ c. omega (arith, few (in-loop (lost c))))
+    (λ c κs. search needs)
+    (λ c κs. search needs)
+    same-length
+    same-length-2
+    same-length-3
+    same-length-4
+    same-length-5
+    returns
+    (λ c. search needs)
+    loop-again
+    (λ c. search needs)
+    (λ c. search needs)
+    (λ c. search needs)
+    (λ c. search needs)
+    (λ c. search needs)
+    (λ c. search needs)
+    (λ c. turn-end (start (c .before) .pre .many) (c .loop-test .left) (c .before .loop .inv)))

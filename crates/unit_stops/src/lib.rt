@@ -1,0 +1,315 @@
+// A list of stops (document 02, A3): leg by leg an aim and a go.
+ghost use mathlib.Core.Path.{_≡_};
+ghost use mathlib.Core.Bool.{_&&_};
+ghost use Prim.Native.Nat.{_*_, _+_, _≤_, min, ℕ};
+ghost use lib.Dec.{leb};
+ghost use Rattle.graph.specs.Total.{Total};
+ghost use Rattle.model.specs.Limits.{fewestStops, mostJunctions, mostStops};
+ghost use Rattle.model.specs.Stops.{allBelow};
+ghost use Rattle.model.specs.Calls.{Stops};
+ghost use Rattle.network.specs.Refusals.{verdictIn};
+ghost use Rattle.network.specs.Lending.{areas};
+ghost use Rattle.unit_questions.specs.Lending.{lengthsIn, lent};
+ghost use Rattle.unit.specs.Shape.{answeredIn, headerIn};
+ghost use Rattle.unit.specs.Meets.{asks};
+ghost use Rattle.unit_stops.specs.Shape.{noLegs, sumIn};
+ghost use Rattle.unit_stops.specs.Legs.{Journeys, LegMade, MeetsStops, RoomFor};
+use network::FEWEST_STOPS;
+use network::Junction;
+use network::MOST_STOPS;
+use network::Refusal;
+use network::TimeWord;
+use network::Verdict;
+use unit::Answered;
+use unit::Header;
+use unit_answers::Answer;
+use unit_questions::Lengths;
+
+// A list has at most so many legs.
+pub const MOST_LEGS: usize = MOST_STOPS - 1;
+
+// The total and the number of roads of each leg; 0 past the last.
+pub struct Legs {
+    pub totals: [u64; MOST_LEGS],
+    pub roads: [u32; MOST_LEGS],
+}
+
+// A refusal, or the number of legs and the whole total.
+pub enum Stopping {
+    Refused(Refusal),
+    Stopped(u32, u64),
+}
+
+// What a list of stops hands back.
+pub struct Stopped {
+    pub header: Header,
+    pub answer: Stopping,
+    pub legs: Legs,
+}
+
+// ---- questions
+
+// Is every stop below n?
+fn all_below(n: u32, stops: &[u32]) -> bool
+    ensures { λ r. ⌜ r ≡ allBelow n (now (stops .entry)) ⌝ }
+{
+    let mut i = 0;
+    while i < stops.len() {
+        if n <= stops[i] {
+            return false;
+        }
+        i += 1;
+    }
+    true
+}
+
+// Question 16.
+fn count_fits(stops: usize) -> bool
+    ensures { λ r. ⌜ r ≡ (leb fewestStops stops && leb stops mostStops) ⌝ }
+{
+    (FEWEST_STOPS <= stops) & (stops <= MOST_STOPS)
+}
+
+// Question 14, of a list of so many stops; only asked of one that 16 lets pass, and of a header in range.
+fn lent_fit(n: u32, stops: usize, route: usize, log: usize) -> bool
+    requires { ⌜ (n ≤ mostJunctions) × (stops ≤ mostStops) ⌝ }
+    ensures { λ r. ⌜ r ≡ (leb (stops * n) route && leb n log) ⌝ }
+{
+    let n = n as usize;
+    (stops * n <= route) & (n <= log)
+}
+
+// Questions 9, 16, 12 and 14.
+fn stops_asked(
+    header: Header,
+    card: usize,
+    l: Lengths,
+    route: usize,
+    log: usize,
+    stops: &[u32],
+) -> Verdict
+    ensures { λ r. ⌜ ((base : ℕ → Total) → verdictIn r ≡ asks base (headerIn header) card (lengthsIn l) (Stops (now (stops .entry)))
+        route log) ⌝ }
+{
+    let sizes = header.sizes;
+    if !unit_questions::fits(sizes, card, l) {
+        return Verdict::Failed(Refusal::LENGTHS);
+    }
+    if !count_fits(stops.len()) {
+        return Verdict::Failed(Refusal::STOP_COUNT);
+    }
+    if !all_below(sizes.n, stops) {
+        return Verdict::Failed(Refusal::NO_JUNCTION);
+    }
+    network::ask(
+        lent_fit(sizes.n, stops.len(), route, log),
+        Refusal::LENT_LENGTHS,
+        Verdict::Passed,
+    )
+}
+
+// ---- legs
+
+// One leg: an aim at its end, and a go from its start.
+fn leg(
+    header: Header,
+    card: &[u8],
+    ranks: &[u32],
+    pairs: &[u32],
+    live: &[TimeWord],
+    down: &mut [TimeWord],
+    estimates: &mut [TimeWord],
+    elapsed: &mut [TimeWord],
+    leaving: &[u32],
+    groups: &[u32],
+    route: &mut [u32],
+    log: &mut [u32],
+    from: Junction,
+    to: Junction,
+) -> Answered
+    ensures { λ r. ⌜ LegMade (now (card .entry)) (headerIn header) (areas ranks pairs live down estimates elapsed leaving groups)
+        (lent route log) (from .0) (to .0) (answeredIn r) ⌝ }
+{
+    let aimed = header.aim(
+        card,
+        ranks,
+        pairs,
+        live,
+        down,
+        estimates,
+        elapsed,
+        leaving,
+        groups,
+        to,
+    );
+    let h = aimed.header;
+    h.go(
+        card,
+        ranks,
+        pairs,
+        live,
+        down,
+        estimates,
+        elapsed,
+        leaving,
+        groups,
+        route,
+        log,
+        from,
+    )
+}
+
+// The sum of two totals; the largest number where it does not fit, which no list of calls makes.
+fn sum(a: u64, b: u64) -> u64
+    ensures { λ r. ⌜ r ≡ sumIn a b ⌝ }
+{
+    let most = 0xFFFF_FFFF_FFFF_FFFF;
+    if most - a < b { most } else { a + b }
+}
+
+// So many entries on, at most to the end of an area of `most` entries.
+fn further(at: usize, number: u32, most: usize) -> usize
+    requires { ⌜ at ≤ most ⌝ }
+    ensures { λ r. ⌜ r ≡ min (at + number) most ⌝ }
+{
+    let k = number as usize;
+    if most - at < k { most } else { at + k }
+}
+
+// What is handed back with a refusal.
+fn refused(header: Header, q: Refusal) -> Stopped
+    ensures { λ r. ⌜ r ≡ record { header = header; answer = Stopping.Refused q; legs = noLegs } ⌝ }
+{
+    let totals = [0u64; MOST_LEGS];
+    let roads = [0u32; MOST_LEGS];
+    Stopped {
+        header: header,
+        answer: Stopping::Refused(q),
+        legs: Legs {
+            totals: totals,
+            roads: roads,
+        },
+    }
+}
+
+// Leg after leg, each lent the route area behind the roads of those before it, up to the last or to one that has no path.
+fn journey(
+    header: Header,
+    card: &[u8],
+    ranks: &[u32],
+    pairs: &[u32],
+    live: &[TimeWord],
+    down: &mut [TimeWord],
+    estimates: &mut [TimeWord],
+    elapsed: &mut [TimeWord],
+    leaving: &[u32],
+    groups: &[u32],
+    route: &mut [u32],
+    log: &mut [u32],
+    stops: &[u32],
+) -> Stopped
+    requires { ⌜ RoomFor (now stops) ⌝ }
+    ensures { λ r. ⌜ Journeys (now (card .entry)) (headerIn header) (areas ranks pairs live down estimates elapsed leaving groups)
+        (lent route log) (now (stops .entry)) r ⌝ }
+{
+    let mut totals = [0u64; MOST_LEGS];
+    let mut roads = [0u32; MOST_LEGS];
+    let number = stops.len() - 1;
+    let mut h = header;
+    let mut whole: u64 = 0;
+    let mut at = 0;
+    let mut i = 0;
+    while i < number {
+        let next = i + 1;
+        let from = Junction(stops[i]);
+        let to = Junction(stops[next]);
+        let made = leg(
+            h,
+            card,
+            ranks,
+            pairs,
+            live,
+            down,
+            estimates,
+            elapsed,
+            leaving,
+            groups,
+            &mut route[at..],
+            log,
+            from,
+            to,
+        );
+        h = made.header;
+        let answer = made.answer;
+        match answer {
+            Answer::Gone(total, _, k) => {
+                totals[i] = total;
+                roads[i] = k;
+                whole = sum(whole, total);
+                at = further(at, k, route.len());
+            }
+            _ => return refused(h, Refusal::no_leg(i as u32)),
+        }
+        i = next;
+    }
+    Stopped {
+        header: h,
+        answer: Stopping::Stopped(number as u32, whole),
+        legs: Legs {
+            totals: totals,
+            roads: roads,
+        },
+    }
+}
+
+// ---- the call
+
+// Calls at the stops in their order: for each leg its total and number of roads, and the whole total; the legs' roads follow one another in
+// the route area. Each leg is an aim and a go: areas and target are left as after the last, or, by 17, after the first that has no path.
+pub fn stops(
+    header: Header,
+    card: &[u8],
+    ranks: &[u32],
+    pairs: &[u32],
+    live: &[TimeWord],
+    down: &mut [TimeWord],
+    estimates: &mut [TimeWord],
+    elapsed: &mut [TimeWord],
+    leaving: &[u32],
+    groups: &[u32],
+    route: &mut [u32],
+    log: &mut [u32],
+    stops: &[u32],
+) -> Stopped
+    ensures { λ r. ⌜ MeetsStops (now (card .entry)) header (areas ranks pairs live down estimates elapsed leaving groups)
+        (lent route log) (now (stops .entry)) r ⌝ }
+{
+    let l = unit_questions::lengths_of(
+        ranks,
+        pairs,
+        live,
+        down,
+        estimates,
+        elapsed,
+        leaving,
+        groups,
+    );
+    match stops_asked(header, card.len(), l, route.len(), log.len(), stops) {
+        Verdict::Failed(q) => refused(header, q),
+        Verdict::Passed => journey(
+            header,
+            card,
+            ranks,
+            pairs,
+            live,
+            down,
+            estimates,
+            elapsed,
+            leaving,
+            groups,
+            route,
+            log,
+            stops,
+        ),
+    }
+}
