@@ -1,32 +1,30 @@
--- As many steps as there are junctions make the whole history, and the run leaves the target's time in elapsed, which is the total
--- (`finds-total`).
+-- A room for as many junctions as a unit takes is made, blank (`blank-room`), and a log beside it.
+use mathlib.Core.Path.{refl}
+use lib.ListN.{length-replicate}
+use Rattle.model.specs.Limits.{mostJunctions}
+use Rattle.search.proofs.Wholes.{blank-room}
 use borrow.Author.Needs.{needs}
-use Rattle.search.proofs.Wholes.{finds-total}
 use Rattle.search.proofs.least_total.Statement.{statement}
 use Rattle.search.proofs.least_total.Tie as tie
 
-abbrev after-advance : tie.After-of-word → tie.After-advance
-after-advance c = c .before .before .before .before .before .before .before .before .before
+-- from where the room is made
+abbrev start : tie.After-slice-known2 → tie.Start
+start c = c .before .before .before .before .before .before .before .before .before .before
 
-abbrev start : tie.After-advance → tie.Start
-start c = c .before .before .before .before .before .before .before .before .before .before .before .before .before .before .before .before
-
-returns : tie.Need-returns
-returns c =
-    let after-advance = after-advance c in
-    finds-total (start after-advance .pre) (after-advance .advance .ensures) (c .of-word .ensures)
+total-in-requires : tie.Need-total-in-requires
+total-in-requires c κs =
+    let after-slice-known2 = c .before .before .before .before in
+    let within = start after-slice-known2 .pre in
+    let high = within .sized .n-high in
+    (within, simp length-replicate high, blank-room mostJunctions high)
 
 pub least-total-spec : {M : Type 1} → statement M
 least-total-spec =
     tie.close
     (tie.spec
+    (λ c. refl)
+    (λ c. refl)
+    total-in-requires
     (λ c. search needs)
     (λ c. search needs)
-    (λ c κs. search needs)
-    (λ c. search needs)
-    (λ c. search needs)
-    (λ c. search needs)
-    (λ c κs. search needs)
-    (λ c. search needs)
-    (λ c. search needs)
-    returns)
+    (λ c. search needs))
