@@ -5,7 +5,7 @@ ghost use lib.ListN.{length};
 ghost use Rattle.search_junctions.specs.Views.{seen};
 ghost use Rattle.search_junctions.specs.State.{given};
 ghost use Rattle.search_run.specs.Runs.{BlankRoom, Lends, Within, written};
-ghost use Rattle.search.specs.Searches.{FindsBoth, FindsTotal, LendsBoth, Searches};
+ghost use Rattle.search.specs.Searches.{FindsBoth, FindsTotal, LendsBoth, LendsIn, Searches};
 use network::MOST_JUNCTIONS;
 use network::Time;
 use network::TimeWord;
@@ -15,7 +15,12 @@ use search_queue::BLANK;
 use search_run::advance;
 use search_run::way_back;
 
-// A search has a room of its own, three words for each of as many junctions as a unit takes (search_labels).
+// A search has a room of its own, three words for each of n junctions (search_labels). Of three rooms it takes the smallest that is large
+// enough: a fresh room is filled with blank words, and that takes time.
+const SMALL: usize = 256;
+
+const MIDDLE: usize = 1024;
+
 const LARGE: usize = MOST_JUNCTIONS as usize;
 
 const WORDS: usize = 3;
@@ -44,9 +49,8 @@ fn search_in(
     log: &mut [u32],
     room: &mut [u64],
 ) -> Searched
-    requires { ⌜ Lends (given trip roads order ranks pairs live down) (now leaving) (now groups) (trip .start .0) (trip .target .0)
-        (written estimates elapsed route log)
-        × BlankRoom (trip .sizes .n) (now room) ⌝ }
+    requires { ⌜ LendsIn (given trip roads order ranks pairs live down) (now leaving) (now groups) (trip .start .0) (trip .target .0)
+        (written estimates elapsed route log) (now room) ⌝ }
     ensures { λ r. ⌜ Searches (given trip (roads .entry) (order .entry) (ranks .entry) (pairs .entry) (live .entry)
         (down .entry)) (now (leaving .entry)) (now (groups .entry)) (trip .start .0) (trip .target .0)
         (written (estimates .entry) (elapsed .entry) (route .entry) (log .entry))
@@ -112,6 +116,45 @@ pub fn search(
         (written (estimates .entry) (elapsed .entry) (route .entry) (log .entry))
         (written (estimates .exit) (elapsed .exit) (route .exit) (log .exit)) (r .total .0) (r .count) (r .roads) ⌝ }
 {
+    let n = trip.sizes.n as usize;
+    if n <= SMALL {
+        let mut room = [BLANK; WORDS * SMALL];
+        return search_in(
+            trip,
+            roads,
+            order,
+            ranks,
+            pairs,
+            live,
+            down,
+            leaving,
+            groups,
+            estimates,
+            elapsed,
+            route,
+            log,
+            &mut room,
+        );
+    }
+    if n <= MIDDLE {
+        let mut room = [BLANK; WORDS * MIDDLE];
+        return search_in(
+            trip,
+            roads,
+            order,
+            ranks,
+            pairs,
+            live,
+            down,
+            leaving,
+            groups,
+            estimates,
+            elapsed,
+            route,
+            log,
+            &mut room,
+        );
+    }
     let mut room = [BLANK; WORDS * LARGE];
     search_in(
         trip,
@@ -198,6 +241,45 @@ fn least_total(
         (now (leaving .entry)) (now (groups .entry)) (trip .start .0) (trip .target .0)
         (now (estimates .entry)) (now (estimates .exit)) (r .0) ⌝ }
 {
+    let n = trip.sizes.n as usize;
+    if n <= SMALL {
+        let mut log = [0u32; SMALL];
+        let mut room = [BLANK; WORDS * SMALL];
+        return total_in(
+            trip,
+            roads,
+            order,
+            ranks,
+            pairs,
+            live,
+            down,
+            leaving,
+            groups,
+            estimates,
+            elapsed,
+            &mut log,
+            &mut room,
+        );
+    }
+    if n <= MIDDLE {
+        let mut log = [0u32; MIDDLE];
+        let mut room = [BLANK; WORDS * MIDDLE];
+        return total_in(
+            trip,
+            roads,
+            order,
+            ranks,
+            pairs,
+            live,
+            down,
+            leaving,
+            groups,
+            estimates,
+            elapsed,
+            &mut log,
+            &mut room,
+        );
+    }
     let mut log = [0u32; LARGE];
     let mut room = [BLANK; WORDS * LARGE];
     total_in(

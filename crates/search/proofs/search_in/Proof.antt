@@ -47,13 +47,13 @@ else1 c = c .before .before .before
 advance-requires : tie.Need-advance-requires
 advance-requires c κs =
     let after-sizes = c .before .before .before .before .before in
-    let (lends, fresh) = start-of after-sizes .pre in
-    record { within = lends .within; log-long = lends .log-long; fresh = fresh }
+    let pre = start-of after-sizes .pre in
+    record { within = pre .lends .within; log-long = pre .lends .log-long; fresh = pre .fresh }
 
 slice-read-of-word : tie.Need-slice-read-of-word
 slice-read-of-word c =
     let after-advance = c .before .before .before .before .before .before .before .before .before .before in
-    let (lends, _) = start after-advance .pre in
+    let lends = start after-advance .pre .lends in
     below-kept (lends .within .target-in) (lends .within .sized .elapsed-is) (long after-advance .elapsed-long)
 
 returns : tie.Need-returns
@@ -61,7 +61,7 @@ returns c =
     let after-is-none = c .before in
     let after-of-word = after-is-none .before in
     let after-advance = after-advance after-is-none in
-    let (lends, _) = start after-advance .pre in
+    let lends = start after-advance .pre .lends in
     searches-lost (lends .within) (after-advance .advance .ensures) (after-of-word .of-word .ensures)
     (sym (after-is-none .is-none .ensures) ∙ c .if1 .taken)
 
@@ -69,9 +69,10 @@ way-back-requires : tie.Need-way-back-requires
 way-back-requires c κs =
     let after-is-none = c .before .before .before in
     let after-advance = after-advance after-is-none in
-    let (lends, fresh) = start after-advance .pre in (
+    let pre = start after-advance .pre in
+    let lends = pre .lends in (
       lends .within .target-in,
-      omega (arith, long after-advance .ways-long, fresh .words),
+      omega (arith, long after-advance .ways-long, pre .fresh .words),
       omega (arith, lends .within .sized .roads-are),
       lends .ways-long,
     )
@@ -89,7 +90,7 @@ returns-2 c =
     let after-is-none = else1 .before in
     let after-of-word = after-is-none .before in
     let after-advance = after-advance after-is-none in
-    let (lends, _) = start after-advance .pre in
+    let lends = start after-advance .pre .lends in
     let (number-is, route-is) = after-way-back .way-back .ensures in
     searches-found (lends .within) (after-advance .advance .ensures) (after-of-word .of-word .ensures)
     (sym (after-is-none .is-none .ensures) ∙ else1 .if1 .left) number-is route-is
