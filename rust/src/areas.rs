@@ -71,8 +71,14 @@ pub fn stops(
     returned.stopped()
 }
 
+/// The header as the unit hands it back: any `aimed` but 0 is 1, and the target is 0 where there is none.
+fn handed(header: Header) -> Header {
+    let aimed = header.aimed != 0;
+    Header { aimed: aimed.into(), target: if aimed { header.target } else { 0 }, ..header }
+}
+
 fn answer(header: Header, question: u32) -> Returned {
-    Returned { header, question, ..Returned::default() }
+    Returned { header: handed(header), question, ..Returned::default() }
 }
 
 /// Question 9: `of_n` and `of_m` are the areas with a word for each junction and for each road.
@@ -429,7 +435,7 @@ extern "C" fn stops_on(
 ) -> ReturnedStops {
     let (of_n, of_m) = ([ranks, down, estimates, elapsed], [live, leaving]);
     let fits = fits(header, card, pairs, of_n, of_m, groups);
-    let mut answer = ReturnedStops { header, ..ReturnedStops::default() };
+    let mut answer = ReturnedStops { header: handed(header), ..ReturnedStops::default() };
     if let Some(question) = refused_stops(header, fits, stops, route.len(), log.len()) {
         return ReturnedStops { question, ..answer };
     }

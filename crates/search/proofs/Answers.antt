@@ -28,13 +28,14 @@ use Rattle.model.specs.Estimate.{filled}
 use Rattle.model.specs.Go.{asks, goAsks, goFills, goRoute, liveOf}
 use Rattle.model.specs.Laws.{listed-at, or-true, true-and, true-or-right}
 use Rattle.model.specs.Ends.{filled-is}
+use Rattle.search_labels.specs.Labelling.{labelsIn}
 use Rattle.search_labels.specs.Ways.{arcsBack, wayOf}
 use Rattle.search_labels.specs.Ended.{arcs-back, start-no-later, way-back-is}
 use Rattle.search_junctions.specs.State.{Given, Ready, goGiven, mapGiven}
 use Rattle.search_junctions.specs.Asking.{Asked, asked-head, asked-start}
 use Rattle.search_junctions.specs.Ways.{stepBack}
 use Rattle.search_junctions.specs.Facts.{codes, ready-time}
-use Rattle.search_run.specs.Runs.{Advanced, Written, writtenOf}
+use Rattle.search_run.specs.Runs.{Advanced, Written, writtenOf, backIn}
 use Rattle.search.specs.Searches.{Found, FoundTotal}
 
 -- ---- who was asked: the definition's test
@@ -120,12 +121,12 @@ module _ (G : Problem) (z : ℕ) (goals : (v : ℕ) → G .goal v ≡ eqb v z) w
           one (inr q) = rw q
 
 -- ---- one step back is the tail of the road that gave the time
-step-is : {g : Given} {s z : ℕ} (r : Ready g s z) (vias : List ℕ) (v : ℕ) → getD vias v 0 < goGiven g s z .net .arcs
-    → stepBack (g .roads) vias (g .sizes .n) (g .sizes .m) v ≡ goGiven g s z .net .tail (getD vias v 0)
+step-is : {g : Given} {s z : ℕ} (r : Ready g s z) (via : ℕ → ℕ) (v : ℕ) → via v < goGiven g s z .net .arcs
+    → stepBack (g .roads) via (g .sizes .n) (g .sizes .m) v ≡ goGiven g s z .net .tail (via v)
 unfolding stepBack
-step-is {g} {s} {z} r vias v li =
+step-is {g} {s} {z} r via v li =
     let k = codes r in
-    let i = getD vias v 0 in
+    let i = via v in
     let lm : i < g .sizes .m = rw (k .reads .arcs-are) at li in
     let t = k .reads .tails i lm in
     let b : wordAt (g .roads) (roadSize * i) < g .sizes .n = omega (arith, k .ok .well-formed .inside .tails i li, t, k .reads .size-is) in
@@ -222,14 +223,17 @@ module _ {g : Given} {s z : ℕ} (r : Ready g s z) {l l′ : Written} {c : ℕ} 
 
     -- the route
     pub answer-found : {number : ℕ} {route : List ℕ} → eqb total noneWord ≡ false
-        → number ≡ arcsBack (λ u. eqb u s) (stepBack (g .roads) (l′ .ways) (g .sizes .n) (g .sizes .m)) (g .sizes .n) z
-        → route ≡ first (wayOf (λ u. getD (l′ .ways) u 0) (stepBack (g .roads) (l′ .ways) (g .sizes .n) (g .sizes .m)) number z) route₀
+        → number ≡ arcsBack (λ u. eqb u s) (backIn (g .roads) (l′ .ways) (g .sizes .n) (g .sizes .m)) (g .sizes .n) z
+        → route ≡ first
+        (wayOf (labelsIn (g .sizes .n) (l′ .ways) .vias) (backIn (g .roads) (l′ .ways) (g .sizes .n) (g .sizes .m)) number z)
+        route₀
         → Found g s z (routed l route₀) (routed l′ route) total c number
     unfolding routeOf
     answer-found {number} q a b =
         let k = codes r in
         let G = goGiven g s z in
-        let before = stepBack (g .roads) (l′ .ways) (g .sizes .n) (g .sizes .m) in
+        let via = labelsIn (g .sizes .n) (l′ .ways) .vias in
+        let before = stepBack (g .roads) via (g .sizes .n) (g .sizes .m) in
         let p = word-some total (totalOf G) (total-word total read) (eqb-false total noneWord q) in
         let w : wayIn G (history G) ≡ back G (history G) z = way-found G z (k .goals) (history G) (totalOf G) (end (k .ok .well-formed))
         (p .0) (p .1) in
@@ -242,11 +246,10 @@ module _ {g : Given} {s z : ℕ} (r : Ready g s z) {l l′ : Written} {c : ℕ} 
           length-le (k .ok .well-formed) (history-reached G),
           k .reads .size-is,
         ) in
-        let steps : (v : ℕ) → v < G .size → getD (l′ .ways) v 0 < G .net .arcs → before v ≡ G .net .tail (getD (l′ .ways) v 0) =
-        λ v lv li. step-is r (l′ .ways) v li in
+        let steps : (v : ℕ) → v < G .size → via v < G .net .arcs → before v ≡ G .net .tail (via v) = λ v lv li. step-is r via v li in
         let y : number ≡ length (back G (history G) z) = a
         ∙ arcs-back (k .ok .well-formed) (x .ways) (λ v t lv e. begins-is v t e) steps (g .sizes .n) z (p .0) lz h le in
-        let u : wayOf (λ u. getD (l′ .ways) u 0) before number z ≡ back G (history G) z =
+        let u : wayOf via before number z ≡ back G (history G) z =
         way-back-is (k .ok .well-formed) (x .ways) (λ v t lv e. begins-is v t e) steps number z (p .0) lz h (sym y) in
         found-with (y ∙ ap length (sym w))
         (b ∙ ap (λ (l : List ℕ). first l route₀) (u ∙ sym w) ∙ ap (λ (T : Total). goRoute T (routeOf G) route₀) (sym (p .1)))

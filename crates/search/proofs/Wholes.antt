@@ -2,9 +2,9 @@
 use mathlib.Core.Path.{_∙_, _≡_, ap, refl, subst, subst₂, sym}
 use mathlib.Core.Bool.{Bool, _||_, false, true}
 use mathlib.Core.List.{List, [], _++_}
-use Prim.Native.Nat.{_-_, _<_, ℕ}
+use Prim.Native.Nat.{_*_, _-_, _<_, _≤_, ℕ}
 use lib.Dec.{eqb}
-use lib.ListN.{drop, getD, length, length-append, length-drop, take}
+use lib.ListN.{drop, getD, getD-replicate, length, length-append, length-drop, length-replicate, replicate, take}
 use lib.Seq.{length-take-le}
 use native.Mathlib.Omega.{arith}
 use Rattle.graph.specs.Search.{Entry, history, run}
@@ -19,15 +19,23 @@ use Rattle.model.specs.Ends.{filled-same, filled-twice}
 use Rattle.model.specs.Good.{AimFacts, asks-closed, filled-entries}
 use Rattle.network.specs.Bodies.{map-facts}
 use Rattle.road_groups.specs.Lending.{GroupsMade}
+use Rattle.search_queue.specs.Order.{blankWord}
+use Rattle.search_labels.specs.Labelling.{labelsIn}
 use Rattle.search_labels.specs.Ways.{arcsBack, wayOf}
 use Rattle.search_junctions.specs.declared.View.{View}
 use Rattle.search_junctions.specs.Views.{seen, seen-length}
 use Rattle.search_junctions.specs.State.{Given, Ready, goGiven, mapGiven}
-use Rattle.search_junctions.specs.Ways.{stepBack}
 use Rattle.search_junctions.specs.Facts.{codes}
-use Rattle.search_run.specs.Runs.{Advanced, Advances, Within, Written}
+use Rattle.search_run.specs.Runs.{Advanced, Advances, BlankRoom, Within, Written, backIn}
 use Rattle.search.specs.Searches.{AsLeft, FindsBoth, FindsTotal, Searches, atTimes}
 use Rattle.search.proofs.Answers.{answer-found, answer-lost, answer-total, routed}
+
+-- a room that is made for k junctions is blank, and large enough for n of them
+pub blank-room : (k : ℕ) {n : ℕ} → n ≤ k → BlankRoom n (replicate (3 * k) blankWord)
+blank-room k le = record {
+  words = simp length-replicate (omega arith);
+  blank = λ p lp. getD-replicate (3 * k) p blankWord 0 (omega arith);
+}
 
 pub below-kept : {z n a b : ℕ} → z < n → b ≡ n → a ≡ b → z < a
 below-kept h e f = omega arith
@@ -75,8 +83,10 @@ module _ {g : Given} {leaving groups : List ℕ} {s z e t : ℕ} {l l′ : Writt
     searches-lost q = record { kept = ran .kept; exact = λ left. answer-lost (ready left) (ended left) read q }
 
     pub searches-found : {number : ℕ} {route : List ℕ} → eqb total noneWord ≡ false
-        → number ≡ arcsBack (λ u. eqb u s) (stepBack (g .roads) (l′ .ways) (g .sizes .n) (g .sizes .m)) (g .sizes .n) z
-        → route ≡ first (wayOf (λ u. getD (l′ .ways) u 0) (stepBack (g .roads) (l′ .ways) (g .sizes .n) (g .sizes .m)) number z) route₀
+        → number ≡ arcsBack (λ u. eqb u s) (backIn (g .roads) (l′ .ways) (g .sizes .n) (g .sizes .m)) (g .sizes .n) z
+        → route ≡ first
+        (wayOf (labelsIn (g .sizes .n) (l′ .ways) .vias) (backIn (g .roads) (l′ .ways) (g .sizes .n) (g .sizes .m)) number z)
+        route₀
         → Searches g leaving groups s z (routed l route₀) (routed l′ route) total c number
     searches-found q w y = record { kept = ran .kept; exact = λ left. answer-found (ready left) (ended left) read q w y }
 

@@ -19,7 +19,7 @@ use Rattle.model.specs.Good.{AimFacts}
 use Rattle.network.specs.Bodies.{Prepared}
 use Rattle.road_groups.specs.Lending.{GroupsMade}
 use Rattle.search_junctions.specs.State.{Given, givenOf, goGiven, mapGiven}
-use Rattle.search_run.specs.Runs.{Within, Written}
+use Rattle.search_run.specs.Runs.{BlankRoom, Lends, Within, Written}
 
 -- ---- what a search relies on
 
@@ -50,6 +50,11 @@ pub record FindsTotal (g : Given) (leaving groups : List ℕ) (s z : ℕ) (e₀ 
   pub exact : AsLeft g leaving groups z e₀ → FoundTotal g s z e₀ e total
 
 -- ---- the search of a go
+
+-- areas that it writes, and a blank room
+pub record LendsIn (g : Given) (leaving groups : List ℕ) (s z : ℕ) (l : Written) (room : List ℕ) : Type 0 where
+  pub lends : Lends g leaving groups s z l
+  pub fresh : BlankRoom (g .sizes .n) room
 
 -- Total, count, number of roads; estimates, elapsed, route and log as go leaves them. l are the areas before, l′ those after; ways are the
 -- route's.

@@ -1,26 +1,96 @@
 // The search of a go (document 01: the search log): a run whose budget never ends it, its total and its route. The two searches of a
 // preview (document 02, A2): the total alone, twice.
+ghost use Prim.Native.Nat.{_≤_};
 ghost use lib.ListN.{length};
 ghost use Rattle.search_junctions.specs.Views.{seen};
 ghost use Rattle.search_junctions.specs.State.{given};
-ghost use Rattle.search_run.specs.Runs.{Lends, Within, written};
-ghost use Rattle.search.specs.Searches.{FindsBoth, FindsTotal, LendsBoth, Searches};
+ghost use Rattle.search_run.specs.Runs.{BlankRoom, Lends, Within, written};
+ghost use Rattle.search.specs.Searches.{FindsBoth, FindsTotal, LendsBoth, LendsIn, Searches};
 use network::MOST_JUNCTIONS;
 use network::Time;
 use network::TimeWord;
 use search_junctions::Trip;
 use search_junctions::View;
+use search_queue::BLANK;
 use search_run::advance;
 use search_run::way_back;
 
-// Room for as many junctions as a unit takes.
-const JUNCTIONS: usize = MOST_JUNCTIONS as usize;
+// A search has a room of its own, three words for each of n junctions (search_labels). Of three rooms it takes the smallest that is large
+// enough: a fresh room is filled with blank words, and that takes time.
+const SMALL: usize = 256;
+
+const MIDDLE: usize = 1024;
+
+const LARGE: usize = MOST_JUNCTIONS as usize;
+
+const WORDS: usize = 3;
 
 // The answer of a search: the total or none, the number of logged junctions (document 01: count), and of the route's roads.
 pub struct Searched {
     pub total: Time,
     pub count: u32,
     pub roads: u32,
+}
+
+// The search of a go, in a blank room.
+fn search_in(
+    trip: Trip,
+    roads: &[u8],
+    order: &[u8],
+    ranks: &[u32],
+    pairs: &[u32],
+    live: &[TimeWord],
+    down: &[TimeWord],
+    leaving: &[u32],
+    groups: &[u32],
+    estimates: &mut [TimeWord],
+    elapsed: &mut [TimeWord],
+    route: &mut [u32],
+    log: &mut [u32],
+    room: &mut [u64],
+) -> Searched
+    requires { ⌜ LendsIn (given trip roads order ranks pairs live down) (now leaving) (now groups) (trip .start .0) (trip .target .0)
+        (written estimates elapsed route log) (now room) ⌝ }
+    ensures { λ r. ⌜ Searches (given trip (roads .entry) (order .entry) (ranks .entry) (pairs .entry) (live .entry)
+        (down .entry)) (now (leaving .entry)) (now (groups .entry)) (trip .start .0) (trip .target .0)
+        (written (estimates .entry) (elapsed .entry) (route .entry) (log .entry))
+        (written (estimates .exit) (elapsed .exit) (route .exit) (log .exit)) (r .total .0) (r .count) (r .roads) ⌝ }
+{
+    let sizes = trip.sizes;
+    let target = trip.target;
+    // no junction is logged twice
+    let budget = sizes.n;
+    let logged = advance(
+        trip,
+        budget,
+        roads,
+        order,
+        ranks,
+        pairs,
+        live,
+        down,
+        leaving,
+        groups,
+        estimates,
+        elapsed,
+        log,
+        room,
+    );
+    let z = target.0 as usize;
+    let total = Time::of_word(elapsed[z]);
+    if total.is_none() {
+        return Searched {
+            total: total,
+            count: logged.count,
+            roads: 0,
+        };
+    }
+    let number = way_back(roads, room, sizes.n, sizes.m, trip.start, target, route);
+    Searched {
+        total: total,
+        count: logged.count,
+        roads: number,
+    }
 }
 
 // The search of a go from the start to the target that was aimed at last.
@@ -46,12 +116,93 @@ pub fn search(
         (written (estimates .entry) (elapsed .entry) (route .entry) (log .entry))
         (written (estimates .exit) (elapsed .exit) (route .exit) (log .exit)) (r .total .0) (r .count) (r .roads) ⌝ }
 {
-    let mut vias = [0u32; JUNCTIONS];
-    let sizes = trip.sizes;
+    let n = trip.sizes.n as usize;
+    if n <= SMALL {
+        let mut room = [BLANK; WORDS * SMALL];
+        return search_in(
+            trip,
+            roads,
+            order,
+            ranks,
+            pairs,
+            live,
+            down,
+            leaving,
+            groups,
+            estimates,
+            elapsed,
+            route,
+            log,
+            &mut room,
+        );
+    }
+    if n <= MIDDLE {
+        let mut room = [BLANK; WORDS * MIDDLE];
+        return search_in(
+            trip,
+            roads,
+            order,
+            ranks,
+            pairs,
+            live,
+            down,
+            leaving,
+            groups,
+            estimates,
+            elapsed,
+            route,
+            log,
+            &mut room,
+        );
+    }
+    let mut room = [BLANK; WORDS * LARGE];
+    search_in(
+        trip,
+        roads,
+        order,
+        ranks,
+        pairs,
+        live,
+        down,
+        leaving,
+        groups,
+        estimates,
+        elapsed,
+        route,
+        log,
+        &mut room,
+    )
+}
+
+// ---- the two searches of a preview
+
+// The total of a search, in a blank room; its log is not kept.
+fn total_in(
+    trip: Trip,
+    roads: &[u8],
+    order: &[u8],
+    ranks: &[u32],
+    pairs: &[u32],
+    live: &[TimeWord],
+    down: &[TimeWord],
+    leaving: &[u32],
+    groups: &[u32],
+    estimates: &mut [TimeWord],
+    elapsed: &mut [TimeWord],
+    log: &mut [u32],
+    room: &mut [u64],
+) -> Time
+    requires { ⌜ Within (given trip roads order ranks pairs live down) (now leaving) (now groups) (trip .start .0) (trip .target .0)
+        (length (now estimates)) (length (now elapsed))
+        × (trip .sizes .n ≤ length (now log)) × BlankRoom (trip .sizes .n) (now room) ⌝ }
+    ensures { λ r. ⌜ FindsTotal (given trip (roads .entry) (order .entry) (ranks .entry) (pairs .entry) (live .entry) (down .entry))
+        (now (leaving .entry)) (now (groups .entry)) (trip .start .0) (trip .target .0)
+        (now (estimates .entry)) (now (estimates .exit)) (r .0) ⌝ }
+{
     let target = trip.target;
     // no junction is logged twice
-    let budget = sizes.n;
-    let logged = advance(
+    let budget = trip.sizes.n;
+    advance(
         trip,
         budget,
         roads,
@@ -64,27 +215,11 @@ pub fn search(
         groups,
         estimates,
         elapsed,
-        &mut vias,
         log,
+        room,
     );
-    let z = target.0 as usize;
-    let total = Time::of_word(elapsed[z]);
-    if total.is_none() {
-        return Searched {
-            total: total,
-            count: logged.count,
-            roads: 0,
-        };
-    }
-    let number = way_back(roads, &vias, sizes.n, sizes.m, trip.start, target, route);
-    Searched {
-        total: total,
-        count: logged.count,
-        roads: number,
-    }
+    Time::of_word(elapsed[target.0 as usize])
 }
-
-// ---- the two searches of a preview
 
 // The total of a search, whose log and route are not kept.
 fn least_total(
@@ -106,14 +241,49 @@ fn least_total(
         (now (leaving .entry)) (now (groups .entry)) (trip .start .0) (trip .target .0)
         (now (estimates .entry)) (now (estimates .exit)) (r .0) ⌝ }
 {
-    let mut vias = [0u32; JUNCTIONS];
-    let mut log = [0u32; JUNCTIONS];
-    let target = trip.target;
-    // no junction is logged twice
-    let budget = trip.sizes.n;
-    advance(
+    let n = trip.sizes.n as usize;
+    if n <= SMALL {
+        let mut log = [0u32; SMALL];
+        let mut room = [BLANK; WORDS * SMALL];
+        return total_in(
+            trip,
+            roads,
+            order,
+            ranks,
+            pairs,
+            live,
+            down,
+            leaving,
+            groups,
+            estimates,
+            elapsed,
+            &mut log,
+            &mut room,
+        );
+    }
+    if n <= MIDDLE {
+        let mut log = [0u32; MIDDLE];
+        let mut room = [BLANK; WORDS * MIDDLE];
+        return total_in(
+            trip,
+            roads,
+            order,
+            ranks,
+            pairs,
+            live,
+            down,
+            leaving,
+            groups,
+            estimates,
+            elapsed,
+            &mut log,
+            &mut room,
+        );
+    }
+    let mut log = [0u32; LARGE];
+    let mut room = [BLANK; WORDS * LARGE];
+    total_in(
         trip,
-        budget,
         roads,
         order,
         ranks,
@@ -124,10 +294,9 @@ fn least_total(
         groups,
         estimates,
         elapsed,
-        &mut vias,
         &mut log,
-    );
-    Time::of_word(elapsed[target.0 as usize])
+        &mut room,
+    )
 }
 
 // The totals of a preview, each none where there is no chain.

@@ -13,7 +13,7 @@ use Rattle.model.specs.Layout.{roadSize}
 use Rattle.model.specs.Bytes.{wordAt}
 use Rattle.model.specs.Go.{liveOf}
 use Rattle.network.specs.declared.Sizes.{Sizes}
-use Rattle.search_labels.specs.Labelling.{Labelling, Room}
+use Rattle.search_labels.specs.Labelling.{Room, labelsIn}
 use Rattle.search_labels.specs.Labelled.{Labels, Searchable}
 use Rattle.search_junctions.specs.declared.Trip.{Trip}
 use Rattle.search_junctions.specs.Views.{seen}
@@ -50,16 +50,16 @@ Known G e u = (i d : ℕ) → i < G .net .arcs → G .net .tail i ≡ u → G .n
     → getD e (G .net .head i) 0 ≡ word (G .pot (G .net .head i))
 
 -- The roads of u, whose time is t, are relaxed from number k up to j.
-pub record Relaxes (r : Read) (u t k j : ℕ) (l l′ : Labelling) : Type 0 where
+pub record Relaxes (r : Read) (u t k j : ℕ) (l l′ : List ℕ) : Type 0 where
   -- on any contents: there is room
   pub room : Room (r .sizes .n) l′
   -- for any problem whose arcs are these roads: from the labels before these roads to those after them
   pub exact : (G : Problem) (H : List Entry) → Searchable G → Reads G (r .sizes) (r .roads) (r .live) → Reached G H → timeIn H u ≡ some t
-      → Known G (r .estimates) u → Labels G H u k l → Labels G H u j l′
+      → Known G (r .estimates) u → Labels G H u k (labelsIn (r .sizes .n) l) → Labels G H u j (labelsIn (r .sizes .n) l′)
 
--- A group of roads, relaxed for u, whose time is t.
-pub record RelaxesGroup (r : Read) (group : List ℕ) (u t : ℕ) (l l′ : Labelling) : Type 0 where
+-- A group of roads, relaxed for a junction whose time is t.
+pub record RelaxesGroup (r : Read) (group : List ℕ) (t : ℕ) (l l′ : List ℕ) : Type 0 where
   -- on any contents: there is room
   pub room : Room (r .sizes .n) l′
   -- where the group is u's: all its roads are relaxed
-  pub exact : IsGroup (r .roads) (r .sizes .m) u group → Relaxes r u t 0 (r .sizes .m) l l′
+  pub exact : (u : ℕ) → IsGroup (r .roads) (r .sizes .m) u group → Relaxes r u t 0 (r .sizes .m) l l′

@@ -7,7 +7,7 @@ ghost use lib.ListN.{getD, length};
 ghost use Rattle.model.specs.Layout.{roadSize};
 ghost use Rattle.model.specs.Bytes.{wordAt};
 ghost use Rattle.pairs_hierarchy.specs.Estimates.{Estimated};
-ghost use Rattle.search_labels.specs.Labelling.{Room, Taken, labelling};
+ghost use Rattle.search_labels.specs.Labelling.{Room, Taken, labelsIn};
 ghost use Rattle.search_junctions.specs.Groups.{partOf};
 ghost use Rattle.search_junctions.specs.Views.{seen};
 ghost use Rattle.search_junctions.specs.State.{given};
@@ -22,6 +22,7 @@ use network::head_of;
 use network::tail_of;
 use pairs_hierarchy::estimate;
 use search_labels::take;
+use search_labels::via_of;
 
 // ---- the roads of a junction
 
@@ -113,19 +114,14 @@ fn relax_road(
     roads: &[u8],
     live: &[TimeWord],
     estimates: &[TimeWord],
-    times: &mut [TimeWord],
-    keys: &mut [u64],
-    vias: &mut [u32],
-    tree: &mut [u64],
+    room: &mut [u64],
     i: u32,
     from: Time,
 )
     requires { ⌜ (i < trip .sizes .m) × ReadIn (readOf trip roads live estimates)
-        × Room (trip .sizes .n) (labelling times keys vias tree) ⌝ }
+        × Room (trip .sizes .n) (now room) ⌝ }
     ensures { λ _. ⌜ Relaxes (readOf trip (roads .entry) (live .entry) (estimates .entry))
-        (wordAt (now (roads .entry)) (roadSize * i)) (from .0) i (i + 1)
-        (labelling (times .entry) (keys .entry) (vias .entry) (tree .entry))
-        (labelling (times .exit) (keys .exit) (vias .exit) (tree .exit)) ⌝ }
+        (wordAt (now (roads .entry)) (roadSize * i)) (from .0) i (i + 1) (now (room .entry)) (now (room .exit)) ⌝ }
 {
     let sizes = trip.sizes;
     let view = trip.view;
@@ -139,7 +135,7 @@ fn relax_road(
     }
     let to_go = Time::of_word(estimates[head.0 as usize]);
     let offer = Time::NONE.or_sum(from, cost);
-    take(times, keys, vias, tree, sizes.n, head.0, offer, to_go, i);
+    take(room, sizes.n, head.0, offer, to_go, i);
 }
 
 // ---- where a trip leads
@@ -163,23 +159,14 @@ impl Trip {
     }
 
     // Offers the start, whose estimate is `estimated`, time 0.
-    pub fn begin(
-        self,
-        times: &mut [TimeWord],
-        keys: &mut [u64],
-        vias: &mut [u32],
-        tree: &mut [u64],
-        estimated: Time,
-    )
-        requires { ⌜ (self .start .0 < self .sizes .n) × Room (self .sizes .n) (labelling times keys vias tree) ⌝ }
-        ensures { λ _. ⌜ Taken 0 (estimated .0) 0 (self .sizes .n) (self .start .0)
-            (labelling (times .entry) (keys .entry) (vias .entry) (tree .entry))
-            (labelling (times .exit) (keys .exit) (vias .exit) (tree .exit)) ⌝ }
+    pub fn begin(self, room: &mut [u64], estimated: Time)
+        requires { ⌜ (self .start .0 < self .sizes .n) × Room (self .sizes .n) (now room) ⌝ }
+        ensures { λ _. ⌜ Taken 0 (estimated .0) 0 (self .sizes .n) (self .start .0) (now (room .entry)) (now (room .exit)) ⌝ }
     {
         let n = self.sizes.n;
         let here = Time::of_word(0);
         let start = self.start;
-        take(times, keys, vias, tree, n, start.0, here, estimated, 0);
+        take(room, n, start.0, here, estimated, 0);
     }
 
     // Asks the estimates of the heads of a group's open roads.
@@ -210,45 +197,27 @@ impl Trip {
         }
     }
 
-    // Relaxes the group of roads of the logged junction u; the estimates of their heads have been asked.
+    // Relaxes the group of roads of a logged junction, whose time is `from`; the estimates of their heads have been asked.
     pub fn relax(
         self,
         roads: &[u8],
         live: &[TimeWord],
         estimates: &[TimeWord],
-        times: &mut [TimeWord],
-        keys: &mut [u64],
-        vias: &mut [u32],
-        tree: &mut [u64],
+        room: &mut [u64],
         group: &[u32],
-        u: u32,
+        from: Time,
     )
-        requires { ⌜ (u < self .sizes .n) × ReadIn (readOf self roads live estimates)
-            × Room (self .sizes .n) (labelling times keys vias tree) ⌝ }
+        requires { ⌜ ReadIn (readOf self roads live estimates) × Room (self .sizes .n) (now room) ⌝ }
         ensures { λ _. ⌜ RelaxesGroup (readOf self (roads .entry) (live .entry) (estimates .entry))
-            (now (group .entry)) u (getD (now (times .entry)) u 0)
-            (labelling (times .entry) (keys .entry) (vias .entry) (tree .entry))
-            (labelling (times .exit) (keys .exit) (vias .exit) (tree .exit)) ⌝ }
+            (now (group .entry)) (from .0) (now (room .entry)) (now (room .exit)) ⌝ }
     {
         let m = self.sizes.m;
-        let from = Time::of_word(times[u as usize]);
         let mut j = 0;
         while j < group.len() {
             let i = group[j];
             j += 1;
             if i < m {
-                relax_road(
-                    self,
-                    roads,
-                    live,
-                    estimates,
-                    times,
-                    keys,
-                    vias,
-                    tree,
-                    i,
-                    from,
-                );
+                relax_road(self, roads, live, estimates, room, i, from);
             }
         }
     }
@@ -265,12 +234,11 @@ impl Trip {
 // ---- the way back
 
 // The tail of the road that gave v its time, or v where there is none such.
-pub fn step_back(roads: &[u8], vias: &[u32], n: u32, m: u32, v: u32) -> u32
-    requires { ⌜ (v < n) × (n ≤ length (now vias)) × (roadSize * m ≤ length (now roads)) ⌝ }
-    ensures { λ r. ⌜ (r ≡ stepBack (now (roads .entry)) (now (vias .entry)) n m v) × (r < n) ⌝ }
+pub fn step_back(roads: &[u8], room: &[u64], n: u32, m: u32, v: u32) -> u32
+    requires { ⌜ (v < n) × (3 * n ≤ length (now room)) × (roadSize * m ≤ length (now roads)) ⌝ }
+    ensures { λ r. ⌜ (r ≡ stepBack (now (roads .entry)) (labelsIn n (now (room .entry)) .vias) n m v) × (r < n) ⌝ }
 {
-    let a = v as usize;
-    let i = vias[a];
+    let i = via_of(room, n, v);
     if m <= i {
         return v;
     }

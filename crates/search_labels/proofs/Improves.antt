@@ -1,37 +1,92 @@
--- A label that a smaller time takes over, and a label in the areas and in the queue. Assumes nothing.
-use mathlib.Core.Path.{_∙_, _≡_, ap, refl}
+-- A label in its two words, and a label that an offer takes over. Assumes nothing.
+use mathlib.Core.Path.{_∙_, _≡_, ap, refl, subst, sym}
 use mathlib.Core.List.{List}
-use Prim.Native.Nat.{_+_, _<_, ℕ}
+use Prim.Native.Nat.{_%_, _*_, _+_, _/_, _<_, _≤_, ℕ}
 use lib.ListN.{getD, length, length-set, set}
+use lib.Seq.{getD-set-other, getD-set-same}
 use native.Mathlib.Omega.{arith}
 use Rattle.model.specs.Word.{noneWord}
-use Rattle.search_queue.specs.Order.{byKey, settledKey}
-use Rattle.search_queue.specs.Tree.{Tournament}
-use Rattle.search_labels.specs.Labelling.{Improved, Room, Taken, earlier, labellingOf}
+use Rattle.search_queue.specs.Order.{Alike, SameBut, byKey, mostNodes, settledKey}
+use Rattle.search_queue.specs.Tree.{Changed, Put, Tournament, wordOf}
+use Rattle.search_queue.specs.Laws.{tournament-kept, unchanged, word-key, word-number}
+use Rattle.search_labels.specs.Labelling.{Fits, Improved, Room, SameLabel, Taken, earlier, labelsIn}
 
--- the key x is the sum of the offer and the estimate
-pub takes-over : {w e i t q j x : ℕ} → x ≡ w + e → (e ≡ noneWord → ⊥) → (q ≡ settledKey → ⊥) → w < t → Improved w e i t q j w x i
-takes-over ex a b l = rw ex (earlier a b l)
+-- the time y is the offer, and the key x the sum of the offer and the estimate
+pub takes-over : {w e i t q j x y : ℕ} → y ≡ w → x ≡ w + e → (e ≡ noneWord → ⊥) → (q ≡ settledKey → ⊥) → y < t → Improved w e i t q j y x i
+takes-over ey ex a b l = rw (ey, ex) (earlier a b (rw ey at l))
 
--- the time is read as x and written as y; the queue has the key, and its tree keeps its length
-pub taken-at : {w e i n v x t q j y : ℕ} {times keys vias tree keys′ tree′ : List ℕ} → Room n (labellingOf times keys vias tree)
-    → x ≡ getD times v 0 → y ≡ t → Improved w e i x (getD keys v 0) (getD vias v 0) t q j → keys′ ≡ set keys v q
-    → Tournament (byKey keys′) n tree′ → length tree′ ≡ length tree
-    → Taken w e i n v (labellingOf times keys vias tree) (labellingOf (set times v y) keys′ (set vias v j) tree′)
-taken-at {v = v} {t = t} {q} {j} {y} {times} {keys} {vias} room ex ey h ek right lt = record {
-  time = t;
-  key = q;
-  via = j;
-  improves = rw ex at h;
-  times-are = rw ey;
-  keys-are = ek;
-  vias-are = refl;
-  room = record {
-    n-high = room .n-high;
-    times-room = omega (arith, room .times-room, length-set times v y);
-    keys-room = omega (arith, room .keys-room, ap length ek ∙ length-set keys v q);
-    vias-room = omega (arith, room .vias-room, length-set vias v j);
-    tree-room = omega (arith, room .tree-room, lt);
-    right = right;
-  };
-}
+-- ---- the word of a label is written
+module _ {n v : ℕ} (lv : v < n) (room : List ℕ) (r : Room n room) (x : ℕ) where
+  abbrev relabelled : List ℕ
+  relabelled = set room (2 * n + v) x
+
+  label-own : getD relabelled (2 * n + v) 0 ≡ x
+  label-own = getD-set-same room (2 * n + v) x 0 (omega (arith, r .words))
+
+  -- no other word is altered
+  label-apart : (q : ℕ) → (q ≡ 2 * n + v → ⊥) → getD relabelled q 0 ≡ getD room q 0
+  label-apart q ne = getD-set-other room (2 * n + v) q x 0 ne
+
+  keys-stay : Alike n (byKey n room) (byKey n relabelled)
+  keys-stay = record {
+    keys-alike = λ u l. ap (λ (w : ℕ). w / mostNodes) (label-apart (n + u) (λ e. absurd (omega arith)));
+    ties-alike = λ u l. refl;
+  }
+
+  pub room-relabelled : Room n relabelled
+  room-relabelled = record {
+    n-high = r .n-high;
+    words = simp length-set (r .words);
+    right = tournament-kept keys-stay room relabelled (λ p high. label-apart p (λ e. absurd (omega arith))) (r .right);
+  }
+
+  -- so the tournament is right but at v, whose key may change now
+  pub changed : Changed (byKey n relabelled) n v relabelled
+  changed = unchanged v (room-relabelled .right)
+
+-- ---- the label of v takes an offer, and is (t, q, j) then; x is the word of its time and its arc
+module _ {n v t q j x : ℕ} (lv : v < n) (room : List ℕ) (r : Room n room) (fits : Fits t q j) (x-is : x ≡ wordOf t j) where
+  same-after : (u : ℕ) → u < n → (u ≡ v → ⊥) → SameLabel n u room (set room (2 * n + v) x)
+  same-after u lu ne = record {
+    key-word = label-apart lv room r x (n + u) (λ d. absurd (omega arith));
+    label-word = label-apart lv room r x (2 * n + u) (λ d. ne (omega arith));
+  }
+
+  -- it was read as (a, b, c), and is read again from its two words
+  read-again : {w e i a b c : ℕ} (room′ : List ℕ) → getD room′ (2 * n + v) 0 ≡ x → labelsIn n room′ .keys v ≡ q
+      → a ≡ labelsIn n room .times v → b ≡ labelsIn n room .keys v → c ≡ labelsIn n room .vias v → Improved w e i a b c t q j
+      → Improved w e i (labelsIn n room .times v) (labelsIn n room .keys v) (labelsIn n room .vias v)
+      (labelsIn n room′ .times v) (labelsIn n room′ .keys v) (labelsIn n room′ .vias v)
+  read-again room′ label-is key-is ea eb ec h =
+      let z = label-is ∙ x-is in
+      rw (key-is, word-key t (fits .via-low) z, word-number t (fits .via-low) z) (rw (ea, eb, ec) at h)
+
+  -- its key stays
+  pub taken-kept : {w e i a b c : ℕ} → q ≡ b → a ≡ labelsIn n room .times v → b ≡ labelsIn n room .keys v
+      → c ≡ labelsIn n room .vias v → Improved w e i a b c t q j → Taken w e i n v room (set room (2 * n + v) x)
+  taken-kept same ea eb ec h = record {
+    improves =
+        read-again (set room (2 * n + v) x) (label-own lv room r x)
+        (ap (λ (w : ℕ). w / mostNodes) (label-apart lv room r x (n + v) (λ d. absurd (omega arith))) ∙ sym (same ∙ eb)) ea eb ec h;
+    others = same-after;
+    room = room-relabelled lv room r x;
+  }
+
+  -- its key changes
+  pub taken-put : {w e i a b c : ℕ} {room′ : List ℕ} → length room′ ≡ length (set room (2 * n + v) x)
+      → Put n v q (set room (2 * n + v) x) room′ → a ≡ labelsIn n room .times v → b ≡ labelsIn n room .keys v
+      → c ≡ labelsIn n room .vias v → Improved w e i a b c t q j → Taken w e i n v room room′
+  taken-put {room′ = room′} long put ea eb ec h = record {
+    improves =
+        read-again room′ (put .others (2 * n + v) (omega arith) (λ d. absurd (omega arith)) ∙ label-own lv room r x)
+        (word-key q (omega (arith, r .n-high)) (put .own)) ea eb ec h;
+    others = λ u lu ne. record {
+      key-word = put .others (n + u) (omega arith) (λ d. ne (omega arith)) ∙ same-after u lu ne .key-word;
+      label-word = put .others (2 * n + u) (omega arith) (λ d. absurd (omega arith)) ∙ same-after u lu ne .label-word;
+    };
+    room = record {
+      n-high = r .n-high;
+      words = omega (arith, r .words, long ∙ length-set room (2 * n + v) x);
+      right = put .right;
+    };
+  }

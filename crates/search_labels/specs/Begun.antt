@@ -2,17 +2,16 @@
 use mathlib.Core.Path.{_≡_, refl}
 use mathlib.Core.Logic.{inl, inr}
 use mathlib.Core.Option.{none, some}
-use mathlib.Core.List.{[]}
+use mathlib.Core.List.{List, []}
 use Prim.Native.Nat.{_+_, _<_, _≤_, ℕ}
 use lib.Dec.{eqb}
-use lib.ListN.{getD}
 use native.Mathlib.Omega.{arith}
 use Rattle.graph.specs.Total.{cond-same, none-some, some-some}
 use Rattle.graph.specs.Least.{least-number}
 use Rattle.graph.specs.Search.{Problem, offerVia, timeIn}
-use Rattle.model.specs.Word.{noneWord, word, word-none, word-some}
+use Rattle.model.specs.Word.{noneWord, unasked, word, word-none, word-some}
 use Rattle.search_queue.specs.Order.{noKey, settledKey}
-use Rattle.search_labels.specs.Labelling.{Improved, Labelling, Room, Taken, behind, earlier, later, lost, settled, tied}
+use Rattle.search_labels.specs.Labelling.{Improved, Taken, behind, earlier, labelsIn, later, lost, noTime, settled, tied}
 use Rattle.search_labels.specs.Labelled.{Gives, Labelled, Labels, Offers, Searchable, label-candidate, label-hopeless, label-unseen}
 use Rattle.search_labels.specs.Relax.{labels-set}
 
@@ -21,7 +20,7 @@ unfolding offerVia timeIn
 no-arc {G} {v} {i} g = none-some (cond-same (eqb (G .net .head i) v) none) (g .offer)
 
 -- a vertex that is no start
-pub label-bare : {G : Problem} {c k v t q i : ℕ} → G .start v ≡ none → t ≡ noneWord → q ≡ noKey → Labelled G [] c k v t q i
+pub label-bare : {G : Problem} {c k v t q i : ℕ} → G .start v ≡ none → t ≡ noTime → q ≡ noKey → Labelled G [] c k v t q i
 unfolding timeIn
 label-bare {G} {c} {k} {v} s a b = label-unseen refl never a b
   where
@@ -30,8 +29,8 @@ label-bare {G} {c} {k} {v} s a b = label-unseen refl never a b
     never x (inr g) = no-arc (g .1)
 
 -- a start of time w, which is taken as if arc i offered it
-pub label-started : {G : Problem} {c k v w e i j t′ q′ j′ : ℕ} → G .start v ≡ some w → e ≡ word (G .pot v) → w < noneWord
-    → ((p : ℕ) → G .pot v ≡ some p → (p < noneWord) × (w + p < settledKey)) → Improved w e i noneWord noKey j t′ q′ j′
+pub label-started : {G : Problem} {c k v w e i j t′ q′ j′ : ℕ} → G .start v ≡ some w → e ≡ word (G .pot v) → w < unasked
+    → ((p : ℕ) → G .pot v ≡ some p → (p < noneWord) × (w + p < settledKey)) → Improved w e i noTime noKey j t′ q′ j′
     → Labelled G [] c k v t′ q′ j′
 unfolding timeIn
 label-started {G} {v} {e} s e-is low fits (lost z) =
@@ -48,13 +47,13 @@ label-started s e-is low fits (later a b l) = absurd (omega arith)
 label-started s e-is low fits (tied a b l m) = absurd (omega arith)
 label-started s e-is low fits (behind a b l m) = absurd (omega arith)
 
--- one start s, taken into areas that are blank
-pub labels-started : {G : Problem} (ok : Searchable G) {c k s w e i n : ℕ} {l₀ l : Labelling} → G .start s ≡ some w
-    → ((v : ℕ) → (v ≡ s → ⊥) → G .start v ≡ none) → ((v : ℕ) → v < G .size → getD (l₀ .times) v 0 ≡ noneWord)
-    → ((v : ℕ) → v < G .size → getD (l₀ .keys) v 0 ≡ noKey) → e ≡ word (G .pot s) → s < G .size → s < n → Room n l₀
-    → Taken w e i n s l₀ l → Labels G [] c k l
-labels-started {G} ok {c} {k} {s} {w} {l₀} here elsewhere blank keyless e-is ls ln room taken =
-    labels-set ln room taken
+-- one start s, taken into a room that is blank
+pub labels-started : {G : Problem} (ok : Searchable G) {c k s w e i n : ℕ} {l₀ l : List ℕ} → G .start s ≡ some w
+    → ((v : ℕ) → (v ≡ s → ⊥) → G .start v ≡ none) → ((v : ℕ) → v < G .size → labelsIn n l₀ .times v ≡ noTime)
+    → ((v : ℕ) → v < G .size → labelsIn n l₀ .keys v ≡ noKey) → e ≡ word (G .pot s) → s < G .size → G .size ≡ n
+    → Taken w e i n s l₀ l → Labels G [] c k (labelsIn n l)
+labels-started {G} ok {c} {k} {s} {w} {l₀} here elsewhere blank keyless e-is ls size-is taken =
+    labels-set size-is taken
     (label-started here e-is (omega (arith, low, ok .words)) fits (rw (blank s ls, keyless s ls) at (taken .improves)))
     (λ u lu ne. label-bare (elsewhere u ne) (blank u lu) (keyless u lu))
   where

@@ -5,7 +5,7 @@ use mathlib.Core.Bool.{Bool, false, true}
 use mathlib.Core.Option.{some}
 use mathlib.Core.List.{List, [], _++_, _∷_}
 use Prim.Native.Nat.{_+_, _<_, _≤_, suc, zero, ℕ}
-use lib.ListN.{getD, length, length-append}
+use lib.ListN.{length, length-append}
 use native.Mathlib.Omega.{arith}
 use Rattle.graph.specs.Total.{none-some}
 use Rattle.graph.specs.Search.{Entry, Problem, back, is, timeIn}
@@ -31,7 +31,7 @@ start-no-later {G} (grow {c} {H} r g (chosen k p)) v t a h s = go (λ q. start-n
 
 -- the way back from a logged vertex, by its label
 pub way-at : {G : Problem} {H : List Entry} {c k : ℕ} (l : Labelling) → Labels G H c k l → (v t : ℕ) → v < G .size → timeIn H v ≡ some t
-    → Way G H v (getD (l .vias) v 0)
+    → Way G H v (l .vias v)
 way-at {G} {H} {c} {k} l labels v t lv e = go (labels v lv)
   where
     go : {x q i : ℕ} → Labelled G H c k v x q i → Way G H v i

@@ -6,14 +6,13 @@ use mathlib.Core.Bool.{false, true}
 use mathlib.Core.Option.{none, some}
 use mathlib.Core.List.{List, [], _++_, _∷_}
 use Prim.Native.Nat.{_+_, _<_, _≤_, ℕ}
-use lib.ListN.{getD}
 use Rattle.graph.specs.Least.{IsLeast}
 use Rattle.graph.specs.Search.{Entry, Problem, back, is, offerVia, timeIn}
 use Rattle.graph.specs.Walk.{WellFormed}
 use Rattle.graph.specs.History.{Reached}
-use Rattle.model.specs.Word.{noneWord, unasked}
-use Rattle.search_queue.specs.Order.{Order, noKey, settledKey}
-use Rattle.search_labels.specs.Labelling.{Labelling}
+use Rattle.model.specs.Word.{unasked}
+use Rattle.search_queue.specs.Order.{noKey, settledKey}
+use Rattle.search_labels.specs.Labelling.{Labelling, noTime}
 
 -- What a program asks of a problem whose times and keys it keeps in words: no time that is offered, and no potential, is above some `most`,
 -- which is below the marks of times, and twice of which is below the marks of keys.
@@ -25,11 +24,6 @@ pub record Searchable (G : Problem) : Type 0 where
   pub starts : (v t : ℕ) → v < G .size → G .start v ≡ some t → t ≤ most
   pub pots : (v p : ℕ) → v < G .size → G .pot v ≡ some p → p ≤ most
   pub offers : {H : List Entry} → Reached G H → (v i t : ℕ) → i < G .net .arcs → offerVia (G .net) H v i ≡ some t → t ≤ most
-
--- The order of choice is the problem's: keys are those of the labels, and ties are decided by their times.
-pub record Chooses (G : Problem) (times keys : List ℕ) (o : Order) : Type 0 where
-  pub key-is : (v : ℕ) → v < G .size → o .key v ≡ getD keys v 0
-  pub tie-is : (v : ℕ) → v < G .size → o .tie v ≡ G .tie (getD times v 0)
 
 -- Arc i is relaxed, and gives v the time t. Relaxed are the arcs of logged vertices, of those of c the ones below k.
 pub record Gives (G : Problem) (H : List Entry) (c k v i t : ℕ) : Type 0 where
@@ -52,14 +46,14 @@ pub data Labelled (G : Problem) (H : List Entry) (c k v : ℕ) : (time key via :
   -- logged: its time, and the last arc of its way
   label-logged : {t q i : ℕ} → timeIn H v ≡ some t → q ≡ settledKey → Way G H v i → Labelled G H c k v t q i
   -- never a candidate: it has no potential
-  label-hopeless : {t q i : ℕ} → timeIn H v ≡ none → G .pot v ≡ none → t ≡ noneWord → q ≡ noKey → Labelled G H c k v t q i
+  label-hopeless : {t q i : ℕ} → timeIn H v ≡ none → G .pot v ≡ none → t ≡ noTime → q ≡ noKey → Labelled G H c k v t q i
   -- not yet one: nothing offers it a time
-  label-unseen : {t q i : ℕ} → timeIn H v ≡ none → ((s : ℕ) → Offers G H c k v s → ⊥) → t ≡ noneWord → q ≡ noKey → Labelled G H c k v t q i
+  label-unseen : {t q i : ℕ} → timeIn H v ≡ none → ((s : ℕ) → Offers G H c k v s → ⊥) → t ≡ noTime → q ≡ noKey → Labelled G H c k v t q i
   -- a candidate: the least time offered, and the smallest-numbered arc that gives it
   label-candidate :
-      {t q i p : ℕ} → timeIn H v ≡ none → G .pot v ≡ some p → IsLeast (Offers G H c k v) (some t) → t < noneWord → q < settledKey
+      {t q i p : ℕ} → timeIn H v ≡ none → G .pot v ≡ some p → IsLeast (Offers G H c k v) (some t) → t < unasked → q < settledKey
       → (G .start v ≡ some t) ⊎ IsLeast (λ j. Gives G H c k v j t) (some i) → q ≡ t + p → Labelled G H c k v t q i
 
 -- every vertex's label
 abbrev pub Labels : Problem → List Entry → (c k : ℕ) → Labelling → Type 0
-Labels G H c k l = (v : ℕ) → v < G .size → Labelled G H c k v (getD (l .times) v 0) (getD (l .keys) v 0) (getD (l .vias) v 0)
+Labels G H c k l = (v : ℕ) → v < G .size → Labelled G H c k v (l .times v) (l .keys v) (l .vias v)

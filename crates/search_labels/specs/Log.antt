@@ -1,12 +1,12 @@
--- Labels as the log grows: what is chosen by its key is what the definition logs next. Assumes nothing.
+-- Labels as the log grows: where all arcs are relaxed, their keys are the candidates' sums (`sums-kept`), and what is logged is settled
+-- (`labels-log`). Assumes nothing.
 use mathlib.Core.Path.{_∙_, _≡_, ap, refl, sym}
 use mathlib.Core.Logic.{_⊎_, inl, inr}
 use mathlib.Core.Bool.{false}
 use mathlib.Core.Option.{none, some}
 use mathlib.Core.List.{List, [], _++_, _∷_}
-use Prim.Native.Nat.{_<_, _≤_, ℕ}
-use lib.ListN.{getD, length, set}
-use lib.Seq.{getD-set-other, getD-set-same}
+use Prim.Native.Nat.{_*_, _+_, _<_, _≤_, ℕ}
+use lib.ListN.{getD}
 use native.Mathlib.Decide.{ℕ-discrete}
 use native.Mathlib.Omega.{arith}
 use Rattle.graph.specs.Total.{Tested, decide, none-some, some-some}
@@ -14,13 +14,24 @@ use Rattle.graph.specs.Least.{IsLeast, least-map, least-unique}
 use Rattle.graph.specs.Network.{arcOf}
 use Rattle.graph.specs.Search.{Entry, Problem, firstVia, is, offerVia, offered, timeIn}
 use Rattle.graph.specs.Walk.{Offer, byArc, byStart, offerVia-some, offered-least, some-offerVia, timeIn-here, timeIn-there}
-use Rattle.graph.specs.Choice.{Candidate, NextIs, Prior, chosen, finished}
+use Rattle.graph.specs.Choice.{Candidate}
 use Rattle.graph.specs.Back.{back-start, back-there, back-via, firstVia-least, is-true, true-is}
-use Rattle.search_queue.specs.Order.{FirstOf, Order, Waiting, settledKey}
-use Rattle.search_labels.specs.Labelling.{Labelling}
-use Rattle.search_labels.specs.Labelled.{Chooses, Gives, Labelled, Labels, Offers, Way, label-candidate}
+use Rattle.model.specs.Word.{unasked}
+use Rattle.search_queue.specs.Order.{mostNodes, settledKey}
+use Rattle.search_queue.specs.Tree.{Put}
+use Rattle.search_queue.specs.Sums.{SumsKept}
+use Rattle.search_queue.specs.Laws.{word-key}
+use Rattle.search_labels.specs.Labelling.{Labelling, labelsIn}
+use Rattle.search_labels.specs.Labelled.{Gives, Labelled, Labels, Offers, Way, label-candidate}
 use Rattle.search_labels.specs.Labelled.{label-hopeless, label-logged, label-unseen, way-begins, way-through}
 use Rattle.search_labels.specs.Relax.{label-same}
+
+-- the time of a candidate fits in a word
+pub label-low : {G : Problem} {H : List Entry} {c k v t q i : ℕ} → q < settledKey → Labelled G H c k v t q i → t < unasked
+label-low l (label-logged h s w) = absurd (omega arith)
+label-low l (label-hopeless h p a b) = absurd (omega arith)
+label-low l (label-unseen h bare a b) = absurd (omega arith)
+label-low l (label-candidate h pot least low keyed first key) = low
 
 -- ---- where all arcs are relaxed, the offers are the definition's
 module _ {G : Problem} {H : List Entry} {c k : ℕ} (full : G .net .arcs ≤ k) where
@@ -67,34 +78,14 @@ module _ {G : Problem} {H : List Entry} {c k : ℕ} (full : G .net .arcs ≤ k) 
   label-candidate-of lv l (label-candidate {p} h pot least low keyed first key) =
       record { below = lv; unlogged = h; estimate = p; pot-is = pot; key-is = key; time-is = offered-is least }
 
-  -- ---- choosing
-  module _ (l : Labelling) {o : Order} (order : Chooses G (l .times) (l .keys) o) (labels : Labels G H c k l) where
-    -- no vertex waits
-    pub next-none : ((v : ℕ) → v < G .size → Waiting o v → ⊥) → NextIs G H none
-    next-none nobody = finished (λ d m.
-        let e = candidate-label m (labels (d .vertex) (m .below)) in
-        nobody (d .vertex) (m .below) (omega (arith, order .key-is (d .vertex) (m .below), e .2)))
-
-    -- the first vertex that waits
-    pub next-chosen : (v : ℕ) → FirstOf o (G .size) v
-        → NextIs G H (some (record { vertex = v; time = getD (l .times) v 0; key = getD (l .keys) v 0 }))
-    next-chosen v f = chosen (label-candidate-of (f .inside) (omega (arith, f .waits, key-v)) (labels v (f .inside))) prior
-      where
-        key-v : o .key v ≡ getD (l .keys) v 0
-        key-v = order .key-is v (f .inside)
-
-        prior : (d : Entry) → Candidate G H d → Prior G (record { vertex = v; time = getD (l .times) v 0; key = getD (l .keys) v 0 }) d
-        prior d m =
-            let e = candidate-label m (labels (d .vertex) (m .below)) in
-            let key-d : o .key (d .vertex) ≡ d .key = order .key-is (d .vertex) (m .below) ∙ e .1 in
-            let tie-d : o .tie (d .vertex) ≡ G .tie (d .time) = order .tie-is (d .vertex) (m .below) ∙ ap (G .tie) (e .0) in
-            let tie-v : o .tie v ≡ G .tie (getD (l .times) v 0) = order .tie-is v (f .inside) in
-            let b = f .best (d .vertex) (m .below) (omega (arith, key-d, e .1, e .2)) in
-            record {
-              keys = omega (arith, b .keys-le, key-v, key-d);
-              ties = λ q. omega (arith, b .ties-le (omega (arith, key-v, key-d, q)), tie-v, tie-d);
-              numbers = λ q r. b .numbers (omega (arith, key-v, key-d, q)) (omega (arith, tie-v, tie-d, r));
-            }
+  -- ---- choosing: the labels' keys are the candidates' sums
+  pub sums-kept : (l : Labelling) {tie : ℕ → ℕ} → ((v : ℕ) → v < G .size → tie v ≡ G .tie (l .times v)) → Labels G H c k l
+      → SumsKept G H (l .times) (record { key = l .keys; tie = tie })
+  sums-kept l ties labels = record {
+    kept = λ v lv waits. label-candidate-of lv waits (labels v lv);
+    waits = λ d m. (let e = candidate-label m (labels (d .vertex) (m .below)) in e .2);
+    ties = ties;
+  }
 
 -- ---- logging: e is the newest entry
 module _ (G : Problem) (H : List Entry) (e : Entry) (new : timeIn H (e .vertex) ≡ none) where
@@ -165,16 +156,22 @@ module _ {G : Problem} {H : List Entry} {c k : ℕ} (full : G .net .arcs ≤ k) 
       rw z (label-logged (timeIn-here e H (e .vertex) refl) refl (way-new (rw z at first)))
 
   -- the vertex of the entry is settled, the other labels stay
-  pub labels-log : (l l′ : Labelling) → Labels G H c k l → l′ .times ≡ l .times → l′ .vias ≡ l .vias
-      → l′ .keys ≡ set (l .keys) (e .vertex) settledKey → e .vertex < length (l .keys) → getD (l .times) (e .vertex) 0 ≡ e .time
-      → getD (l .keys) (e .vertex) 0 < settledKey → Labels G (e ∷ H) (e .vertex) 0 l′
-  labels-log l l′ labels times-are vias-are keys-are lk z lt v lv = at (ℕ-discrete v (e .vertex))
+  pub labels-log : {n : ℕ} (l l′ : List ℕ) → G .size ≡ n → n ≤ mostNodes → e .vertex < n → Labels G H c k (labelsIn n l)
+      → Put n (e .vertex) settledKey l l′ → labelsIn n l .times (e .vertex) ≡ e .time → labelsIn n l .keys (e .vertex) < settledKey
+      → Labels G (e ∷ H) (e .vertex) 0 (labelsIn n l′)
+  labels-log {n} l l′ size-is high inside labels put z lt v lv = at (ℕ-discrete v (e .vertex))
     where
-      at : Dec (v ≡ e .vertex) → Labelled G (e ∷ H) (e .vertex) 0 v (getD (l′ .times) v 0) (getD (l′ .keys) v 0) (getD (l′ .vias) v 0)
+      at : Dec (v ≡ e .vertex)
+          → Labelled G (e ∷ H) (e .vertex) 0 v (labelsIn n l′ .times v) (labelsIn n l′ .keys v) (labelsIn n l′ .vias v)
       at (yes q) =
-          rw (times-are, vias-are, keys-are, q, getD-set-same (l .keys) (e .vertex) settledKey 0 lk)
-          (label-log z lt (labels (e .vertex) (rw q at lv)))
+          let word : getD l′ (2 * n + e .vertex) 0 ≡ getD l (2 * n + e .vertex) 0 =
+          put .others (2 * n + e .vertex) (omega arith) (λ d. absurd (omega arith)) in
+          let key : labelsIn n l′ .keys (e .vertex) ≡ settledKey = word-key settledKey (omega arith) (put .own) in
+          rw (q, word, key) (label-log z lt (labels (e .vertex) (rw q at lv)))
       at (no q) =
-          rw (times-are, vias-are, keys-are, getD-set-other (l .keys) (e .vertex) v settledKey 0 q)
+          let word : getD l′ (2 * n + v) 0 ≡ getD l (2 * n + v) 0 =
+          put .others (2 * n + v) (omega arith) (λ d. absurd (omega (arith, size-is))) in
+          let key : getD l′ (n + v) 0 ≡ getD l (n + v) 0 = put .others (n + v) (omega arith) (λ d. q (omega arith)) in
+          rw (word, key)
           (label-same (way-older G H e new (λ r. q (sym r))) logged-into logged-back (sym (timeIn-there e H v (λ r. q (sym r))))
           (labels v lv))

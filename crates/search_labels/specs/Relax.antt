@@ -5,8 +5,6 @@ use mathlib.Core.Option.{none, some}
 use mathlib.Core.List.{List}
 use Prim.Native.Nat.{_+_, _<_, _≤_, ℕ}
 use borrow.Author.Tests.{ne-eqb}
-use lib.ListN.{getD}
-use lib.Seq.{getD-set-other, getD-set-same}
 use native.Mathlib.Decide.{decLt, ℕ-discrete}
 use native.Mathlib.Omega.{arith}
 use Rattle.graph.specs.Total.{none-some, some-some}
@@ -14,9 +12,9 @@ use Rattle.graph.specs.Least.{IsLeast, least-map, least-number}
 use Rattle.graph.specs.Walk.{offerVia-some}
 use Rattle.graph.specs.Search.{Entry, Problem, offerVia, timeIn}
 use Rattle.graph.specs.History.{Reached}
-use Rattle.model.specs.Word.{noneWord, word, word-none, word-some}
+use Rattle.model.specs.Word.{noneWord, unasked, word, word-none, word-some}
 use Rattle.search_queue.specs.Order.{settledKey}
-use Rattle.search_labels.specs.Labelling.{Improved, Labelling, Room, Taken, behind, earlier, later, lost, settled, tied}
+use Rattle.search_labels.specs.Labelling.{Improved, Labelling, Taken, behind, earlier, labelsIn, later, lost, settled, tied}
 use Rattle.search_labels.specs.Labelled.{Gives, Labelled, Labels, Offers, Searchable, Way, label-candidate}
 use Rattle.search_labels.specs.Labelled.{label-hopeless, label-logged, label-unseen}
 
@@ -83,7 +81,7 @@ module _ {G : Problem} {H : List Entry} {c i : ℕ} (li : i < G .net .arcs) wher
   labels-passed e l h v lv = label-passed (e v) (h v lv)
 
   -- it gives v the time w
-  module _ {v w : ℕ} (gives : offerVia (G .net) H v i ≡ some w) (low : w < noneWord) where
+  module _ {v w : ℕ} (gives : offerVia (G .net) H v i ≡ some w) (low : w < unasked) where
     gives-new : Gives G H c (i + 1) v i w
     gives-new = record { below = li; relaxed = λ q. omega arith; offer = gives }
 
@@ -114,7 +112,7 @@ module _ {G : Problem} {H : List Entry} {c i : ℕ} (li : i < G .net .arcs) wher
         first-of j (inr e) = omega (arith, e .0)
 
     -- a time of at most w stays; of the arcs that give it, the first
-    under : {t q j p : ℕ} → timeIn H v ≡ none → G .pot v ≡ some p → IsLeast (Offers G H c i v) (some t) → t < noneWord → q < settledKey
+    under : {t q j p : ℕ} → timeIn H v ≡ none → G .pot v ≡ some p → IsLeast (Offers G H c i v) (some t) → t < unasked → q < settledKey
         → q ≡ t + p → t ≤ w → (G .start v ≡ some t) ⊎ IsLeast (λ j. Gives G H c (i + 1) v j t) (some j) → Labelled G H c (i + 1) v t q j
     under {t} {q} {j} {p} un pot least fits keyed key le first =
         label-candidate un pot (record { attained = λ s e. old s (least .attained s e); bound = λ s o. low-of s o }) fits keyed first key
@@ -188,47 +186,32 @@ module _ {G : Problem} {H : List Entry} {c i : ℕ} (li : i < G .net .arcs) wher
       label-improved (behind a b l m) (label-candidate h p least low keyed first y) =
           under h p least low keyed y (omega arith) (origin-stays (λ q. m) first)
 
--- ---- the same in the areas
+-- ---- the same in a room
 
 -- the label of v is the improved one, those of other vertices stay
-pub labels-set : {G : Problem} {H : List Entry} {c k w e i n v : ℕ} {l l′ : Labelling} → v < n → Room n l
-    → (taken : Taken w e i n v l l′) → Labelled G H c k v (taken .time) (taken .key) (taken .via)
-    → ((u : ℕ) → u < G .size → (u ≡ v → ⊥) → Labelled G H c k u (getD (l .times) u 0) (getD (l .keys) u 0) (getD (l .vias) u 0))
-    → Labels G H c k l′
-labels-set {G} {H} {c} {k} {v} {l} {l′} lv room taken new old u lu = at (ℕ-discrete u v)
+pub labels-set : {G : Problem} {H : List Entry} {c k w e i n v : ℕ} {l l′ : List ℕ} → G .size ≡ n → Taken w e i n v l l′
+    → Labelled G H c k v (labelsIn n l′ .times v) (labelsIn n l′ .keys v) (labelsIn n l′ .vias v)
+    → ((u : ℕ) → u < G .size → (u ≡ v → ⊥) → Labelled G H c k u (labelsIn n l .times u) (labelsIn n l .keys u) (labelsIn n l .vias u))
+    → Labels G H c k (labelsIn n l′)
+labels-set {G} {H} {c} {k} {n = n} {v} {l} {l′} size-is taken new old u lu = at (ℕ-discrete u v)
   where
-    at : Dec (u ≡ v) → Labelled G H c k u (getD (l′ .times) u 0) (getD (l′ .keys) u 0) (getD (l′ .vias) u 0)
-    at (yes q) =
-        rw (
-          taken .times-are,
-          taken .keys-are,
-          taken .vias-are,
-          q,
-          getD-set-same (l .times) v (taken .time) 0 (omega (arith, room .times-room)),
-          getD-set-same (l .keys) v (taken .key) 0 (omega (arith, room .keys-room)),
-          getD-set-same (l .vias) v (taken .via) 0 (omega (arith, room .vias-room)),
-        ) new
+    at : Dec (u ≡ v) → Labelled G H c k u (labelsIn n l′ .times u) (labelsIn n l′ .keys u) (labelsIn n l′ .vias u)
+    at (yes q) = rw q new
     at (no q) =
-        rw (
-          taken .times-are,
-          taken .keys-are,
-          taken .vias-are,
-          getD-set-other (l .times) v u (taken .time) 0 q,
-          getD-set-other (l .keys) v u (taken .key) 0 q,
-          getD-set-other (l .vias) v u (taken .via) 0 q,
-        ) (old u lu q)
+        let same = taken .others u (omega (arith, size-is)) q in
+        rw (same .label-word, same .key-word) (old u lu q)
 
 -- an arc gives no time to a vertex that is not its head
 via-other : (G : Problem) (H : List Entry) (v i : ℕ) → (G .net .head i ≡ v → ⊥) → offerVia (G .net) H v i ≡ none
 unfolding offerVia
 via-other G H v i ne = rw (ne-eqb (G .net .head i) v ne)
 
--- arc i gives its head v the time w, which is taken into the areas
-pub labels-taken : {G : Problem} (ok : Searchable G) {H : List Entry} (reached : Reached G H) {c i v w e n : ℕ} {l l′ : Labelling}
-    → i < G .net .arcs → G .net .head i ≡ v → offerVia (G .net) H v i ≡ some w → e ≡ word (G .pot v) → v < G .size → v < n → Room n l
-    → Taken w e i n v l l′ → Labels G H c i l → Labels G H c (i + 1) l′
-labels-taken {G} ok {H} reached {c} {i} {v} {w} {l} li hd gives e-is lv ln room taken labels =
-    labels-set ln room taken
+-- arc i gives its head v the time w, which is taken into the room
+pub labels-taken : {G : Problem} (ok : Searchable G) {H : List Entry} (reached : Reached G H) {c i v w e n : ℕ} {l l′ : List ℕ}
+    → i < G .net .arcs → G .net .head i ≡ v → offerVia (G .net) H v i ≡ some w → e ≡ word (G .pot v) → v < G .size → G .size ≡ n
+    → Taken w e i n v l l′ → Labels G H c i (labelsIn n l) → Labels G H c (i + 1) (labelsIn n l′)
+labels-taken {G} ok {H} reached {c} {i} {v} {w} {l} li hd gives e-is lv size-is taken labels =
+    labels-set size-is taken
     (label-improved li gives (omega (arith, low, ok .words)) e-is fits (taken .improves) (labels v lv))
     (λ u lu ne. label-passed li (via-other G H u i (λ q. ne (sym q ∙ hd))) (labels u lu))
   where

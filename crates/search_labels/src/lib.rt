@@ -1,45 +1,77 @@
 // What a search keeps of each node: its time, its key and the arc that gave the time, and how an offer improves them. What a node stands
-// for is not known here.
+// for is not known here. A room of 3 n words holds it for n nodes: first the queue, with the keys, then a word for each node, its time and
+// the arc.
+ghost use mathlib.Core.Option.{some};
 ghost use mathlib.Core.Path.{_≡_};
-ghost use Prim.Native.Nat.{_+_, _<_};
-ghost use Rattle.search_labels.specs.Labelling.{Improved, Room, Taken, labelling};
+ghost use Prim.Native.Nat.{_*_, _+_, _<_, _≤_};
+ghost use lib.ListN.{length};
+ghost use Rattle.model.specs.Word.{word};
+ghost use Rattle.network.specs.Width.{fit};
+ghost use Rattle.search_queue.specs.Order.{mostNodes};
+ghost use Rattle.search_labels.specs.Labelling.{Fits, Improved, Room, Taken, labelsIn, noTime};
 use network::Time;
-use network::TimeWord;
 use search_queue::SETTLED;
+use search_queue::key_of;
+use search_queue::lower_of;
 use search_queue::put;
+use search_queue::upper_of;
+use search_queue::word_of;
 
-// A candidate's key: its time plus its estimate. The sum may pass 32 bits.
-fn key_of(time: Time, estimate: Time) -> u64
-    ensures { λ r. ⌜ r ≡ time .0 + estimate .0 ⌝ }
+// ---- the words of a node
+
+// The time of v; none where it has none.
+pub fn time_of(room: &[u64], n: u32, v: u32) -> Time
+    requires { ⌜ (v < n) × (3 * n ≤ length (now room)) ⌝ }
+    ensures { λ r. ⌜ r .0 ≡ word (fit (some (labelsIn n (now (room .entry)) .times v))) ⌝ }
 {
-    time.word() as u64 + estimate.word() as u64
+    let at = 2 * (n as usize) + v as usize;
+    Time::of_total(upper_of(room[at]))
 }
+
+// The arc that gave v its time.
+pub fn via_of(room: &[u64], n: u32, v: u32) -> u32
+    requires { ⌜ (v < n) × (3 * n ≤ length (now room)) ⌝ }
+    ensures { λ r. ⌜ r ≡ labelsIn n (now (room .entry)) .vias v ⌝ }
+{
+    let at = 2 * (n as usize) + v as usize;
+    lower_of(room[at])
+}
+
+// ---- a label
 
 // The time of a candidate or of a logged node, its key, and the arc that gave the time.
 struct Label {
-    pub time: Time,
+    pub time: u64,
     pub key: u64,
     pub via: u32,
 }
 
-// The label of a node after arc i too has offered it a time; `estimate` is the node's.
+// A candidate's key: its time plus its estimate. The sum may pass 32 bits.
+fn sum_of(time: Time, estimate: Time) -> u64
+    ensures { λ r. ⌜ (r ≡ time .0 + estimate .0) × (r ≤ noTime) ⌝ }
+{
+    time.word() as u64 + estimate.word() as u64
+}
+
+// The label of a node after arc i too has offered it a time; `estimate` is the node's. Its key is added up where its time changes, and
+// nowhere else.
 fn improved(old: Label, offer: Time, estimate: Time, i: u32) -> Label
-    ensures { λ r. ⌜ Improved (offer .0) (estimate .0) i (old .time .0) (old .key) (old .via) (r .time .0) (r .key) (r .via) ⌝ }
+    requires { ⌜ Fits (old .time) (old .key) (old .via) × (i < mostNodes) ⌝ }
+    ensures { λ r. ⌜ Improved (offer .0) (estimate .0) i (old .time) (old .key) (old .via) (r .time) (r .key) (r .via)
+        × Fits (r .time) (r .key) (r .via) ⌝ }
 {
     if estimate.is_none() {
         return old;
     }
-    let key = old.key;
-    if key == SETTLED {
+    if old.key == SETTLED {
         return old;
     }
-    let time = old.time;
-    let t = time.word();
-    let w = offer.word();
+    let t = old.time;
+    let w = offer.word() as u64;
     if w < t {
         return Label {
-            time: offer,
-            key: key_of(offer, estimate),
+            time: w,
+            key: sum_of(offer, estimate),
             via: i,
         };
     }
@@ -48,39 +80,30 @@ fn improved(old: Label, offer: Time, estimate: Time, i: u32) -> Label
     }
     if i < old.via {
         return Label {
-            time: time,
-            key: key,
+            time: t,
+            key: old.key,
             via: i,
         };
     }
     old
 }
 
-// Arc i offers v a time: v's label is improved in the areas, and its place in the queue renewed.
-pub fn take(
-    times: &mut [TimeWord],
-    keys: &mut [u64],
-    vias: &mut [u32],
-    tree: &mut [u64],
-    n: u32,
-    v: u32,
-    offer: Time,
-    estimate: Time,
-    i: u32,
-)
-    requires { ⌜ (v < n) × Room n (labelling times keys vias tree) ⌝ }
-    ensures { λ _. ⌜ Taken (offer .0) (estimate .0) i n v (labelling (times .entry) (keys .entry) (vias .entry) (tree .entry))
-        (labelling (times .exit) (keys .exit) (vias .exit) (tree .exit)) ⌝ }
+// Arc i offers v a time: v's label is improved in the room, and its place in the queue renewed where its key has changed.
+pub fn take(room: &mut [u64], n: u32, v: u32, offer: Time, estimate: Time, i: u32)
+    requires { ⌜ (v < n) × (i < mostNodes) × Room n (now room) ⌝ }
+    ensures { λ _. ⌜ Taken (offer .0) (estimate .0) i n v (now (room .entry)) (now (room .exit)) ⌝ }
 {
-    let a = v as usize;
+    let at = 2 * (n as usize) + v as usize;
+    let word = room[at];
+    let key = key_of(room, n, v);
     let old = Label {
-        time: Time::of_word(times[a]),
-        key: keys[a],
-        via: vias[a],
+        time: upper_of(word),
+        key: key,
+        via: lower_of(word),
     };
     let new = improved(old, offer, estimate, i);
-    let time = new.time;
-    times[a] = time.word();
-    vias[a] = new.via;
-    put(keys, tree, n, v, new.key);
+    room[at] = word_of(new.time, new.via);
+    if new.key != key {
+        put(room, n, v, new.key);
+    }
 }

@@ -1,5 +1,5 @@
 -- One node's key has changed, and the places above it are decided anew, from its own place up. Assumes nothing.
-use mathlib.Core.Path.{_∙_, _≡_, refl, subst, sym}
+use mathlib.Core.Path.{_∙_, _≡_, ap, refl, subst, sym}
 use mathlib.Core.Logic.{_⊎_, inl, inr}
 use mathlib.Core.Bool.{false, true}
 use mathlib.Core.List.{List}
@@ -9,12 +9,11 @@ use lib.Seq.{getD-set-other, getD-set-same}
 use native.Mathlib.Decide.{decLt, ℕ-discrete}
 use native.Mathlib.Omega.{arith}
 use Rattle.graph.specs.Total.{Tested, decide}
-use Rattle.search_queue.specs.Order.{Before, Order, SameBut, Waiting, mostNodes, settledKey}
-use Rattle.search_queue.specs.Tree.{Above, Changed, Holds, NodeIn, Tournament, before, better, here, nobody, somebody, wordIn}
-use Rattle.search_queue.specs.Laws.{word-key}
-use Rattle.search_queue.proofs.Orders.{before-new, before-self, before-trans, waiting-new, waiting-old}
+use Rattle.search_queue.specs.Order.{Alike, Before, Order, SameBut, Waiting, byKey, mostNodes, settledKey}
+use Rattle.search_queue.specs.Tree.{Above, Changed, Holds, NodeIn, Put, before, better, here, nobody, somebody, wordOf}
+use Rattle.search_queue.specs.Laws.{tournament-kept, word-key}
+use Rattle.search_queue.proofs.Orders.{before-new, before-self, before-trans, same-put, waiting-new, waiting-old}
 use Rattle.search_queue.proofs.Words.{after-keys, before-false, before-keys, before-true, better-first, better-second}
-use Rattle.search_queue.proofs.Words.{word-rests, word-waits}
 use Rattle.search_queue.proofs.Places.{Two, above-half, above-le, above-leaf, two-beside}
 
 -- ---- a place is decided by the two under it
@@ -65,32 +64,30 @@ module _ (o : Order) {n p a b : ℕ} (two : Two n p a b) where
         go (inl t) = rw (better-first (o .tie) x y t) (decided-first t h h′)
         go (inr t) = rw (better-second (o .tie) x y t) (decided-second t h h′)
 
--- ---- what a place holds stays
-module _ {o₀ o : Order} {v : ℕ} (s : SameBut v o₀ o) where
-  word-new : {u w : ℕ} → (u ≡ v → ⊥) → w ≡ o₀ .key u * mostNodes + u → w ≡ o .key u * mostNodes + u
-  word-new {u} ne e = let k = s .keys-same u ne in omega arith
+-- ---- what a place holds stays, where v is no candidate under it
+module _ {o₀ o : Order} {n v : ℕ} (s : SameBut n v o₀ o) where
+  word-new : {u w : ℕ} → u < n → (u ≡ v → ⊥) → w ≡ wordOf (o₀ .key u) u → w ≡ wordOf (o .key u) u
+  word-new {u} l ne e = let k = s .keys-same u l ne in omega arith
 
-  -- where v is no candidate under it
-  holds-apart : {n q x : ℕ} → ((u : ℕ) → Above q (n + u) → Waiting o₀ u → u ≡ v → ⊥)
-      → ((u : ℕ) → Above q (n + u) → Waiting o u → u ≡ v → ⊥)
-      → Holds o₀ n q x → Holds o n q x
-  holds-apart was is (nobody e f) = nobody e (λ u lu a w. f u lu a (waiting-old s (is u a w) w))
-  holds-apart was is (somebody i e li ai wi best) =
-      let ni = was i ai wi in
-      somebody i (word-new ni e) li ai (waiting-new s ni wi)
-      (λ u lu a w. before-new s ni (is u a w) (best u lu a (waiting-old s (is u a w) w)))
+  holds-apart : {q x : ℕ} → ((u : ℕ) → Above q (n + u) → u ≡ v → ⊥) → Holds o₀ n q x → Holds o n q x
+  holds-apart apart (nobody e f) = nobody e (λ u lu a w. f u lu a (waiting-old s lu (apart u a) w))
+  holds-apart apart (somebody i e li ai wi best) =
+      let ni = apart i ai in
+      somebody i (word-new li ni e) li ai (waiting-new s li ni wi)
+      (λ u lu a w. before-new s li lu ni (apart u a) (best u lu a (waiting-old s lu (apart u a) w)))
 
 -- v's own place holds its word
-holds-leaf : (o : Order) (n v : ℕ) → v < n → Holds o n (n + v) (wordIn o v)
-holds-leaf o n v lv = go (decLt (o .key v) settledKey)
+holds-leaf : (o : Order) {n v w : ℕ} → v < n → n ≤ mostNodes → w ≡ wordOf (o .key v) v → Holds o n (n + v) w
+holds-leaf o {n} {v} {w} lv high w-is = go (decLt (o .key v) settledKey)
   where
-    go : Dec (o .key v < settledKey) → Holds o n (n + v) (wordIn o v)
-    go (yes t) =
-        somebody v (word-waits o v t) lv here t
-        (λ u lu a w. (let e : u ≡ v = above-leaf lv lu a in rw e (before-self o v)))
+    own : {u : ℕ} → u < n → Above (n + v) (n + u) → u ≡ v
+    own lu a = above-leaf lv lu a
+
+    go : Dec (o .key v < settledKey) → Holds o n (n + v) w
+    go (yes t) = somebody v w-is lv here t (λ u lu a _. (let e : u ≡ v = own lu a in rw e (before-self o v)))
     go (no t) =
-        nobody (word-rests o v (omega arith))
-        (λ u lu a w. (let e : u ≡ v = above-leaf lv lu a in t (rw e at w)))
+        let rests : settledKey ≤ w / mostNodes = omega (arith, word-key (o .key v) (omega arith) w-is) in
+        nobody rests (λ u lu a z. (let e : u ≡ v = own lu a in t (rw e at z)))
 
 -- ---- a place is written
 module _ (o : Order) (n : ℕ) (tree : List ℕ) (at x q : ℕ) where
@@ -107,61 +104,90 @@ module _ (o : Order) (n : ℕ) (tree : List ℕ) (at x q : ℕ) where
 
 -- ---- the way up
 
--- All places but those properly above `at` hold what they should, and `at` holds w. tree₀ is the tree at the beginning of the loop.
-pub record Climb (o : Order) (n : ℕ) (tree₀ tree : List ℕ) (at w : ℕ) : Type 0 where
+-- All places but those properly above `at` hold what they should, and `at` holds w; nothing from place n on is altered. room₀ is the room
+-- at the beginning of the loop.
+pub record Climb (o : Order) (n : ℕ) (room₀ room : List ℕ) (at w : ℕ) : Type 0 where
   pub low : 0 < at
   pub high : at < 2 * n
-  pub room : 2 * n ≤ length tree
-  pub long : length tree ≡ length tree₀
+  pub places : 2 * n ≤ length room
+  pub long : length room ≡ length room₀
+  pub kept : (q : ℕ) → n ≤ q → getD room q 0 ≡ getD room₀ q 0
   pub word : Holds o n at w
-  pub done : (q : ℕ) → 0 < q → q < 2 * n → (Above q at → q < at → ⊥) → Holds o n q (getD tree q 0)
+  pub done : (q : ℕ) → 0 < q → q < 2 * n → (Above q at → q < at → ⊥) → Holds o n q (getD room q 0)
 
-pub climb-start : {o : Order} {n v : ℕ} {keys tree : List ℕ} {at w : ℕ} → NodeIn n v keys tree → at ≡ n + v → w ≡ wordIn o v
-    → Changed o n v tree → Climb o n (set tree at w) (set tree at w) at w
-climb-start {o} {n} {v} {keys} {tree} {at} {w} node at-is w-is c = record {
-  low = omega (arith, node .inside);
-  high = omega (arith, node .inside);
-  room = simp length-set (node .tree-room);
-  long = refl;
-  word = leaf;
-  done = λ q low high f.
-      holds-written o n tree at w q (omega (arith, node .inside, node .tree-room)) leaf
-      (λ ne. holds-apart (c .same) (λ u a _. other q ne f u a) (λ u a _. other q ne f u a) (c .right q low high));
-}
-  where
-    leaf : Holds o n at w
-    leaf = rw (w-is, at-is) (holds-leaf o n v (node .inside))
+-- the word of v is written at its own place
+module _ {n v : ℕ} (key : ℕ) {room : List ℕ} {x : ℕ} (node : NodeIn n v room) (x-is : x ≡ wordOf key v) where
+  abbrev written : List ℕ
+  written = set room (n + v) x
 
-    other : (q : ℕ) → (q ≡ at → ⊥) → (Above q at → q < at → ⊥) → (u : ℕ) → Above q (n + u) → u ≡ v → ⊥
-    other q ne f u a e =
-        let b : Above q at = subst (λ (p : ℕ). Above q p) (rw (e, at-is) refl) a in
-        let le = above-le b in
-        f b (omega arith)
+  own-word : getD written (n + v) 0 ≡ x
+  own-word = getD-set-same room (n + v) x 0 (omega (arith, node .inside, node .places))
 
-module _ {o : Order} {n : ℕ} {tree₀ tree : List ℕ} {at up beside w : ℕ} (room : n ≤ mostNodes) (more : 1 < at) (up-is : up ≡ at / 2)
-    (beside-is : beside ≡ 4 * up + 1 - at) (c : Climb o n tree₀ tree at w) where
+  pub climb-start : Changed (byKey n room) n v room → Climb (byKey n written) n written written (n + v) x
+  climb-start c = record {
+    low = omega (arith, node .inside);
+    high = omega (arith, node .inside);
+    places = simp length-set (node .places);
+    long = refl;
+    kept = λ q l. refl;
+    word = leaf;
+    done = λ q low high f.
+        holds-written o n room (n + v) x q (omega (arith, node .inside, node .places)) leaf
+        (λ ne. holds-apart same (other q ne f) (c .right q low high));
+  }
+    where
+      o : Order
+      o = byKey n written
+
+      same : SameBut n v (c .old) o
+      same = same-put n room x (c .same)
+
+      leaf : Holds o n (n + v) x
+      leaf =
+          let k : o .key v ≡ key = ap (λ (w : ℕ). w / mostNodes) own-word ∙ word-key key (omega (arith, node .inside, node .n-high)) x-is in
+          holds-leaf o (node .inside) (node .n-high) (rw k x-is)
+
+      other : (q : ℕ) → (q ≡ n + v → ⊥) → (Above q (n + v) → q < n + v → ⊥) → (u : ℕ) → Above q (n + u) → u ≡ v → ⊥
+      other q ne f u a e =
+          let b : Above q (n + v) = subst (λ (w : ℕ). Above q (n + w)) e a in
+          let le = above-le b in
+          f b (omega arith)
+
+  pub climb-end : {room′ : List ℕ} {at w : ℕ} → at ≤ 1 → Climb (byKey n written) n written room′ at w → Put n v key room room′
+  climb-end {room′} end c = record {
+    own = c .kept (n + v) (omega arith) ∙ own-word ∙ x-is;
+    others = λ q l ne. c .kept q l ∙ getD-set-other room (n + v) q x 0 ne;
+    right = tournament-kept same room′ room′ (λ q high. refl) (λ q low high. c .done q low high (λ a l. omega arith));
+  }
+    where
+      same : Alike n (byKey n written) (byKey n room′)
+      same = record {
+        keys-alike = λ u l. ap (λ (x : ℕ). x / mostNodes) (c .kept (n + u) (omega arith));
+        ties-alike = λ u l. refl;
+      }
+
+module _ {o : Order} {n : ℕ} {room₀ room : List ℕ} {at up beside w : ℕ} (nodes : n ≤ mostNodes) (more : 1 < at) (up-is : up ≡ at / 2)
+    (beside-is : beside ≡ 4 * up + 1 - at) (c : Climb o n room₀ room at w) where
   -- the place beside is decided
-  holds-beside : Holds o n beside (getD tree beside 0)
+  holds-beside : Holds o n beside (getD room beside 0)
   holds-beside = c .done beside (omega arith) (omega arith) (λ a l. (let z = above-le (above-half a l) in omega arith))
 
-  module _ {w′ : ℕ} (w-is : w′ ≡ better (o .tie) w (getD tree beside 0)) where
+  module _ {w′ : ℕ} (w-is : w′ ≡ better (o .tie) w (getD room beside 0)) where
     holds-up : Holds o n up w′
-    holds-up = rw w-is (decided o (two-beside n at up beside more (c .high) up-is beside-is) room (c .word) holds-beside)
+    holds-up = rw w-is (decided o (two-beside n at up beside more (c .high) up-is beside-is) nodes (c .word) holds-beside)
 
-    pub climb-turn : Climb o n tree₀ (set tree up w′) up w′
+    pub climb-turn : Climb o n room₀ (set room up w′) up w′
     climb-turn = record {
       low = omega arith;
       high = omega (arith, c .high);
-      room = simp length-set (c .room);
-      long = length-set tree up w′ ∙ c .long;
+      places = simp length-set (c .places);
+      long = length-set room up w′ ∙ c .long;
+      kept = λ q l. getD-set-other room up q w′ 0 (λ e. absurd (omega (arith, c .high))) ∙ c .kept q l;
       word = holds-up;
       done = λ q low high f.
-          holds-written o n tree up w′ q (omega (arith, c .room, c .high)) holds-up
+          holds-written o n room up w′ q (omega (arith, c .places, c .high)) holds-up
           (λ ne. c .done q low high (λ a l. next q ne f (above-half a l)));
     }
       where
         next : (q : ℕ) → (q ≡ up → ⊥) → (Above q up → q < up → ⊥) → Above q (at / 2) → ⊥
         next q ne f a = let le = above-le a in f (rw up-is a) (omega arith)
-
-pub climb-end : {o : Order} {n : ℕ} {tree₀ tree : List ℕ} {at w : ℕ} → at ≤ 1 → Climb o n tree₀ tree at w → Tournament o n tree
-climb-end end c q low high = c .done q low high (λ a l. omega arith)

@@ -1,11 +1,11 @@
 -- The order of choice: that it is an order, and that it stays between nodes that did not change. Assumes nothing.
-use mathlib.Core.Path.{_∙_, _≡_, ap, refl, sym}
+use mathlib.Core.Path.{_∙_, _≡_, ap}
 use mathlib.Core.List.{List}
-use Prim.Native.Nat.{ℕ}
-use lib.ListN.{getD, set}
-use lib.Seq.{getD-set-other, set-getD}
+use Prim.Native.Nat.{_+_, _/_, _<_, ℕ}
+use lib.ListN.{set}
+use lib.Seq.{getD-set-other}
 use native.Mathlib.Omega.{arith}
-use Rattle.search_queue.specs.Order.{Before, Order, SameBut, Waiting, byKey}
+use Rattle.search_queue.specs.Order.{Before, Order, SameBut, Waiting, byKey, mostNodes}
 
 -- ---- any order
 module _ (o : Order) (a b : ℕ) where
@@ -32,19 +32,19 @@ pub before-self : (o : Order) (a : ℕ) → Before o a a
 before-self o a = record { keys-le = omega arith; ties-le = λ e. omega arith; numbers = λ e t. omega arith }
 
 -- between nodes other than v, two orders that are the same but at v agree
-module _ {v : ℕ} {o o′ : Order} (s : SameBut v o o′) where
-  pub waiting-new : {u : ℕ} → (u ≡ v → ⊥) → Waiting o u → Waiting o′ u
-  waiting-new {u} ne w = rw (s .keys-same u ne) w
+module _ {n v : ℕ} {o o′ : Order} (s : SameBut n v o o′) where
+  pub waiting-new : {u : ℕ} → u < n → (u ≡ v → ⊥) → Waiting o u → Waiting o′ u
+  waiting-new {u} l ne w = rw (s .keys-same u l ne) w
 
-  pub waiting-old : {u : ℕ} → (u ≡ v → ⊥) → Waiting o′ u → Waiting o u
-  waiting-old {u} ne w = rw (s .keys-same u ne) at w
+  pub waiting-old : {u : ℕ} → u < n → (u ≡ v → ⊥) → Waiting o′ u → Waiting o u
+  waiting-old {u} l ne w = rw (s .keys-same u l ne) at w
 
-  pub before-new : {a b : ℕ} → (a ≡ v → ⊥) → (b ≡ v → ⊥) → Before o a b → Before o′ a b
-  before-new {a} {b} na nb p =
-      let x = s .keys-same a na in
-      let y = s .keys-same b nb in
-      let x′ = s .ties-same a na in
-      let y′ = s .ties-same b nb in
+  pub before-new : {a b : ℕ} → a < n → b < n → (a ≡ v → ⊥) → (b ≡ v → ⊥) → Before o a b → Before o′ a b
+  before-new {a} {b} la lb na nb p =
+      let x = s .keys-same a la na in
+      let y = s .keys-same b lb nb in
+      let x′ = s .ties-same a la na in
+      let y′ = s .ties-same b lb nb in
       record {
         keys-le = omega (arith, p .keys-le);
         ties-le = λ e. omega (arith, p .ties-le (omega arith));
@@ -52,8 +52,10 @@ module _ {v : ℕ} {o o′ : Order} (s : SameBut v o o′) where
       }
 
 -- ---- the key of v is written
-pub written-again : (keys : List ℕ) (v : ℕ) {k : ℕ} → getD keys v 0 ≡ k → keys ≡ set keys v k
-written-again keys v e = sym (ap (set keys v) (sym e) ∙ set-getD keys v 0)
-
-pub same-but : (keys : List ℕ) {v : ℕ} (k : ℕ) → SameBut v (byKey keys) (byKey (set keys v k))
-same-but keys {v} k = record { keys-same = λ u ne. getD-set-other keys v u k 0 ne; ties-same = λ u ne. refl }
+pub same-put : (n : ℕ) {v : ℕ} (room : List ℕ) (w : ℕ) {o : Order} → SameBut n v o (byKey n room)
+    → SameBut n v o (byKey n (set room (n + v) w))
+same-put n {v} room w s = record {
+  keys-same = λ u l ne.
+      ap (λ (x : ℕ). x / mostNodes) (getD-set-other room (n + v) (n + u) w 0 (λ e. ne (omega arith))) ∙ s .keys-same u l ne;
+  ties-same = λ u l ne. s .ties-same u l ne;
+}

@@ -1,26 +1,18 @@
--- The word of a node by the test of its key, and the better of two words: what the test says of their candidates, and that without ties
--- the smaller word is the better. Assumes nothing.
+-- The better of two words: what the test says of their candidates, and that without ties the smaller word is the better. Assumes nothing.
 use mathlib.Core.Path.{_≡_, refl, sym}
 use mathlib.Core.Logic.{inl, inr}
 use mathlib.Core.Bool.{false, true}
-use Prim.Native.Nat.{_%_, _*_, _+_, _/_, _<_, _≤_, ℕ}
-use borrow.Author.Tests.{le-ltb, leb-false, leb-true, lt-ltb}
+use Prim.Native.Nat.{_%_, _/_, _<_, _≤_, ℕ}
+use borrow.Author.Tests.{leb-false, leb-true}
 use lib.Dec.{leb}
 use native.Mathlib.Decide.{ℕ-discrete}
 use native.Mathlib.Omega.{arith}
 use Rattle.graph.specs.Search.{below-or}
 use Rattle.graph.specs.Total.{Tested, decide}
 use Rattle.graph.specs.Choice.{below-or-false, below-or-true}
-use Rattle.search_queue.specs.Order.{Before, Order, Waiting, mostNodes, settledKey}
-use Rattle.search_queue.specs.Tree.{before, better, noTies, nobodyWord, wordIn}
+use Rattle.search_queue.specs.Order.{Before, Order, mostNodes}
+use Rattle.search_queue.specs.Tree.{before, better, noTies, wordOf}
 use Rattle.search_queue.specs.Laws.{word-key, word-number}
-
--- ---- the word of a node
-pub word-waits : (o : Order) (v : ℕ) → Waiting o v → wordIn o v ≡ o .key v * mostNodes + v
-word-waits o v w = rw (lt-ltb (o .key v) settledKey w)
-
-pub word-rests : (o : Order) (v : ℕ) → settledKey ≤ o .key v → wordIn o v ≡ nobodyWord
-word-rests o v w = rw (le-ltb (o .key v) settledKey w)
 
 -- ---- what the test says
 module _ (tie : ℕ → ℕ) (x y : ℕ) where
@@ -33,8 +25,8 @@ module _ (tie : ℕ → ℕ) (x y : ℕ) where
   after-keys h = (below-or-false (x / mostNodes) (y / mostNodes) _ h) .0
 
 -- of the words of two candidates
-module _ (o : Order) {a b x y : ℕ} (la : a < mostNodes) (lb : b < mostNodes) (ea : x ≡ o .key a * mostNodes + a)
-    (eb : y ≡ o .key b * mostNodes + b) where
+module _ (o : Order) {a b x y : ℕ} (la : a < mostNodes) (lb : b < mostNodes) (ea : x ≡ wordOf (o .key a) a)
+    (eb : y ≡ wordOf (o .key b) b) where
   pub before-true : before (o .tie) x y ≡ true → Before o a b
   unfolding before
   before-true h =

@@ -1,12 +1,12 @@
 -- The order in which candidates are chosen. Definitions only.
 use mathlib.Core.Path.{_≡_}
 use mathlib.Core.List.{List}
-use Prim.Native.Nat.{_<_, _≤_, ℕ}
+use Prim.Native.Nat.{_+_, _/_, _<_, _≤_, ℕ}
 use lib.ListN.{getD}
 
--- the key of a node that never was a candidate
+-- the key of a node that never was a candidate: that of a blank word
 abbrev pub noKey : ℕ
-noKey = 18446744073709551615
+noKey = 281474976710655
 
 -- the key of a logged node
 abbrev pub settledKey : ℕ
@@ -16,14 +16,22 @@ settledKey = 281474976710654
 abbrev pub mostNodes : ℕ
 mostNodes = 65536
 
+-- a blank word, of which a fresh room is full
+abbrev pub blankWord : ℕ
+blankWord = 18446744073709551615
+
+-- the key that is kept for node v of n, in the word at its own place
+abbrev pub keyIn : (n : ℕ) (room : List ℕ) (v : ℕ) → ℕ
+keyIn n room v = getD room (n + v) 0 / mostNodes
+
 -- What the choice goes by: the key of each node, and what decides between equal keys before the number does.
 pub record Order : Type 0 where
   pub key : ℕ → ℕ
   pub tie : ℕ → ℕ
 
 -- document 01: the smallest key, on equal keys the smaller number, so that ties are all alike
-abbrev pub byKey : (keys : List ℕ) → Order
-byKey keys = record { key = λ v. getD keys v 0; tie = λ v. 0 }
+abbrev pub byKey : (n : ℕ) (room : List ℕ) → Order
+byKey n room = record { key = keyIn n room; tie = λ v. 0 }
 
 -- a comes before b, or is b
 pub record Before (o : Order) (a b : ℕ) : Type 0 where
@@ -46,7 +54,12 @@ pub data Chosen (o : Order) (n : ℕ) : ℕ → Type 0 where
   none-left : ((v : ℕ) → v < n → Waiting o v → ⊥) → Chosen o n n
   first-is : {i : ℕ} → FirstOf o n i → Chosen o n i
 
--- two orders are the same but at v
-pub record SameBut (v : ℕ) (o o′ : Order) : Type 0 where
-  pub keys-same : (u : ℕ) → (u ≡ v → ⊥) → o′ .key u ≡ o .key u
-  pub ties-same : (u : ℕ) → (u ≡ v → ⊥) → o′ .tie u ≡ o .tie u
+-- two orders of n nodes are the same
+pub record Alike (n : ℕ) (o o′ : Order) : Type 0 where
+  pub keys-alike : (u : ℕ) → u < n → o′ .key u ≡ o .key u
+  pub ties-alike : (u : ℕ) → u < n → o′ .tie u ≡ o .tie u
+
+-- or are the same but at v
+pub record SameBut (n v : ℕ) (o o′ : Order) : Type 0 where
+  pub keys-same : (u : ℕ) → u < n → (u ≡ v → ⊥) → o′ .key u ≡ o .key u
+  pub ties-same : (u : ℕ) → u < n → (u ≡ v → ⊥) → o′ .tie u ≡ o .tie u

@@ -20,11 +20,13 @@ use Rattle.model.specs.Bytes.{listed}
 use Rattle.model.specs.State.{first}
 use Rattle.model.specs.Laws.{listed-at, listed-length}
 use Rattle.model.specs.Ends.{first-snoc, listed-is}
-use Rattle.search_queue.specs.Order.{Chosen, FirstOf, byKey, first-is, none-left, settledKey}
-use Rattle.search_queue.specs.Tree.{Tournament}
-use Rattle.search_labels.specs.Labelling.{Labelling, Room, labellingOf, orderOf}
-use Rattle.search_labels.specs.Labelled.{Chooses, Labels}
-use Rattle.search_labels.specs.Log.{labels-log, next-chosen, next-none}
+use Rattle.network.specs.Width.{fit, fit-in}
+use Rattle.search_queue.specs.Order.{Waiting, settledKey}
+use Rattle.search_queue.specs.Tree.{Put}
+use Rattle.search_queue.specs.Sums.{Choice, NextAt, SumsKept, entryIn, next-at, no-next}
+use Rattle.search_labels.specs.Labelling.{Room, labelsIn, orderOf}
+use Rattle.search_labels.specs.Labelled.{Labels}
+use Rattle.search_labels.specs.Log.{label-low, labels-log, sums-kept}
 use Rattle.search_junctions.specs.State.{Given, Ready, goGiven, mapGiven}
 use Rattle.search_junctions.specs.Asking.{Asked, AskedTo, Asks, Filling}
 use Rattle.search_junctions.specs.Firsts.{Begun}
@@ -32,30 +34,40 @@ use Rattle.search_junctions.specs.Relaxing.{Known, Relaxes}
 use Rattle.search_junctions.specs.Facts.{codes}
 use Rattle.search_junctions.specs.Fills.{asked-goal, asked-more, asked-more-back, asked-older, filling-known, filling-same, leads-none}
 
+-- the entry of v, by its label
+abbrev pub entryOf : (n : ℕ) (room : List ℕ) → ℕ → Entry
+entryOf n room = entryIn (labelsIn n room .times) (orderOf n room)
+
 -- ---- what a run needs to go on
 
 -- What comes next after the history H, of n nodes: n, the log is complete; or v, the arcs of all that is logged are relaxed, no goal is
--- among it, and v is the first candidate.
-pub data Next (n : ℕ) (G : Problem) (H : List Entry) (l : Labelling) (v : ℕ) : Type 0 where
-  over : (c k : ℕ) → v ≡ n → Labels G H c k l → Complete G H → Next n G H l v
-  on : (c k : ℕ) → FirstOf (orderOf l) n v → Labels G H c k l → G .net .arcs ≤ k → hasGoal G H ≡ false → Next n G H l v
+-- among it, every candidate's sum is kept, and v is what the definition logs next.
+pub data Next (n : ℕ) (G : Problem) (H : List Entry) (room : List ℕ) (v : ℕ) : Type 0 where
+  over : (c k : ℕ) → v ≡ n → Labels G H c k (labelsIn n room) → Complete G H → Next n G H room v
+  on :
+      (c k : ℕ) → Labels G H c k (labelsIn n room) → G .net .arcs ≤ k → hasGoal G H ≡ false
+      → SumsKept G H (labelsIn n room .times) (orderOf n room) → v < n → Waiting (orderOf n room) v → NextIs G H (some (entryOf n room v))
+      → Next n G H room v
 
 -- where a run stands: what it has written so far, how many nodes are logged, and which comes next
 pub record Stand : Type 0 where
   pub estimates : List ℕ
   pub elapsed : List ℕ
   pub log : List ℕ
-  pub labels : Labelling
+  pub room : List ℕ
   pub count : ℕ
   pub next : ℕ
 
-abbrev pub standOf : (estimates elapsed log : List ℕ) → Labelling → (count next : ℕ) → Stand
-standOf e t log l c v = record { estimates = e; elapsed = t; log = log; labels = l; count = c; next = v }
+abbrev pub standOf : (estimates elapsed log room : List ℕ) → (count next : ℕ) → Stand
+standOf e t log l c v = record { estimates = e; elapsed = t; log = log; room = l; count = c; next = v }
 
--- from a, the next node is logged with its time; e, l and v are estimates, labels and next node then
-abbrev pub logged : Stand → (e : List ℕ) → Labelling → (v : ℕ) → Stand
-logged a e l v =
-    standOf e (set (a .elapsed) (a .next) (getD (a .labels .times) (a .next) 0)) (set (a .log) (a .count) (a .next)) l (a .count + 1) v
+-- the next node's time as a word
+abbrev pub timeAt : (n : ℕ) → Stand → ℕ
+timeAt n a = word (fit (some (labelsIn n (a .room) .times (a .next))))
+
+-- from a, the next node is logged with its time t; e, room and v are estimates, room and next node then
+abbrev pub logged : Stand → (t : ℕ) → (e room : List ℕ) → (v : ℕ) → Stand
+logged a t e room v = standOf e (set (a .elapsed) (a .next) t) (set (a .log) (a .count) (a .next)) room (a .count + 1) v
 
 -- A run stands at a after a history that the definition reaches: its log and its times, the estimates that it has asked, the labels, and
 -- what comes next. e₀ and log₀ are estimates and log before it.
@@ -66,7 +78,7 @@ pub record Going (g : Given) (s z : ℕ) (e₀ log₀ : List ℕ) (a : Stand) : 
   pub log-is : a .log ≡ first (vertices (reverse past)) log₀
   pub elapsed-is : a .elapsed ≡ listed (g .sizes .n) (λ u. word (timeIn past u))
   pub filling : Filling (mapGiven g) z (Asked (goGiven g s z) s z past) (g .down) e₀ (a .estimates)
-  pub next : Next (g .sizes .n) (goGiven g s z) past (a .labels) (a .next)
+  pub next : Next (g .sizes .n) (goGiven g s z) past (a .room) (a .next)
 
 -- ---- one entry more
 
@@ -117,51 +129,49 @@ module _ (G : Problem) (H : List Entry) (E : Entry) where
   unfolding hasGoal
   free-more q f = rw q f
 
--- the entry of v, by its label
-abbrev pub entryOf : Labelling → ℕ → Entry
-entryOf l v = record { vertex = v; time = getD (l .times) v 0; key = getD (l .keys) v 0 }
-
--- the queue has other keys, the times and arcs stay
-abbrev pub withKeys : Labelling → (keys tree : List ℕ) → Labelling
-withKeys l keys tree = labellingOf (l .times) keys (l .vias) tree
-
--- v is a candidate no more
-pub record Settled (n v : ℕ) (l : Labelling) (keys tree : List ℕ) : Type 0 where
-  pub keys-are : keys ≡ set (l .keys) v settledKey
-  pub right : Tournament (byKey keys) n tree
-  pub tree-long : length tree ≡ length (l .tree)
-
 -- the entry E is logged after the history H
-record Logs (G : Problem) (H : List Entry) (E : Entry) (l : Labelling) : Type 0 where
+record Logs (n : ℕ) (G : Problem) (H : List Entry) (E : Entry) (room : List ℕ) : Type 0 where
   reached : Reached G (E ∷ H)
   free : hasGoal G H ≡ false
   new : timeIn H (E .vertex) ≡ none
-  labels : Labels G (E ∷ H) (E .vertex) 0 l
+  labels : Labels G (E ∷ H) (E .vertex) 0 (labelsIn n room)
+  -- its time is the word that is read
+  time-is : word (fit (some (E .time))) ≡ E .time
 
 module _ {g : Given} {s z : ℕ} (r : Ready g s z) where
-  -- ties are not told apart, as document 01 has it
-  pub chooses : (l : Labelling) → Chooses (goGiven g s z) (l .times) (l .keys) (orderOf l)
-  chooses l = record { key-is = λ v lv. refl; tie-is = λ v lv. sym (codes r .ties (getD (l .times) v 0)) }
+  -- what is chosen, given that every candidate's sum is kept; all arcs are relaxed and no goal is logged
+  next-of : {H : List Entry} {room : List ℕ} {c k v : ℕ} → Labels (goGiven g s z) H c k (labelsIn (g .sizes .n) room)
+      → goGiven g s z .net .arcs ≤ k → hasGoal (goGiven g s z) H ≡ false → 0 < g .sizes .n → Room (g .sizes .n) room
+      → Choice (g .sizes .n) room v → Next (g .sizes .n) (goGiven g s z) H room v
+  next-of {H} {room} {c} {k} {v} labels full free low x choice =
+      at (choice .by-sums G H (labelsIn n room .times) (orderOf n room) (codes r .reads .size-is) low (x .n-high) (x .right) sums)
+    where
+      n : ℕ
+      n = g .sizes .n
 
-  -- what is chosen, where all arcs are relaxed and no goal is logged
-  next-of : {H : List Entry} {l : Labelling} {c k top : ℕ} → Labels (goGiven g s z) H c k l → goGiven g s z .net .arcs ≤ k
-      → hasGoal (goGiven g s z) H ≡ false → Chosen (orderOf l) (g .sizes .n) top → Next (g .sizes .n) (goGiven g s z) H l top
-  next-of {H} {l} {c} {k} labels full free (none-left nobody) =
-      over c k refl labels (inr (next-none full l (chooses l) labels (λ v lv. nobody v (rw (codes r .reads .size-is) at lv))))
-  next-of {H} {l} {c} {k} labels full free (first-is f) = on c k f labels full free
+      G : Problem
+      G = goGiven g s z
 
-  pub going-start : {e e′ elapsed log : List ℕ} {l : Labelling} {top : ℕ} → Begun (g .roads) (g .order) (g .live) (g .down) s z e e′ l
-      → elapsed ≡ replicate (g .sizes .n) noneWord → Chosen (orderOf l) (g .sizes .n) top
-      → Going g s z e log (standOf e′ elapsed log l 0 top)
+      -- ties are not told apart, as document 01 has it
+      sums : SumsKept G H (labelsIn n room .times) (orderOf n room)
+      sums = sums-kept full (labelsIn n room) (λ u lu. sym (codes r .ties (labelsIn n room .times u))) labels
+
+      at : NextAt G H (labelsIn n room .times) (orderOf n room) n v → Next n G H room v
+      at (no-next q none-is) = over c k q labels (inr none-is)
+      at (next-at inside waits next-is) = on c k labels full free sums inside waits next-is
+
+  pub going-start : {e e′ elapsed log room : List ℕ} {v : ℕ} → Begun (g .roads) (g .order) (g .live) (g .down) s z (g .sizes .n) e e′ room
+      → elapsed ≡ replicate (g .sizes .n) noneWord → 0 < g .sizes .n → Room (g .sizes .n) room → Choice (g .sizes .n) room v
+      → Going g s z e log (standOf e′ elapsed log room 0 v)
   unfolding hasGoal vertices
-  going-start b cleared ch = record {
+  going-start b cleared low x choice = record {
     past = [];
     reached = fresh;
     counted = refl;
     log-is = refl;
     elapsed-is = cleared ∙ none-yet (g .sizes .n);
     filling = b .filling;
-    next = next-of (b .labels 0 (goGiven g s z .net .arcs)) (omega arith) refl ch;
+    next = next-of (b .labels 0 (goGiven g s z .net .arcs)) (omega arith) refl low x choice;
   }
 
   -- the heads of v's open roads are asked, and so their estimates known
@@ -187,81 +197,79 @@ module _ {g : Given} {s z : ℕ} (r : Ready g s z) where
       })) ∙ ap word (sym (k .pots h))
 
   -- v is logged: what the definition does
-  logs : {e₀ log₀ : List ℕ} {a : Stand} (d : Going g s z e₀ log₀ a) → a .next < g .sizes .n → Room (g .sizes .n) (a .labels)
-      → {keys tree : List ℕ} → Settled (g .sizes .n) (a .next) (a .labels) keys tree
-      → Logs (goGiven g s z) (d .past) (entryOf (a .labels) (a .next)) (withKeys (a .labels) keys tree)
-  logs {a = a} d lv room {keys} {tree} t = at (d .next)
+  logs : {e₀ log₀ : List ℕ} {a : Stand} (d : Going g s z e₀ log₀ a) → a .next < g .sizes .n → Room (g .sizes .n) (a .room)
+      → {room : List ℕ} → Put (g .sizes .n) (a .next) settledKey (a .room) room
+      → Logs (g .sizes .n) (goGiven g s z) (d .past) (entryOf (g .sizes .n) (a .room) (a .next)) room
+  logs {a = a} d lv x {room} put = at (d .next)
     where
-      l : Labelling
-      l = a .labels
+      n : ℕ
+      n = g .sizes .n
 
       v : ℕ
       v = a .next
 
-      sized : FirstOf (orderOf l) (g .sizes .n) v → FirstOf (orderOf l) (goGiven g s z .size) v
-      sized f = rw (codes r .reads .size-is) f
-
-      at : Next (g .sizes .n) (goGiven g s z) (d .past) l v → Logs (goGiven g s z) (d .past) (entryOf l v) (withKeys l keys tree)
+      at : Next n (goGiven g s z) (d .past) (a .room) v → Logs n (goGiven g s z) (d .past) (entryOf n (a .room) v) room
       at (over c k q labels complete) = absurd (omega arith)
-      at (on c k f labels full free) =
-          let n = next-chosen full l (chooses l) labels v (sized f) in
+      at (on c k labels full free sums inside waits next-is) =
+          let time = labelsIn n (a .room) .times v in
+          let low = label-low waits (labels v (rw (codes r .reads .size-is) lv)) in
           record {
-            reached = grow (d .reached) free n;
+            reached = grow (d .reached) free next-is;
             free = free;
-            new = new-of n;
+            new = new-of next-is;
             labels =
-                labels-log full (entryOf l v) (new-of n) l (withKeys l keys tree) labels refl refl (t .keys-are)
-                (omega (arith, lv, room .keys-room)) refl (f .waits);
+                labels-log full (entryOf n (a .room) v) (new-of next-is) (a .room) room (codes r .reads .size-is) (x .n-high) lv labels put
+                refl waits;
+            time-is = ap word (fit-in time low);
           }
 
-  -- one turn: the next node is logged, and is settled in the labels
+  -- one turn: the next node is logged, and is settled in the room
   module _ {e₀ log₀ : List ℕ} {a : Stand} (d : Going g s z e₀ log₀ a) (lv : a .next < g .sizes .n) (lc : a .count < length log₀)
-      (room : Room (g .sizes .n) (a .labels)) {keys tree : List ℕ} (t : Settled (g .sizes .n) (a .next) (a .labels) keys tree) where
+      (x : Room (g .sizes .n) (a .room)) {room : List ℕ} (put : Put (g .sizes .n) (a .next) settledKey (a .room) room) where
     abbrev entry : Entry
-    entry = entryOf (a .labels) (a .next)
+    entry = entryOf (g .sizes .n) (a .room) (a .next)
 
     log-then : set (a .log) (a .count) (a .next) ≡ first (vertices (reverse (entry ∷ d .past))) log₀
     log-then = log-next (d .past) entry log₀ (d .counted) (d .log-is) lc
 
-    elapsed-then : set (a .elapsed) (a .next) (getD (a .labels .times) (a .next) 0)
-        ≡ listed (g .sizes .n) (λ u. word (timeIn (entry ∷ d .past) u))
-    elapsed-then = elapsed-next (d .past) entry (g .sizes .n) lv (d .elapsed-is)
+    elapsed-then : set (a .elapsed) (a .next) (timeAt (g .sizes .n) a) ≡ listed (g .sizes .n) (λ u. word (timeIn (entry ∷ d .past) u))
+    elapsed-then =
+        ap (set (a .elapsed) (a .next)) (logs d lv x put .time-is) ∙ elapsed-next (d .past) entry (g .sizes .n) lv (d .elapsed-is)
 
     -- it is the target: the log is complete
-    pub turn-goal : a .next ≡ z → Going g s z e₀ log₀ (logged a (a .estimates) (withKeys (a .labels) keys tree) (g .sizes .n))
+    pub turn-goal : a .next ≡ z → Going g s z e₀ log₀ (logged a (timeAt (g .sizes .n) a) (a .estimates) room (g .sizes .n))
     turn-goal q =
-        let x = logs d lv room t in
+        let y = logs d lv x put in
         let goal = goal-more (goGiven g s z) (d .past) entry (codes r .goals (a .next) ∙ eq-eqb (a .next) z q) in
         record {
           past = entry ∷ d .past;
-          reached = x .reached;
+          reached = y .reached;
           counted = omega (arith, d .counted);
           log-is = log-then;
           elapsed-is = elapsed-then;
-          filling = filling-same (asked-older entry (x .new)) (asked-goal entry (x .new) q) (d .filling);
-          next = over (a .next) 0 refl (x .labels) (inl goal);
+          filling = filling-same (asked-older entry (y .new)) (asked-goal entry (y .new) q) (d .filling);
+          next = over (a .next) 0 refl (y .labels) (inl goal);
         }
 
     -- it is not: the estimates of its open roads' heads are asked, and its roads relaxed
-    pub turn-on : {e′ : List ℕ} {l″ : Labelling} {top : ℕ} → (a .next ≡ z → ⊥) → Asks g (a .next) 0 (g .sizes .m) (a .estimates) e′
-        → Relaxes (record { sizes = g .sizes; roads = g .roads; live = g .live; estimates = e′ }) (a .next)
-        (getD (a .labels .times) (a .next) 0) 0 (g .sizes .m) (withKeys (a .labels) keys tree) l″
-        → Chosen (orderOf l″) (g .sizes .n) top
-        → Going g s z e₀ log₀ (logged a e′ l″ top)
-    turn-on ne asks relaxes ch =
+    pub turn-on : {e′ room′ : List ℕ} {v : ℕ} → (a .next ≡ z → ⊥) → Asks g (a .next) 0 (g .sizes .m) (a .estimates) e′
+        → Relaxes (record { sizes = g .sizes; roads = g .roads; live = g .live; estimates = e′ }) (a .next) (timeAt (g .sizes .n) a) 0
+        (g .sizes .m) room room′
+        → Choice (g .sizes .n) room′ v → Going g s z e₀ log₀ (logged a (timeAt (g .sizes .n) a) e′ room′ v)
+    turn-on ne asks relaxes choice =
         let k = codes r in
-        let x = logs d lv room t in
+        let y = logs d lv x put in
         let f = asked-heads (d .filling) asks in
-        let free = free-more (goGiven g s z) (d .past) entry (k .goals (a .next) ∙ ne-eqb (a .next) z ne) (x .free) in
-        let labels = relaxes .exact (goGiven g s z) (entry ∷ d .past) (k .ok) (k .reads) (x .reached)
-        (timeIn-here entry (d .past) (a .next) refl) (known-heads f) (x .labels) in
+        let free = free-more (goGiven g s z) (d .past) entry (k .goals (a .next) ∙ ne-eqb (a .next) z ne) (y .free) in
+        let here = timeIn-here entry (d .past) (a .next) refl ∙ ap some (sym (y .time-is)) in
+        let labels = relaxes .exact (goGiven g s z) (entry ∷ d .past) (k .ok) (k .reads) (y .reached) here (known-heads f) (y .labels) in
         record {
           past = entry ∷ d .past;
-          reached = x .reached;
+          reached = y .reached;
           counted = omega (arith, d .counted);
           log-is = log-then;
           elapsed-is = elapsed-then;
           filling =
-              filling-same (asked-more entry (x .new) ne (k .reads .arcs-are)) (asked-more-back entry (x .new) ne (k .reads .arcs-are)) f;
-          next = next-of labels (omega (arith, k .reads .arcs-are)) free ch;
+              filling-same (asked-more entry (y .new) ne (k .reads .arcs-are)) (asked-more-back entry (y .new) ne (k .reads .arcs-are)) f;
+          next = next-of labels (omega (arith, k .reads .arcs-are)) free (omega arith) (relaxes .room) choice;
         }

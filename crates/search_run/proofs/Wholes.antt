@@ -24,15 +24,14 @@ use Rattle.model.specs.Limits.{mostJunctions}
 use Rattle.model.specs.Word.{noneWord}
 use Rattle.model.specs.Estimate.{Kept}
 use Rattle.model.specs.Laws.{kept-refl, kept-trans, listed-at}
-use Rattle.network.specs.Locals.{all-same}
 use Rattle.network.specs.declared.Sizes.{Sizes}
 use Rattle.road_groups.specs.Lending.{GroupsMade, tailIn}
-use Rattle.search_queue.specs.Order.{byKey, noKey, settledKey}
-use Rattle.search_queue.specs.Tree.{Choice, nobodyWord}
-use Rattle.search_queue.specs.Laws.{chosen-inside, fresh-tree}
-use Rattle.search_labels.specs.Labelling.{AsLong, Labelling, Room, labellingOf, orderOf}
+use Rattle.search_queue.specs.Order.{settledKey}
+use Rattle.search_queue.specs.Tree.{Put}
+use Rattle.search_queue.specs.Sums.{Choice}
+use Rattle.search_queue.specs.Laws.{chosen-inside, fresh-room}
+use Rattle.search_labels.specs.Labelling.{Room, labelsIn, orderOf}
 use Rattle.search_labels.specs.Labelled.{Labels}
-use Rattle.search_labels.specs.Log.{next-chosen}
 use Rattle.search_labels.specs.Ended.{way-at}
 use Rattle.search_junctions.specs.Groups.{IsGroup, partOf}
 use Rattle.search_junctions.specs.State.{Given, Ready, Sized, SizedIn, goGiven}
@@ -40,9 +39,8 @@ use Rattle.search_junctions.specs.Asking.{AsksGroup, EstimatesIn, PairsIn}
 use Rattle.search_junctions.specs.Firsts.{Begins, Blank}
 use Rattle.search_junctions.specs.Relaxing.{ReadIn, RelaxesGroup}
 use Rattle.search_junctions.specs.Facts.{codes}
-use Rattle.search_run.specs.Runs.{Advanced, Advances, Lends, Tells, Written, writtenOf}
-use Rattle.search_run.proofs.Turns.{Going, Next, Settled, Stand, chooses, going-start, logged, on, over, standOf, turn-goal}
-use Rattle.search_run.proofs.Turns.{turn-on, withKeys}
+use Rattle.search_run.specs.Runs.{Advanced, Advances, BlankRoom, LendsRoom, Tells, Written, writtenOf}
+use Rattle.search_run.proofs.Turns.{Going, Next, Stand, going-start, logged, on, over, standOf, timeAt, turn-goal, turn-on}
 
 -- ---- the history of a run
 
@@ -61,39 +59,11 @@ not-complete : {G : Problem} {H : List Entry} {E : Entry} → hasGoal G H ≡ fa
 not-complete free (chosen k p) (inl q) = true-false q free
 not-complete {E = E} free (chosen k p) (inr (finished n)) = n E k
 
--- ---- lengths of the local areas
-
-long-trans : {l l′ l″ : Labelling} → AsLong l l′ → AsLong l′ l″ → AsLong l l″
-long-trans x y = record {
-  times-long = y .times-long ∙ x .times-long;
-  keys-long = y .keys-long ∙ x .keys-long;
-  vias-long = y .vias-long ∙ x .vias-long;
-  tree-long = y .tree-long ∙ x .tree-long;
-}
-
--- no node has a time or a key, and nobody is at any place of the tree
-abbrev pub blankOf : (vias : List ℕ) → Labelling
-blankOf vias =
-    labellingOf (replicate mostJunctions noneWord) (replicate mostJunctions noKey) vias (replicate (2 * mostJunctions) nobodyWord)
-
--- they are as long as the code has them
-pub record Locals (l : Labelling) : Type 0 where
-  pub times-are : mostJunctions ≡ length (l .times)
-  pub keys-are : mostJunctions ≡ length (l .keys)
-  pub tree-are : 2 * mostJunctions ≡ length (l .tree)
-
-pub locals-kept : {l l′ : Labelling} → AsLong l l′ → Locals l → Locals l′
-locals-kept long x = record {
-  times-are = x .times-are ∙ sym (long .times-long);
-  keys-are = x .keys-are ∙ sym (long .keys-long);
-  tree-are = x .tree-are ∙ sym (long .tree-long);
-}
-
 -- ---- what is lent on
 
 -- the first candidate is a node, or there is none
-pub first-inside : {n v : ℕ} {l : Labelling} → Room n l → 0 < n → Choice n (l .tree) v → v ≤ n
-first-inside {l = l} room low ch = chosen-inside (ch (orderOf l) low (room .n-high) (room .right))
+pub first-inside : {n v : ℕ} {room : List ℕ} → Room n room → 0 < n → Choice n room v → v ≤ n
+first-inside {n} {room = room} x low choice = chosen-inside (choice .by-order (orderOf n room) low (x .n-high) (x .right))
 
 -- lengths of what is read, and of the estimates
 pub pairs-in : {z : Sizes} {order ranks pairs down e′ : List ℕ} {roads live e t : ℕ}
@@ -117,28 +87,25 @@ pub reading : {z : Sizes} {roads live e′ : List ℕ} {order ranks pairs down e
     → ReadIn (record { sizes = z; roads = roads; live = live; estimates = e′ })
 reading x q = record { m-high = x .m-high; roads-are = x .roads-are; live-is = x .live-is; estimates-are = q ∙ x .estimates-are }
 
-pub room-blank : {n : ℕ} {w : List ℕ} → n ≤ mostJunctions → n ≤ length w → Room n (blankOf w)
-room-blank {n} high ways = record {
-  n-high = omega arith;
-  times-room = simp length-replicate high;
-  keys-room = simp length-replicate high;
-  vias-room = ways;
-  tree-room = simp length-replicate (omega arith);
-  right =
-      fresh-tree (byKey (replicate mostJunctions noKey)) n (replicate (2 * mostJunctions) nobodyWord)
-      (λ p low lp. getD-replicate (2 * mostJunctions) p nobodyWord 0 (omega arith))
-      (λ v lv. omega (arith, all-same mostJunctions noKey n v high lv));
-}
+-- a room of blank words: no node has a time or a key, and nobody is at any place of the tournament
+module _ {n : ℕ} {room : List ℕ} (high : n ≤ mostJunctions) (b : BlankRoom n room) where
+  pub room-blank : Room n room
+  room-blank = record {
+    n-high = omega arith;
+    words = b .words;
+    right =
+        fresh-room (orderOf n room) n room (λ p low lp. b .blank p (omega arith))
+        (λ v lv. (let z = b .blank (n + v) (omega arith) in omega arith));
+  }
 
-pub blank : {z : Sizes} {order ranks pairs down e w : List ℕ} {roads live t : ℕ}
-    → Sized (z .n) (z .m) (z .pairs) roads (length order) (length ranks) (length pairs) live (length down) (length e) t
-    → z .n ≤ length w → Blank z order ranks pairs down e (blankOf w)
-blank {z} x ways = record {
-  over = pairs-in x refl;
-  room = room-blank (x .n-high) ways;
-  timeless = λ v lv. all-same mostJunctions noneWord (z .n) v (x .n-high) lv;
-  keyless = λ v lv. all-same mostJunctions noKey (z .n) v (x .n-high) lv;
-}
+  pub blank-of : {z : Sizes} {order ranks pairs down e : List ℕ} → n ≡ z .n → PairsIn z order ranks pairs down e
+      → Blank z order ranks pairs down e room
+  blank-of n-is lengths = record {
+    over = lengths;
+    room = rw n-is at room-blank;
+    timeless = λ v lv. (let z = b .blank (2 * n + v) (omega arith) in rw (← n-is) (omega arith));
+    keyless = λ v lv. (let z = b .blank (n + v) (omega arith) in rw (← n-is) (omega arith));
+  }
 
 -- between ends within the area nothing is clamped
 part-inside : (l : List ℕ) {a b : ℕ} → a ≤ b → b ≤ length l → partOf l a b ≡ take (b - a) (drop a l)
@@ -175,24 +142,9 @@ turn-left : {v n c most : ℕ} → ltb v n && ltb c most ≡ false → Turn v n 
 turn-left {v} {n} {c} {most} h t = true-false refl (rw (lt-ltb v n (t .node-in), lt-ltb c most (t .count-in)) at h)
 
 -- v is settled, and its place in the queue renewed
-module _ {n v : ℕ} {l : Labelling} {keys tree : List ℕ} (s : Settled n v l keys tree) where
-  pub long-settled : AsLong l (withKeys l keys tree)
-  long-settled = record {
-    times-long = refl;
-    keys-long = ap length (s .keys-are) ∙ length-set (l .keys) v settledKey;
-    vias-long = refl;
-    tree-long = s .tree-long;
-  }
-
-  pub room-settled : Room n l → Room n (withKeys l keys tree)
-  room-settled room = record {
-    n-high = room .n-high;
-    times-room = room .times-room;
-    keys-room = omega (arith, room .keys-room, long-settled .keys-long);
-    vias-room = room .vias-room;
-    tree-room = omega (arith, room .tree-room, s .tree-long);
-    right = s .right;
-  }
+pub room-settled : {n v : ℕ} {room room′ : List ℕ} → length room′ ≡ length room → Put n v settledKey room room′ → Room n room
+    → Room n room′
+room-settled long put x = record { n-high = x .n-high; words = omega (arith, x .words, long); right = put .right }
 
 -- From where the run stands at the beginning of the loop, a, to where it stands now, b.
 pub record Running (g : Given) (leaving groups : List ℕ) (s z most : ℕ) (a b : Stand) : Type 0 where
@@ -201,82 +153,82 @@ pub record Running (g : Given) (leaving groups : List ℕ) (s z most : ℕ) (a b
   pub estimates-long : length (b .estimates) ≡ length (a .estimates)
   pub elapsed-long : length (b .elapsed) ≡ length (a .elapsed)
   pub log-long : length (b .log) ≡ length (a .log)
-  pub long : AsLong (a .labels) (b .labels)
-  pub room : Room (g .sizes .n) (b .labels)
+  pub room-long : length (b .room) ≡ length (a .room)
+  pub right : Room (g .sizes .n) (b .room)
   pub kept : Kept (a .estimates) (b .estimates)
   pub goes : (e₀ log₀ : List ℕ) → Ready g s z → GroupsMade (g .roads) (g .sizes .n) (g .sizes .m) leaving groups → most ≤ length log₀
       → Going g s z e₀ log₀ a → Going g s z e₀ log₀ b
 
 module _ {g : Given} {leaving groups : List ℕ} {s z most : ℕ} where
-  pub running-start : {e t log : List ℕ} {l : Labelling} {v : ℕ} → v ≤ g .sizes .n → Room (g .sizes .n) l
-      → Running g leaving groups s z most (standOf e t log l 0 v) (standOf e t log l 0 v)
-  running-start le room = record {
+  pub running-start : {e t log room : List ℕ} {v : ℕ} → v ≤ g .sizes .n → Room (g .sizes .n) room
+      → Running g leaving groups s z most (standOf e t log room 0 v) (standOf e t log room 0 v)
+  running-start le x = record {
     count-le = omega arith;
     next-le = le;
     estimates-long = refl;
     elapsed-long = refl;
     log-long = refl;
-    long = record { times-long = refl; keys-long = refl; vias-long = refl; tree-long = refl };
-    room = room;
+    room-long = refl;
+    right = x;
     kept = kept-refl;
     goes = λ e₀ log₀ r made le d. d;
   }
 
-  -- b's next node is logged and settled
-  module _ {a b : Stand} (x : Running g leaving groups s z most a b) (turn : Turn (b .next) (g .sizes .n) (b .count) most)
-      {keys tree : List ℕ} (settled : Settled (g .sizes .n) (b .next) (b .labels) keys tree) where
-    elapsed-kept : length (set (b .elapsed) (b .next) (getD (b .labels .times) (b .next) 0)) ≡ length (a .elapsed)
-    elapsed-kept = length-set (b .elapsed) (b .next) (getD (b .labels .times) (b .next) 0) ∙ x .elapsed-long
+  -- b's next node is logged with its time t and settled
+  module _ {a b : Stand} (x : Running g leaving groups s z most a b) (turn : Turn (b .next) (g .sizes .n) (b .count) most) {t : ℕ}
+      (t-is : t ≡ timeAt (g .sizes .n) b) {room : List ℕ} (long : length room ≡ length (b .room))
+      (put : Put (g .sizes .n) (b .next) settledKey (b .room) room) where
+    elapsed-kept : length (set (b .elapsed) (b .next) t) ≡ length (a .elapsed)
+    elapsed-kept = length-set (b .elapsed) (b .next) t ∙ x .elapsed-long
 
     log-kept : length (set (b .log) (b .count) (b .next)) ≡ length (a .log)
     log-kept = length-set (b .log) (b .count) (b .next) ∙ x .log-long
 
     -- it is the target
-    pub running-goal : eqb (b .next) z ≡ true
-        → Running g leaving groups s z most a (logged b (b .estimates) (withKeys (b .labels) keys tree) (g .sizes .n))
+    pub running-goal : eqb (b .next) z ≡ true → Running g leaving groups s z most a (logged b t (b .estimates) room (g .sizes .n))
     running-goal q = record {
       count-le = omega (arith, turn .count-in);
       next-le = omega arith;
       estimates-long = x .estimates-long;
       elapsed-long = elapsed-kept;
       log-long = log-kept;
-      long = long-trans (x .long) (long-settled settled);
-      room = room-settled settled (x .room);
+      room-long = long ∙ x .room-long;
+      right = room-settled long put (x .right);
       kept = x .kept;
       goes = λ e₀ log₀ r made le d.
-          turn-goal r (x .goes e₀ log₀ r made le d) (turn .node-in) (omega (arith, turn .count-in)) (x .room) settled
-          (eqb-true (b .next) z q);
+          rw t-is
+          (turn-goal r (x .goes e₀ log₀ r made le d) (turn .node-in) (omega (arith, turn .count-in)) (x .right) put
+          (eqb-true (b .next) z q));
     }
 
-    -- it is not: the group of its roads is relaxed
-    pub running-on : {group e : List ℕ} {l : Labelling} {v : ℕ} → eqb (b .next) z ≡ false
+    -- it is not: the group of its roads is relaxed from that time
+    pub running-on : {group e room′ : List ℕ} {from v : ℕ} → eqb (b .next) z ≡ false
         → group ≡ partOf leaving (getD groups (b .next) 0) (getD groups (b .next + 1) 0) → length e ≡ length (b .estimates)
-        → AsLong (withKeys (b .labels) keys tree) l → AsksGroup g group (b .estimates) e
-        → RelaxesGroup (record { sizes = g .sizes; roads = g .roads; live = g .live; estimates = e }) group (b .next)
-        (getD (b .labels .times) (b .next) 0) (withKeys (b .labels) keys tree) l
-        → Choice (g .sizes .n) (l .tree) v → Running g leaving groups s z most a (logged b e l v)
-    running-on {l = l} q group-is le long asks relaxes top =
-        let ch = top (orderOf l) (omega (arith, turn .node-in)) (relaxes .room .n-high) (relaxes .room .right) in
-        record {
-          count-le = omega (arith, turn .count-in);
-          next-le = chosen-inside ch;
-          estimates-long = le ∙ x .estimates-long;
-          elapsed-long = elapsed-kept;
-          log-long = log-kept;
-          long = long-trans (x .long) (long-trans (long-settled settled) long);
-          room = relaxes .room;
-          kept = kept-trans (x .kept) (asks .kept);
-          goes = λ e₀ log₀ r made le d.
-              let is = subst (IsGroup (g .roads) (g .sizes .m) (b .next)) (sym group-is) (group-lent made (turn .node-in)) in
-              turn-on r (x .goes e₀ log₀ r made le d) (turn .node-in) (omega (arith, turn .count-in)) (x .room) settled
-              (eqb-false (b .next) z q) (asks .exact (b .next) is) (relaxes .exact is) ch;
-        }
+        → length room′ ≡ length room → AsksGroup g group (b .estimates) e
+        → from ≡ timeAt (g .sizes .n) b
+        → RelaxesGroup (record { sizes = g .sizes; roads = g .roads; live = g .live; estimates = e }) group from room room′
+        → Choice (g .sizes .n) room′ v → Running g leaving groups s z most a (logged b t e room′ v)
+    running-on q group-is le long′ asks from-is relaxes choice = record {
+      count-le = omega (arith, turn .count-in);
+      next-le = first-inside (relaxes .room) (omega (arith, turn .node-in)) choice;
+      estimates-long = le ∙ x .estimates-long;
+      elapsed-long = elapsed-kept;
+      log-long = log-kept;
+      room-long = long′ ∙ long ∙ x .room-long;
+      right = relaxes .room;
+      kept = kept-trans (x .kept) (asks .kept);
+      goes = λ e₀ log₀ r made le d.
+          let is = subst (IsGroup (g .roads) (g .sizes .m) (b .next)) (sym group-is) (group-lent made (turn .node-in)) in
+          rw t-is
+          (turn-on r (x .goes e₀ log₀ r made le d) (turn .node-in) (omega (arith, turn .count-in)) (x .right) put
+          (eqb-false (b .next) z q) (asks .exact (b .next) is) (rw from-is at (relaxes .exact (b .next) is)) choice);
+    }
 
 -- ---- the end
 
 -- what the caller has of it
 abbrev pub leaves : Stand → Written
-leaves a = writtenOf (a .estimates) (a .elapsed) (a .labels .vias) (a .log)
+leaves a = writtenOf (a .estimates) (a .elapsed) (a .room) (a .log)
 
 -- What stands when the loop is left: the budget is used up, or nothing comes next.
 module _ {g : Given} {s z : ℕ} (r : Ready g s z) {e₀ log₀ : List ℕ} {a : Stand} (d : Going g s z e₀ log₀ a) (budget : ℕ)
@@ -287,7 +239,7 @@ module _ {g : Given} {s z : ℕ} (r : Ready g s z) {e₀ log₀ : List ℕ} {a :
     all : (a .count ≡ budget) ⊎ Complete (goGiven g s z) (d .past)
     at : ℕ
     upto : ℕ
-    labels : Labels (goGiven g s z) (d .past) at upto (a .labels)
+    labels : Labels (goGiven g s z) (d .past) at upto (labelsIn (g .sizes .n) (a .room))
 
   ends : Ends
   ends = go (d .next)
@@ -301,10 +253,7 @@ module _ {g : Given} {s z : ℕ} (r : Ready g s z) {e₀ log₀ : List ℕ} {a :
       v : ℕ
       v = a .next
 
-      l : Labelling
-      l = a .labels
-
-      go : Next (g .sizes .n) (goGiven g s z) (d .past) l v → Ends
+      go : Next (g .sizes .n) (goGiven g s z) (d .past) (a .room) v → Ends
       go (over u k q labels complete) = record {
         tells = record { yes-is = λ t. complete; no-is = λ f. absurd (true-false (eq-eqb v (g .sizes .n) q) f) };
         all = inr complete;
@@ -312,16 +261,15 @@ module _ {g : Given} {s z : ℕ} (r : Ready g s z) {e₀ log₀ : List ℕ} {a :
         upto = k;
         labels = labels;
       }
-      go (on u k f labels full free) =
-          let n = next-chosen full l (chooses r l) labels v (rw (codes r .reads .size-is) f) in
-          let short = length-le wf (grow (d .reached) free n) in
+      go (on u k labels full free sums inside waits next-is) =
+          let short = length-le wf (grow (d .reached) free next-is) in
           let lc : c < g .sizes .n = omega (arith, short, d .counted, codes r .reads .size-is) in
           record {
             tells = record {
-              yes-is = λ q. absurd (omega (arith, eqb-true v (g .sizes .n) q, f .inside));
-              no-is = λ q. not-complete free n;
+              yes-is = λ q. absurd (omega (arith, eqb-true v (g .sizes .n) q, inside));
+              no-is = λ q. not-complete free next-is;
             };
-            all = inl (used (decLt c (min budget (g .sizes .n))) lc (f .inside));
+            all = inl (used (decLt c (min budget (g .sizes .n))) lc inside);
             at = u;
             upto = k;
             labels = labels;
@@ -331,35 +279,34 @@ module _ {g : Given} {s z : ℕ} (r : Ready g s z) {e₀ log₀ : List ℕ} {a :
           used (yes y) lc lv = absurd (left (record { node-in = lv; count-in = y }))
           used (no y) lc lv = omega arith
 
-  advanced : {elapsed₀ vias₀ : List ℕ}
-      → Advanced g s z (run (goGiven g s z) budget []) (writtenOf e₀ elapsed₀ vias₀ log₀) (leaves a) (a .count)
+  advanced : {elapsed₀ room₀ : List ℕ}
+      → Advanced g s z (run (goGiven g s z) budget []) (writtenOf e₀ elapsed₀ room₀ log₀) (leaves a) (a .count)
       (eqb (a .next) (g .sizes .n))
-  advanced {elapsed₀} {vias₀} =
-      subst (λ (H : List Entry). Advanced g s z H (writtenOf e₀ elapsed₀ vias₀ log₀) (leaves a) (a .count) (eqb (a .next) (g .sizes .n)))
+  advanced {elapsed₀} {room₀} =
+      subst (λ (H : List Entry). Advanced g s z H (writtenOf e₀ elapsed₀ room₀ log₀) (leaves a) (a .count) (eqb (a .next) (g .sizes .n)))
       (run-of (codes r .ok .well-formed) (d .reached) (d .counted) (omega arith) (ends .all)) (record {
         count-is = sym (d .counted);
         log-is = d .log-is;
         elapsed-is = d .elapsed-is;
         filling = d .filling;
-        ways = λ v t lv h. way-at (a .labels) (ends .labels) v t lv h;
+        ways = λ v t lv h. way-at (labelsIn (g .sizes .n) (a .room)) (ends .labels) v t lv h;
         complete-is = ends .tells;
       })
 
--- the run as a whole: its first candidate, and its turns. e₁, t₁, l₁ and v₁ stand when the loop begins.
-pub advances : {g : Given} {leaving groups : List ℕ} {s z budget most : ℕ} {l₀ : Written} {e₁ t₁ : List ℕ} {l₁ : Labelling} {v₁ : ℕ}
-    {a : Stand} → Lends g leaving groups s z l₀
-    → Begins (g .sizes) (g .order) (g .ranks) (g .pairs) (g .down) s (l₀ .estimates) e₁ l₁
-    → t₁ ≡ replicate (length (l₀ .elapsed)) noneWord → Choice (g .sizes .n) (l₁ .tree) v₁ → most ≡ min budget (g .sizes .n)
-    → Running g leaving groups s z most (standOf e₁ t₁ (l₀ .log) l₁ 0 v₁) a → ltb (a .next) (g .sizes .n) && ltb (a .count) most ≡ false
+-- the run as a whole: its first candidate, and its turns. e₁, t₁, room₁ and v₁ stand when the loop begins.
+pub advances : {g : Given} {leaving groups : List ℕ} {s z budget most : ℕ} {l₀ : Written} {e₁ t₁ room₁ : List ℕ} {v₁ : ℕ} {a : Stand}
+    → LendsRoom g leaving groups s z l₀ → Begins (g .sizes) (g .order) (g .ranks) (g .pairs) (g .down) s (l₀ .estimates) e₁ room₁
+    → t₁ ≡ replicate (length (l₀ .elapsed)) noneWord → Choice (g .sizes .n) room₁ v₁ → most ≡ min budget (g .sizes .n)
+    → Running g leaving groups s z most (standOf e₁ t₁ (l₀ .log) room₁ 0 v₁) a
+    → ltb (a .next) (g .sizes .n) && ltb (a .count) most ≡ false
     → Advances g leaving groups s z budget l₀ (leaves a) (a .count) (eqb (a .next) (g .sizes .n))
-advances {g} {budget = budget} {most} {l₀} {l₁ = l₁} lends begun cleared top most-is x left = record {
+advances {g} {budget = budget} {most} {l₀} lends begun cleared choice most-is x left = record {
   kept = kept-trans (begun .kept) (x .kept);
   count-le = omega (arith, x .count-le);
   exact = λ r made a.
-      let ch = top (orderOf l₁) (omega (arith, lends .within .start-in)) (begun .room .n-high) (begun .room .right) in
       let none = cleared ∙ ap (λ (k : ℕ). replicate k noneWord) (lends .within .sized .elapsed-is) in
       let d = x .goes (l₀ .estimates) (l₀ .log) r made (omega (arith, lends .log-long))
-      (going-start r (begun .exact (g .roads) (g .live) _ r a) none ch) in
+      (going-start r (begun .exact (g .roads) (g .live) _ r a) none (omega (arith, lends .within .start-in)) (begun .room) choice) in
       advanced r d budget (omega (arith, x .count-le))
       (λ t. turn-left {most = most} left (record { node-in = t .node-in; count-in = omega (arith, t .count-in) }));
 }

@@ -4,7 +4,7 @@ use mathlib.Core.Path.{_≡_}
 use mathlib.Core.Bool.{Bool, false, true}
 use mathlib.Core.Option.{some}
 use mathlib.Core.List.{List, [], reverse}
-use Prim.Native.Nat.{_<_, _≤_, min, suc, ℕ}
+use Prim.Native.Nat.{_*_, _<_, _≤_, min, suc, ℕ}
 use lib.ListN.{getD, length}
 use Rattle.graph.specs.Search.{Entry, run, timeIn, vertices}
 use Rattle.graph.specs.Complete.{Complete}
@@ -14,11 +14,15 @@ use Rattle.model.specs.State.{first}
 use Rattle.model.specs.Estimate.{Kept}
 use Rattle.model.specs.Good.{AimFacts}
 use Rattle.road_groups.specs.Lending.{GroupsMade}
+use Rattle.search_queue.specs.Order.{blankWord}
+use Rattle.search_labels.specs.Labelling.{labelsIn}
 use Rattle.search_labels.specs.Labelled.{Way}
 use Rattle.search_junctions.specs.State.{Given, Ready, SizedIn, goGiven, mapGiven}
 use Rattle.search_junctions.specs.Asking.{Asked, Filling}
+use Rattle.search_junctions.specs.Ways.{stepBack}
 
--- What a search writes in the areas lent to it. Ways are the arcs that gave the nodes their times, or those of the route.
+-- What a search writes in the areas lent to it. Ways are the room of a run, which has the arcs that gave the nodes their times, or the
+-- route.
 pub record Written : Type 0 where
   pub estimates : List ℕ
   pub elapsed : List ℕ
@@ -41,13 +45,28 @@ pub record Within (g : Given) (leaving groups : List ℕ) (s z : ℕ) (estimates
   pub groups-are : length groups ≡ suc (g .sizes .n)
   pub sized : SizedIn g estimates elapsed
 
--- and there is room for what is written
+-- and there is room for route and log
 pub record Lends (g : Given) (leaving groups : List ℕ) (s z : ℕ) (l : Written) : Type 0 where
   pub within : Within g leaving groups s z (length (l .estimates)) (length (l .elapsed))
   pub ways-long : g .sizes .n ≤ length (l .ways)
   pub log-long : g .sizes .n ≤ length (l .log)
 
+-- a room for the labels of n nodes, all of them blank
+pub record BlankRoom (n : ℕ) (room : List ℕ) : Type 0 where
+  pub words : 3 * n ≤ length room
+  pub blank : (p : ℕ) → p < 3 * n → getD room p 0 ≡ blankWord
+
+-- or there is room for the log and for the labels
+pub record LendsRoom (g : Given) (leaving groups : List ℕ) (s z : ℕ) (l : Written) : Type 0 where
+  pub within : Within g leaving groups s z (length (l .estimates)) (length (l .elapsed))
+  pub log-long : g .sizes .n ≤ length (l .log)
+  pub fresh : BlankRoom (g .sizes .n) (l .ways)
+
 -- ---- what a run leaves
+
+-- one step back by the arcs of a room
+abbrev pub backIn : (roads room : List ℕ) (n m v : ℕ) → ℕ
+backIn roads room n m = stepBack roads (labelsIn n room .vias) n m
 
 -- what a flag tells
 pub record Tells (b : Bool) (P : Type 0) : Type 0 where
@@ -60,7 +79,7 @@ pub record Advanced (g : Given) (s z : ℕ) (H : List Entry) (l l′ : Written) 
   pub log-is : l′ .log ≡ first (vertices (reverse H)) (l .log)
   pub elapsed-is : l′ .elapsed ≡ listed (g .sizes .n) (λ v. word (timeIn H v))
   pub filling : Filling (mapGiven g) z (Asked (goGiven g s z) s z H) (g .down) (l .estimates) (l′ .estimates)
-  pub ways : (v t : ℕ) → v < goGiven g s z .size → timeIn H v ≡ some t → Way (goGiven g s z) H v (getD (l′ .ways) v 0)
+  pub ways : (v t : ℕ) → v < goGiven g s z .size → timeIn H v ≡ some t → Way (goGiven g s z) H v (labelsIn (g .sizes .n) (l′ .ways) .vias v)
   pub complete-is : Tells complete (Complete (goGiven g s z) H)
 
 -- From the beginning, as many nodes as the budget allows. A larger budget logs further ones behind these (`run-add`).

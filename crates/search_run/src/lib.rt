@@ -3,31 +3,25 @@
 ghost use mathlib.Core.Path.{_≡_};
 ghost use Prim.Native.Nat.{_*_, _<_, _≤_, min};
 ghost use lib.Dec.{eqb};
-ghost use lib.ListN.{getD, length};
+ghost use lib.ListN.{length};
 ghost use Rattle.model.specs.Layout.{roadSize};
 ghost use Rattle.model.specs.State.{first};
 ghost use Rattle.search_labels.specs.Ways.{arcsBack, wayOf};
 ghost use Rattle.search_junctions.specs.State.{given};
-ghost use Rattle.search_junctions.specs.Ways.{stepBack};
-ghost use Rattle.search_run.specs.Runs.{Advances, Lends, written};
+ghost use Rattle.search_labels.specs.Labelling.{labelsIn};
+ghost use Rattle.search_run.specs.Runs.{Advances, LendsRoom, backIn, written};
 use areas::fill;
 use network::Junction;
-use network::MOST_JUNCTIONS;
 use network::Time;
 use network::TimeWord;
 use search_junctions::Trip;
 use search_junctions::group_at;
 use search_junctions::step_back;
-use search_queue::NO_KEY;
-use search_queue::NOBODY;
+use search_labels::time_of;
+use search_labels::via_of;
 use search_queue::SETTLED;
 use search_queue::choose;
 use search_queue::put;
-
-// Room for as many nodes as a unit takes, and for the places of their tournament.
-const NODES: usize = MOST_JUNCTIONS as usize;
-
-const PLACES: usize = 2 * NODES;
 
 // How many nodes are logged (document 01: count), and whether the log is complete.
 pub struct Progress {
@@ -43,7 +37,7 @@ fn smaller(a: u32, b: u32) -> u32
 }
 
 // Logs one candidate after the other, until the goal is logged, no candidate is left or the budget is used up. Elapsed holds the times of
-// the logged, `vias` the arcs that gave them. To go on later is to run again with a larger budget: the log begins with the same nodes.
+// the logged, the room the arcs that gave them. To go on later is to run again with a larger budget: the log begins with the same nodes.
 pub fn advance(
     trip: Trip,
     budget: u32,
@@ -57,31 +51,29 @@ pub fn advance(
     groups: &[u32],
     estimates: &mut [TimeWord],
     elapsed: &mut [TimeWord],
-    vias: &mut [u32],
     log: &mut [u32],
+    room: &mut [u64],
 ) -> Progress
-    requires { ⌜ Lends (given trip roads order ranks pairs live down) (now leaving) (now groups) (trip .start .0) (trip .target .0)
-        (written estimates elapsed vias log) ⌝ }
+    requires { ⌜ LendsRoom (given trip roads order ranks pairs live down) (now leaving) (now groups) (trip .start .0) (trip .target .0)
+        (written estimates elapsed room log) ⌝ }
     ensures { λ r. ⌜ Advances (given trip (roads .entry) (order .entry) (ranks .entry) (pairs .entry) (live .entry) (down .entry))
         (now (leaving .entry)) (now (groups .entry)) (trip .start .0) (trip .target .0) budget
-        (written (estimates .entry) (elapsed .entry) (vias .entry) (log .entry))
-        (written (estimates .exit) (elapsed .exit) (vias .exit) (log .exit)) (r .count) (r .complete) ⌝ }
+        (written (estimates .entry) (elapsed .entry) (room .entry) (log .entry))
+        (written (estimates .exit) (elapsed .exit) (room .exit) (log .exit)) (r .count) (r .complete) ⌝ }
 {
     let n = trip.sizes.n;
-    let mut times = [Time::NONE.0; NODES];
-    let mut keys = [NO_KEY; NODES];
-    let mut tree = [NOBODY; PLACES];
     let first = trip.ask_start(order, ranks, pairs, down, estimates);
-    trip.begin(&mut times, &mut keys, vias, &mut tree, first);
+    trip.begin(room, first);
     fill(elapsed, Time::NONE.0);
     let most = smaller(budget, n);
     let mut c: u32 = 0;
-    let mut v = choose(&tree, n); // the node that is logged next, or n
+    let mut v = choose(room, n); // the node that is logged next, or n
     while (v < n) & (c < most) {
         log[c as usize] = v;
         c += 1;
-        elapsed[v as usize] = times[v as usize];
-        put(&mut keys, &mut tree, n, v, SETTLED);
+        let from = time_of(room, n, v);
+        elapsed[v as usize] = from.word();
+        put(room, n, v, SETTLED);
         if trip.is_goal(v) {
             v = n;
         } else {
@@ -89,18 +81,8 @@ pub fn advance(
             let b = groups[v as usize + 1];
             let group = group_at(leaving, a, b);
             trip.ask(roads, order, ranks, pairs, live, down, estimates, group);
-            trip.relax(
-                roads,
-                live,
-                estimates,
-                &mut times,
-                &mut keys,
-                vias,
-                &mut tree,
-                group,
-                v,
-            );
-            v = choose(&tree, n);
+            trip.relax(roads, live, estimates, room, group, from);
+            v = choose(room, n);
         }
     }
     Progress {
@@ -112,9 +94,9 @@ pub fn advance(
 // ---- the way back
 
 // How many arcs lead from where the way begins to v.
-fn arcs_back(roads: &[u8], vias: &[u32], n: u32, m: u32, start: u32, v: u32) -> u32
-    requires { ⌜ (v < n) × (n ≤ length (now vias)) × (roadSize * m ≤ length (now roads)) ⌝ }
-    ensures { λ r. ⌜ (r ≡ arcsBack (λ u. eqb u start) (stepBack (now (roads .entry)) (now (vias .entry)) n m) n v) × (r ≤ n) ⌝ }
+fn arcs_back(roads: &[u8], room: &[u64], n: u32, m: u32, start: u32, v: u32) -> u32
+    requires { ⌜ (v < n) × (3 * n ≤ length (now room)) × (roadSize * m ≤ length (now roads)) ⌝ }
+    ensures { λ r. ⌜ (r ≡ arcsBack (λ u. eqb u start) (backIn (now (roads .entry)) (now (room .entry)) n m) n v) × (r ≤ n) ⌝ }
 {
     let mut k: u32 = 0;
     let mut u = v;
@@ -122,45 +104,44 @@ fn arcs_back(roads: &[u8], vias: &[u32], n: u32, m: u32, start: u32, v: u32) -> 
         if u == start {
             return k;
         }
-        u = step_back(roads, vias, n, m, u);
+        u = step_back(roads, room, n, m, u);
         k += 1;
     }
     k
 }
 
 // Writes the k arcs that lead to v, back to front.
-fn write_back(roads: &[u8], vias: &[u32], n: u32, m: u32, k: u32, v: u32, route: &mut [u32])
-    requires { ⌜ (v < n) × (n ≤ length (now vias)) × (roadSize * m ≤ length (now roads)) × (k ≤ length (now route)) ⌝ }
-    ensures { λ _. ⌜ now (route .exit) ≡ first (wayOf (λ u. getD (now (vias .entry)) u 0)
-        (stepBack (now (roads .entry)) (now (vias .entry)) n m) k v) (now (route .entry)) ⌝ }
+fn write_back(roads: &[u8], room: &[u64], n: u32, m: u32, k: u32, v: u32, route: &mut [u32])
+    requires { ⌜ (v < n) × (3 * n ≤ length (now room)) × (roadSize * m ≤ length (now roads)) × (k ≤ length (now route)) ⌝ }
+    ensures { λ _. ⌜ now (route .exit) ≡ first (wayOf (labelsIn n (now (room .entry)) .vias)
+        (backIn (now (roads .entry)) (now (room .entry)) n m) k v) (now (route .entry)) ⌝ }
 {
     let mut j = k;
     let mut u = v;
     while 0 < j {
         j -= 1;
-        let a = u as usize;
         let at = j as usize;
-        route[at] = vias[a];
-        u = step_back(roads, vias, n, m, u);
+        route[at] = via_of(room, n, u);
+        u = step_back(roads, room, n, m, u);
     }
 }
 
 // The route from the start to v, forwards, first in the part lent; answered with its number of arcs.
 pub fn way_back(
     roads: &[u8],
-    vias: &[u32],
+    room: &[u64],
     n: u32,
     m: u32,
     start: Junction,
     v: Junction,
     route: &mut [u32],
 ) -> u32
-    requires { ⌜ (v .0 < n) × (n ≤ length (now vias)) × (roadSize * m ≤ length (now roads)) × (n ≤ length (now route)) ⌝ }
-    ensures { λ r. ⌜ (r ≡ arcsBack (λ u. eqb u (start .0)) (stepBack (now (roads .entry)) (now (vias .entry)) n m) n (v .0))
-        × (now (route .exit) ≡ first (wayOf (λ u. getD (now (vias .entry)) u 0)
-        (stepBack (now (roads .entry)) (now (vias .entry)) n m) r (v .0)) (now (route .entry))) ⌝ }
+    requires { ⌜ (v .0 < n) × (3 * n ≤ length (now room)) × (roadSize * m ≤ length (now roads)) × (n ≤ length (now route)) ⌝ }
+    ensures { λ r. ⌜ (r ≡ arcsBack (λ u. eqb u (start .0)) (backIn (now (roads .entry)) (now (room .entry)) n m) n (v .0))
+        × (now (route .exit) ≡ first (wayOf (labelsIn n (now (room .entry)) .vias)
+        (backIn (now (roads .entry)) (now (room .entry)) n m) r (v .0)) (now (route .entry))) ⌝ }
 {
-    let k = arcs_back(roads, vias, n, m, start.0, v.0);
-    write_back(roads, vias, n, m, k, v.0, route);
+    let k = arcs_back(roads, room, n, m, start.0, v.0);
+    write_back(roads, room, n, m, k, v.0, route);
     k
 }

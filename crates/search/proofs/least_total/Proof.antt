@@ -1,32 +1,56 @@
--- As many steps as there are junctions make the whole history, and the run leaves the target's time in elapsed, which is the total
--- (`finds-total`).
+-- Of three rooms the smallest that holds n junctions is made, blank (`blank-room`), and a log beside it; in each the search is the same.
+use mathlib.Core.Path.{refl}
+use native.Mathlib.Omega.{arith}
+use lib.ListN.{length-replicate}
+use Rattle.model.specs.Limits.{mostJunctions}
+use Rattle.search.proofs.Wholes.{blank-room}
 use borrow.Author.Needs.{needs}
-use Rattle.search.proofs.Wholes.{finds-total}
 use Rattle.search.proofs.least_total.Statement.{statement}
 use Rattle.search.proofs.least_total.Tie as tie
 
-abbrev after-advance : tie.After-of-word → tie.After-advance
-after-advance c = c .before .before .before .before .before .before .before .before .before
+-- from where n is compared
+abbrev start : tie.After-struct-known → tie.Start
+start c = c .before .before .before .before .before .before .before .before .before .before .before
 
-abbrev start : tie.After-advance → tie.Start
-start c = c .before .before .before .before .before .before .before .before .before .before .before .before .before .before .before .before
+total-in-requires : tie.Need-total-in-requires
+total-in-requires c κs =
+    let then1 = c .before .before .before .before in
+    (start (then1 .before) .pre, simp length-replicate (then1 .if1 .taken), blank-room 256 (then1 .if1 .taken))
 
-returns : tie.Need-returns
-returns c =
-    let after-advance = after-advance c in
-    finds-total (start after-advance .pre) (after-advance .advance .ensures) (c .of-word .ensures)
+total-in-requires-2 : tie.Need-total-in-requires-2
+total-in-requires-2 c κs =
+    let then2 = c .before .before .before .before in
+    let else1 = then2 .before in
+    (start (else1 .before) .pre, simp length-replicate (then2 .if2 .taken), blank-room 1024 (then2 .if2 .taken))
+
+total-in-requires-3 : tie.Need-total-in-requires-3
+total-in-requires-3 c κs =
+    let else2 = c .before .before .before .before in
+    let else1 = else2 .before in
+    let within = start (else1 .before) .pre in
+    let high = within .sized .n-high in
+    (within, simp length-replicate high, blank-room mostJunctions high)
 
 pub least-total-spec : {M : Type 1} → statement M
 least-total-spec =
     tie.close
     (tie.spec
     (λ c. search needs)
-    (λ c. search needs)
-    (λ c κs. search needs)
-    (λ c. search needs)
-    (λ c. search needs)
-    (λ c. search needs)
-    (λ c κs. search needs)
+    (λ c. refl)
+    (λ c. refl)
+    total-in-requires
     (λ c. search needs)
     (λ c. search needs)
-    returns)
+    (λ c. search needs)
+    (λ c. refl)
+    (λ c. refl)
+    total-in-requires-2
+    (λ c. search needs)
+    (λ c. search needs)
+    (λ c. search needs)
+    (λ c. refl)
+    (λ c. refl)
+    total-in-requires-3
+    (λ c. search needs)
+    (λ c. search needs)
+    (λ c. search needs))

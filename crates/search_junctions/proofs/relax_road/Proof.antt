@@ -12,7 +12,7 @@ use Rattle.search_junctions.proofs.relax_road.Tie as tie
 -- ---- the road, once its words are read
 
 abbrev start : tie.After-time-of → tie.Start
-start c = c .before .before .before .before .before .before .before .before .before
+start c = c .before .before .before .before .before .before
 
 abbrev after-head-of : tie.Else2 → tie.After-head-of
 after-head-of c = c .before .before .before
@@ -51,12 +51,11 @@ returns-2 c =
 
 returns-3 : tie.Need-returns-3
 returns-3 c =
-    let after-take = c .before .before .before .before .before .before .before .before in
-    let after-or-sum = after-take .before .before .before .before .before in
+    let after-take = c .before .before in
+    let after-or-sum = after-take .before .before in
     let after-of-word = after-or-sum .before in
     let else2 = after-of-word .before .before .before in
-    let (_, _, room) = start (after-time-of else2) .pre in
-    road-open (open-road else2) (after-of-word .of-word .ensures) (after-or-sum .or-sum .ensures) room (after-take .take .ensures)
+    road-open (open-road else2) (after-of-word .of-word .ensures) (after-or-sum .or-sum .ensures) (after-take .take .ensures)
 
 pub relax-road-spec : {M : Type 1} → statement M
 relax-road-spec =
@@ -73,8 +72,5 @@ relax-road-spec =
     (λ c κs. search needs)
     (λ c κs. search needs)
     (λ c κs. search needs)
-    (λ c. search needs)
-    (λ c. search needs)
-    (λ c. search needs)
     (λ c. search needs)
     returns-3)

@@ -1,14 +1,23 @@
--- The root's word is nobody's, and then n is chosen (`root-nobody`), or it tells the number of the first candidate (`root-number`).
+-- The root's word tells the number of the first candidate (`root-number`), or it is no candidate's, and then n is chosen (`root-nobody`).
 use Rattle.search_queue.proofs.Root.{root-nobody, root-number}
 use borrow.Author.Needs.{needs}
 use Rattle.search_queue.proofs.choose.Statement.{statement}
 use Rattle.search_queue.proofs.choose.Tie as tie
 
 returns : tie.Need-returns
-returns c = root-nobody (c .before .before .args .tree .now) (c .if1 .taken)
+returns c =
+    let after-upper-of = c .before .before in
+    let (upper-is, _) = after-upper-of .upper-of .ensures in
+    let (lower-is, _) = c .lower-of .ensures in
+    let start = after-upper-of .before .before .before in
+    rw lower-is (root-number (start .args .room .now) (rw upper-is at (c .before .if1 .taken)))
 
 returns-2 : tie.Need-returns-2
-returns-2 c = root-number (c .before .before .args .tree .now) (c .if1 .left)
+returns-2 c =
+    let after-upper-of = c .before in
+    let (upper-is, _) = after-upper-of .upper-of .ensures in
+    let start = after-upper-of .before .before .before in
+    root-nobody (start .args .room .now) (rw upper-is at (c .if1 .left))
 
 pub choose-spec : {M : Type 1} → statement M
-choose-spec = tie.close (tie.spec (λ c. search needs) (λ c. search needs) returns returns-2)
+choose-spec = tie.close (tie.spec (λ c. search needs) (λ c. search needs) (λ c κs. search needs) returns returns-2)

@@ -1,40 +1,65 @@
--- A key that is there already changes nothing (`written-again`); else no other key changes (`same-but`), and `renew` does the rest.
+-- The word of v is written at its own place; from there up, all places but those still above are decided (`Climb`): `climb-turn` decides
+-- one more, `climb-end` finds none left.
+use mathlib.Core.Path.{refl}
 use lib.ListN.{length-set}
+use native.Mathlib.Omega.{arith}
 use Rattle.search_queue.specs.Order.{byKey}
-use Rattle.search_queue.proofs.Orders.{same-but, written-again}
+use Rattle.search_queue.proofs.Climb.{Climb, climb-end, climb-start, climb-turn}
 use borrow.Author.Needs.{needs}
 use Rattle.search_queue.proofs.put.Statement.{statement}
 use Rattle.search_queue.proofs.put.Tie as tie
 
-returns : tie.Need-returns
-returns c =
-    let start = c .before .before .before .before in
-    (written-again (start .args .keys .now) _ (c .if1 .taken), start .pre .1)
+abbrev Inv-loop : tie.InvT-loop
+Inv-loop room₀ n v key w₀ at₀ room w at = Climb (byKey n room₀) n room₀ room at w
 
-renew-requires : tie.Need-renew-requires
-renew-requires c κs =
-    let start = c .before .before .before .before .before .before in
-    let (node, right) = start .pre in
-    let keys = start .args .keys .now in (
-      record {
-        inside = node .inside;
-        n-high = node .n-high;
-        keys-room = simp length-set (node .keys-room);
-        tree-room = node .tree-room;
-      },
-      record { old = byKey keys; same = same-but keys _; right = right },
-    )
+abbrev μ-loop : tie.MeasureT-loop
+μ-loop room₀ n v key w₀ at₀ room w at = at
+
+loop-holds : tie.Need-loop-holds Inv-loop μ-loop
+loop-holds c =
+    let start = c .before .before in
+    let (node, _, changed) = start .pre in
+    climb-start (start .args .key) node (c .word-of .ensures) changed
+
+loop-again : tie.Need-loop-again Inv-loop μ-loop
+loop-again c =
+    let in-loop = c .before .before in
+    let at-loop = in-loop .before in
+    let start = at-loop .before .before .before in
+    let (node, _, _) = start .pre in
+    climb-turn (node .n-high) (in-loop .loop-test .taken) refl refl (at-loop .loop .inv) (c .better-of .ensures)
+
+same-length : tie.Need-same-length Inv-loop μ-loop
+same-length c = simp length-set at (c .before .loop .inv .long)
+
+returns : tie.Need-returns Inv-loop μ-loop
+returns c =
+    let at-loop = c .before in
+    let after-word-of = at-loop .before in
+    let start = after-word-of .before .before in
+    let (node, _, _) = start .pre in
+    climb-end (start .args .key) node (after-word-of .word-of .ensures) (c .loop-test .left) (at-loop .loop .inv)
 
 pub put-spec : {M : Type 1} → statement M
 put-spec =
     tie.close
     (tie.spec
+    Inv-loop
+    μ-loop
+    (λ c κs. search needs)
     (λ c. search needs)
     (λ c. search needs)
-    returns
+    (λ c. search needs)
+    loop-holds
     (λ c. search needs)
     (λ c. search needs)
-    renew-requires
     (λ c. search needs)
     (λ c. search needs)
-    (λ c. search needs))
+    (λ c. search needs)
+    (λ c κs. search needs)
+    (λ c. search needs)
+    (λ c. search needs)
+    (λ c. search needs)
+    loop-again
+    same-length
+    returns)

@@ -4,45 +4,35 @@
 use borrow.Author.Needs.{needs}
 use native.Mathlib.Omega.{arith}
 use mathlib.Core.Path.{_∙_, _≡_, refl, sym}
-use Prim.Native.Nat.{_*_, _+_, _-_, _<_}
+use Prim.Native.Nat.{_+_, _-_, _<_}
 use lib.ListN.{length}
 use Rattle.model.specs.Limits.{mostJunctions}
-use Rattle.model.specs.Word.{noneWord}
 use Rattle.network.specs.declared.Sizes.{Sizes}
-use Rattle.network.specs.Locals.{counted}
-use Rattle.search_queue.specs.Order.{noKey}
-use Rattle.search_queue.specs.Tree.{nobodyWord}
-use Rattle.search_labels.specs.Labelling.{Labelling, labellingOf}
+use Rattle.search_queue.specs.Laws.{unchanged}
 use Rattle.search_junctions.specs.Views.{seen}
 use Rattle.search_junctions.specs.State.{givenOf}
 use Rattle.search_junctions.specs.Firsts.{begins-first}
-use Rattle.search_run.proofs.Turns.{Settled, standOf, withKeys}
-use Rattle.search_run.proofs.Wholes.{Locals, Running, Turn, advances, asking, blank, first-inside, locals-kept}
-use Rattle.search_run.proofs.Wholes.{long-settled, pairs-in, reading, room-blank, room-settled, running-goal}
-use Rattle.search_run.proofs.Wholes.{running-on, running-start, turn-taken}
+use Rattle.search_run.proofs.Turns.{standOf}
+use Rattle.search_run.proofs.Wholes.{Running, Turn, advances, asking, blank-of, first-inside, pairs-in, reading, room-blank}
+use Rattle.search_run.proofs.Wholes.{room-settled, running-goal, running-on, running-start, turn-taken}
 use Rattle.search_run.proofs.advance.Statement.{statement}
 use Rattle.search_run.proofs.advance.Tie as tie
 
 abbrev Inv-loop : tie.InvT-loop
-Inv-loop trip budget roads order ranks pairs live down leaving groups estimates₀ elapsed₀ vias₀ log₀ n times₀ keys₀ tree₀ most c₀ v₀
-    estimates elapsed vias log times keys tree c v =
+Inv-loop trip budget roads order ranks pairs live down leaving groups estimates₀ elapsed₀ log₀ room₀ n most c₀ v₀
+    estimates elapsed log room c v =
     Running (givenOf (trip .sizes) roads order ranks pairs (seen (trip .view) live) down) leaving groups (trip .start .0)
     (trip .target .0) most
-    (standOf estimates₀ elapsed₀ log₀ (labellingOf times₀ keys₀ vias₀ tree₀) c₀ v₀)
-    (standOf estimates elapsed log (labellingOf times keys vias tree) c v)
+    (standOf estimates₀ elapsed₀ log₀ room₀ c₀ v₀) (standOf estimates elapsed log room c v)
 
 abbrev μ-loop : tie.MeasureT-loop
-μ-loop trip budget roads order ranks pairs live down leaving groups estimates₀ elapsed₀ vias₀ log₀ n times₀ keys₀ tree₀ most c₀ v₀
-    estimates elapsed vias log times keys tree c v = most - c
+μ-loop trip budget roads order ranks pairs live down leaving groups estimates₀ elapsed₀ log₀ room₀ n most c₀ v₀
+    estimates elapsed log room c v = most - c
 
 -- ---- before the loop
 
 abbrev start-of : tie.After-ask-start Inv-loop μ-loop → tie.Start Inv-loop μ-loop
 start-of c = c .before .before .before .before .before .before .before .before .before .before .before .before .before .before
-
--- from where the first candidate is chosen
-abbrev begun : tie.After-tree3 Inv-loop μ-loop → tie.After-begin Inv-loop μ-loop
-begun c = c .before .before .before .before .before .before .before .before .before .before .before
 
 -- ---- at the head of the loop
 
@@ -53,10 +43,10 @@ abbrev after-fill : tie.At-loop Inv-loop μ-loop → tie.After-fill Inv-loop μ-
 after-fill c = after-smaller c .before .before .before
 
 abbrev after-begin : tie.At-loop Inv-loop μ-loop → tie.After-begin Inv-loop μ-loop
-after-begin c = begun (c .before .before)
+after-begin c = after-fill c .before .before .before .before
 
 abbrev after-ask-start : tie.At-loop Inv-loop μ-loop → tie.After-ask-start Inv-loop μ-loop
-after-ask-start c = after-begin c .before .before .before .before .before .before .before
+after-ask-start c = after-begin c .before .before .before .before
 
 abbrev start : tie.At-loop Inv-loop μ-loop → tie.Start Inv-loop μ-loop
 start c = start-of (after-ask-start c)
@@ -64,20 +54,7 @@ start c = start-of (after-ask-start c)
 abbrev sizes : tie.At-loop Inv-loop μ-loop → Sizes
 sizes c = start c .args .trip .sizes
 
-abbrev labels : tie.At-loop Inv-loop μ-loop → Labelling
-labels c = labellingOf (c .loop .times) (c .loop .keys) (c .loop .vias) (c .loop .tree)
-
--- the local areas are as long as they were made
-locals : (c : tie.At-loop Inv-loop μ-loop) → Locals (labels c)
-locals c =
-    let (_, (times-kept, (keys-kept, (_, (tree-kept, _))))) = after-begin c .begin .kept in
-    locals-kept (c .loop .inv .long) (record {
-      times-are = counted mostJunctions noneWord times-kept;
-      keys-are = counted mostJunctions noKey keys-kept;
-      tree-are = counted (2 * mostJunctions) nobodyWord tree-kept;
-    })
-
--- those of the caller are as long as they came
+-- the areas are as long as they came
 estimates-long : (c : tie.At-loop Inv-loop μ-loop) → length (c .loop .estimates) ≡ length (start c .args .estimates .now)
 estimates-long c =
     let (_, (_, (_, (_, (_, (estimates-kept, _)))))) = after-ask-start c .ask-start .kept in
@@ -86,10 +63,10 @@ estimates-long c =
 elapsed-long : (c : tie.At-loop Inv-loop μ-loop) → length (c .loop .elapsed) ≡ length (start c .args .elapsed .now)
 elapsed-long c = c .loop .inv .elapsed-long ∙ after-fill c .fill .kept .0
 
-vias-long : (c : tie.At-loop Inv-loop μ-loop) → length (c .loop .vias) ≡ length (start c .args .vias .now)
-vias-long c =
-    let (_, (_, (_, (vias-kept, _)))) = after-begin c .begin .kept in
-    c .loop .inv .long .vias-long ∙ vias-kept
+room-long : (c : tie.At-loop Inv-loop μ-loop) → length (c .loop .room) ≡ length (start c .args .room .now)
+room-long c =
+    let (_, (room-kept, _)) = after-begin c .begin .kept in
+    c .loop .inv .room-long ∙ room-kept
 
 -- ---- in the loop
 
@@ -109,17 +86,14 @@ groups-inside c = omega (arith, turn c .node-in, start (c .before) .pre .within 
 
 -- ---- once the node is settled
 
+abbrev after-word : tie.After-put Inv-loop μ-loop → tie.After-word Inv-loop μ-loop
+after-word c = c .before .before
+
+abbrev after-time-of : tie.After-put Inv-loop μ-loop → tie.After-time-of Inv-loop μ-loop
+after-time-of c = after-word c .before
+
 abbrev in-loop : tie.After-put Inv-loop μ-loop → tie.In-loop Inv-loop μ-loop
-in-loop c = c .before .before .before
-
-settled : (c : tie.After-put Inv-loop μ-loop) → let at-loop = in-loop c .before in
-    Settled (sizes at-loop .n) (at-loop .loop .v) (labels at-loop) (c .put .last .0) (c .put .last .1 .0)
-settled c =
-    let (keys-are, right) = c .put .ensures in
-    record { keys-are = keys-are; right = right; tree-long = c .put .kept .1 .0 }
-
-locals-settled : (c : tie.After-put Inv-loop μ-loop) → Locals (withKeys (labels (in-loop c .before)) (c .put .last .0) (c .put .last .1 .0))
-locals-settled c = locals-kept (long-settled (settled c)) (locals (in-loop c .before))
+in-loop c = after-time-of c .before .before
 
 -- it is no goal
 abbrev put-before : tie.Else1 Inv-loop μ-loop → tie.After-put Inv-loop μ-loop
@@ -139,11 +113,7 @@ abbrev after-put : tie.After-ask Inv-loop μ-loop → tie.After-put Inv-loop μ-
 after-put c = put-before (else1 c)
 
 abbrev after-ask : tie.After-relax Inv-loop μ-loop → tie.After-ask Inv-loop μ-loop
-after-ask c = c .before .before .before .before .before .before .before .before
-
--- from where the next candidate is chosen
-abbrev after-relax : tie.After-tree8 Inv-loop μ-loop → tie.After-relax Inv-loop μ-loop
-after-relax c = c .before .before .before .before .before .before
+after-ask c = c .before .before .before .before .before
 
 -- ---- the answers
 
@@ -154,27 +124,28 @@ ask-start-requires c κs =
 
 begin-requires : tie.Need-begin-requires Inv-loop μ-loop
 begin-requires c κs =
-    let after-ask-start = c .before .before .before .before .before .before in
-    let start = start-of after-ask-start in
-    (start .pre .within .start-in, room-blank (start .pre .within .sized .n-high) (start .pre .ways-long))
-
-slice-aggregate-choose : tie.Need-slice-aggregate-choose Inv-loop μ-loop
-slice-aggregate-choose c =
-    let (_, (_, (_, (_, (tree-kept, _))))) = begun c .begin .kept in
-    counted (2 * mostJunctions) nobodyWord tree-kept
+    let after-ask-start = c .before .before .before in
+    let lends = start-of after-ask-start .pre in
+    (lends .within .start-in, room-blank (lends .within .sized .n-high) (lends .fresh))
 
 choose-requires : tie.Need-choose-requires Inv-loop μ-loop
 choose-requires c κs =
-    let (_, (_, (_, (_, (tree-kept, _))))) = begun c .begin .kept in
-    omega (arith, tree-kept)
+    let after-smaller = c .before in
+    let after-fill = after-smaller .before .before .before in
+    let after-begin = after-fill .before .before .before .before in
+    let after-ask-start = after-begin .before .before .before .before in
+    let start = start-of after-ask-start in
+    let (_, (room-kept, _)) = after-begin .begin .kept in
+    omega (arith, room-kept, start .pre .fresh .words, start .pre .within .start-in)
 
 loop-holds : tie.Need-loop-holds Inv-loop μ-loop
 loop-holds c =
-    let after-begin = begun (c .before) in
-    let after-ask-start = after-begin .before .before .before .before .before .before .before in
-    let start = start-of after-ask-start in
-    let room = after-begin .begin .ensures .room in
-    running-start (first-inside room (omega (arith, start .pre .within .start-in)) (c .choose .ensures)) room
+    let after-smaller = c .before .before in
+    let after-fill = after-smaller .before .before .before in
+    let after-begin = after-fill .before .before .before .before in
+    let after-ask-start = after-begin .before .before .before .before in
+    let right = after-begin .begin .ensures .room in
+    running-start (first-inside right (omega (arith, start-of after-ask-start .pre .within .start-in)) (c .choose .ensures)) right
 
 slice-write-log : tie.Need-slice-write-log Inv-loop μ-loop
 slice-write-log c = omega (arith, count-inside c, c .before .loop .inv .log-long, start (c .before) .pre .log-long)
@@ -182,57 +153,49 @@ slice-write-log c = omega (arith, count-inside c, c .before .loop .inv .log-long
 add-c : tie.Need-add-c Inv-loop μ-loop
 add-c c = omega (arith, count-inside c, start (c .before) .pre .within .sized .n-high)
 
+time-of-requires : tie.Need-time-of-requires Inv-loop μ-loop
+time-of-requires c κs =
+    let in-loop = c .before in
+    (turn in-loop .node-in, in-loop .before .loop .inv .right .words)
+
 cast-elapsed : tie.Need-cast-elapsed Inv-loop μ-loop
-cast-elapsed c = omega (arith, node-small c)
+cast-elapsed c =
+    let in-loop = c .before .before .before in
+    omega (arith, node-small in-loop)
 
 mul-elapsed : tie.Need-mul-elapsed Inv-loop μ-loop
-mul-elapsed c = omega (arith, node-small c)
-
-array-read-elapsed : tie.Need-array-read-elapsed Inv-loop μ-loop
-array-read-elapsed c = omega (arith, turn c .node-in, c .before .loop .inv .room .times-room)
-
-cast-elapsed-2 : tie.Need-cast-elapsed-2 Inv-loop μ-loop
-cast-elapsed-2 c = omega (arith, node-small c)
-
-mul-elapsed-2 : tie.Need-mul-elapsed-2 Inv-loop μ-loop
-mul-elapsed-2 c = omega (arith, node-small c)
+mul-elapsed c =
+    let in-loop = c .before .before .before in
+    omega (arith, node-small in-loop)
 
 slice-write-elapsed : tie.Need-slice-write-elapsed Inv-loop μ-loop
-slice-write-elapsed c = omega (arith, turn c .node-in, elapsed-long (c .before), start (c .before) .pre .within .sized .elapsed-is)
-
-slice-aggregate-put : tie.Need-slice-aggregate-put Inv-loop μ-loop
-slice-aggregate-put c =
-    let at-loop = c .before .before in
-    locals at-loop .keys-are
-
-slice-aggregate-put-2 : tie.Need-slice-aggregate-put-2 Inv-loop μ-loop
-slice-aggregate-put-2 c =
-    let at-loop = c .before .before .before in
-    locals at-loop .tree-are
+slice-write-elapsed c =
+    let in-loop = c .before .before .before in
+    let at-loop = in-loop .before in
+    omega (arith, turn in-loop .node-in, elapsed-long at-loop, start at-loop .pre .within .sized .elapsed-is)
 
 put-requires : tie.Need-put-requires Inv-loop μ-loop
 put-requires c κs =
-    let in-loop = c .before .before in
-    let room = in-loop .before .loop .inv .room in (
-      record {
-        inside = turn in-loop .node-in;
-        n-high = room .n-high;
-        keys-room = room .keys-room;
-        tree-room = room .tree-room;
-      },
-      room .right,
+    let in-loop = c .before .before .before .before in
+    let right = in-loop .before .loop .inv .right in (
+      record { inside = turn in-loop .node-in; n-high = right .n-high; places = omega (arith, right .words) },
+      omega arith,
+      unchanged _ (right .right),
     )
 
 loop-less : tie.Need-loop-less Inv-loop μ-loop
 loop-less c =
-    let in-loop = c .before .before .before .before .before .before .before in
+    let in-loop = c .before .before .before .before .before .before .before .before .before in
     omega (arith, turn in-loop .count-in)
 
 loop-again : tie.Need-loop-again Inv-loop μ-loop
 loop-again c =
-    let after-put = c .before .before .before .before in
+    let after-is-goal = c .before in
+    let after-put = after-is-goal .before .before .before in
     let in-loop = in-loop after-put in
-    running-goal (in-loop .before .loop .inv) (turn in-loop) (settled after-put) (sym (c .before .is-goal .ensures) ∙ c .if1 .taken)
+    let time-is = after-word after-put .word .ensures ∙ after-time-of after-put .time-of .ensures in
+    running-goal (in-loop .before .loop .inv) (turn in-loop) time-is (after-put .put .kept .0) (after-put .put .ensures)
+    (sym (after-is-goal .is-goal .ensures) ∙ c .if1 .taken)
 
 cast-a : tie.Need-cast-a Inv-loop μ-loop
 cast-a c = omega (arith, node-small (turn-of c))
@@ -241,19 +204,29 @@ mul-a : tie.Need-mul-a Inv-loop μ-loop
 mul-a c = omega (arith, node-small (turn-of c))
 
 shared-slice-read-a : tie.Need-shared-slice-read-a Inv-loop μ-loop
-shared-slice-read-a c = omega (arith, groups-inside (turn-of (c .before)))
+shared-slice-read-a c =
+    let else1 = c .before in
+    omega (arith, groups-inside (turn-of else1))
 
 cast-b : tie.Need-cast-b Inv-loop μ-loop
-cast-b c = omega (arith, node-small (turn-of (c .before)))
+cast-b c =
+    let else1 = c .before in
+    omega (arith, node-small (turn-of else1))
 
 add-b : tie.Need-add-b Inv-loop μ-loop
-add-b c = omega (arith, node-small (turn-of (c .before)))
+add-b c =
+    let else1 = c .before in
+    omega (arith, node-small (turn-of else1))
 
 mul-b : tie.Need-mul-b Inv-loop μ-loop
-mul-b c = omega (arith, node-small (turn-of (c .before)))
+mul-b c =
+    let else1 = c .before in
+    omega (arith, node-small (turn-of else1))
 
 shared-slice-read-b : tie.Need-shared-slice-read-b Inv-loop μ-loop
-shared-slice-read-b c = omega (arith, groups-inside (turn-of (c .before .before)))
+shared-slice-read-b c =
+    let else1 = c .before .before in
+    omega (arith, groups-inside (turn-of else1))
 
 ask-requires : tie.Need-ask-requires Inv-loop μ-loop
 ask-requires c κs =
@@ -261,71 +234,49 @@ ask-requires c κs =
     let at-loop = turn-of else1 .before in
     asking (start at-loop .pre .within .sized) (estimates-long at-loop)
 
-slice-aggregate-relax : tie.Need-slice-aggregate-relax Inv-loop μ-loop
-slice-aggregate-relax c =
-    let after-ask = c .before .before .before .before in
-    locals-settled (after-put after-ask) .times-are
-
-slice-aggregate-relax-2 : tie.Need-slice-aggregate-relax-2 Inv-loop μ-loop
-slice-aggregate-relax-2 c =
-    let after-ask = c .before .before .before .before .before in
-    locals-settled (after-put after-ask) .keys-are
-
-slice-aggregate-relax-3 : tie.Need-slice-aggregate-relax-3 Inv-loop μ-loop
-slice-aggregate-relax-3 c =
-    let after-ask = c .before .before .before .before .before .before .before in
-    locals-settled (after-put after-ask) .tree-are
-
 relax-requires : tie.Need-relax-requires Inv-loop μ-loop
 relax-requires c κs =
-    let after-ask = c .before .before .before .before .before .before .before in
+    let after-ask = c .before .before .before .before in
     let after-put = after-put after-ask in
-    let in-loop = in-loop after-put in
-    let at-loop = in-loop .before in
+    let at-loop = in-loop after-put .before in
     let (_, (_, (_, (_, (_, (_, (_, (estimates-kept, _)))))))) = after-ask .ask .kept in (
-      turn in-loop .node-in,
       reading (start at-loop .pre .within .sized) (estimates-kept ∙ estimates-long at-loop),
-      room-settled (settled after-put) (at-loop .loop .inv .room),
+      room-settled (after-put .put .kept .0) (after-put .put .ensures) (at-loop .loop .inv .right),
     )
-
-slice-aggregate-choose-2 : tie.Need-slice-aggregate-choose-2 Inv-loop μ-loop
-slice-aggregate-choose-2 c =
-    let after-relax = after-relax c in
-    let (_, (_, (_, (_, (_, (_, (_, (tree-kept, _)))))))) = after-relax .relax .kept in
-    locals-settled (after-put (after-ask after-relax)) .tree-are ∙ sym tree-kept
 
 choose-requires-2 : tie.Need-choose-requires-2 Inv-loop μ-loop
 choose-requires-2 c κs =
-    let after-relax = after-relax c in
-    let (_, (_, (_, (_, (_, (_, (_, (tree-kept, _)))))))) = after-relax .relax .kept in
-    omega (arith, tree-kept, locals-settled (after-put (after-ask after-relax)) .tree-are)
+    let after-relax = c .before .before .before in
+    let in-loop = in-loop (after-put (after-ask after-relax)) in
+    omega (arith, after-relax .relax .ensures .room .words, turn in-loop .node-in)
 
 loop-less-2 : tie.Need-loop-less-2 Inv-loop μ-loop
 loop-less-2 c =
-    let after-ask = after-ask (after-relax (c .before)) in
-    omega (arith, turn (in-loop (after-put after-ask)) .count-in)
+    let after-relax = c .before .before .before .before in
+    omega (arith, turn (in-loop (after-put (after-ask after-relax))) .count-in)
 
 loop-again-2 : tie.Need-loop-again-2 Inv-loop μ-loop
 loop-again-2 c =
-    let after-relax = after-relax (c .before) in
+    let after-relax = c .before .before .before .before in
     let after-ask = after-ask after-relax in
     let else1 = else1 after-ask in
     let after-is-goal = else1 .before in
     let after-put = after-put after-ask in
     let in-loop = in-loop after-put in
+    let from-is = after-time-of after-put .time-of .ensures in
     let (_, (_, (_, (_, (_, (_, (_, (estimates-kept, _)))))))) = after-ask .ask .kept in
-    let (_, (_, (_, (_, (times-kept, (keys-kept, (vias-kept, (tree-kept, _)))))))) = after-relax .relax .kept in
-    running-on (in-loop .before .loop .inv) (turn in-loop) (settled after-put) (sym (after-is-goal .is-goal .ensures) ∙ else1 .if1 .left)
-    (after-group-at after-ask .group-at .ensures) estimates-kept
-    (record { times-long = times-kept; keys-long = keys-kept; vias-long = vias-kept; tree-long = tree-kept })
-    (after-ask .ask .ensures) (after-relax .relax .ensures) (c .choose2 .ensures)
+    let (_, (_, (_, (_, (room-kept, _))))) = after-relax .relax .kept in
+    running-on (in-loop .before .loop .inv) (turn in-loop) (after-word after-put .word .ensures ∙ from-is) (after-put .put .kept .0)
+    (after-put .put .ensures) (sym (after-is-goal .is-goal .ensures) ∙ else1 .if1 .left) (after-group-at after-ask .group-at .ensures)
+    estimates-kept room-kept (after-ask .ask .ensures) from-is (after-relax .relax .ensures) (c .choose2 .ensures)
 
 returns : tie.Need-returns Inv-loop μ-loop
 returns c =
     let at-loop = c .before in
     let lends = start at-loop .pre in
-    let begins = begins-first (lends .within .start-in) (blank (lends .within .sized) (lends .ways-long))
-    (after-ask-start at-loop .ask-start .ensures) (after-begin at-loop .begin .ensures) in
+    let blank = blank-of (lends .within .sized .n-high) (lends .fresh) refl (pairs-in (lends .within .sized) refl) in
+    let begins = begins-first (lends .within .start-in) blank (after-ask-start at-loop .ask-start .ensures)
+    (after-begin at-loop .begin .ensures) in
     advances lends begins (after-fill at-loop .fill .ensures) (at-loop .before .choose .ensures) (after-smaller at-loop .smaller .ensures)
     (at-loop .loop .inv) (c .loop-test .left)
 
@@ -336,27 +287,20 @@ advance-spec =
     Inv-loop
     μ-loop
     ask-start-requires
-    (λ c. refl)
-    (λ c. refl)
-    (λ c. refl)
     begin-requires
     (λ c κs. search needs)
     (λ c κs. search needs)
-    slice-aggregate-choose
     choose-requires
     loop-holds
     (λ c. search needs)
     (λ c. search needs)
     slice-write-log
     add-c
+    time-of-requires
+    (λ c κs. search needs)
     cast-elapsed
     mul-elapsed
-    array-read-elapsed
-    cast-elapsed-2
-    mul-elapsed-2
     slice-write-elapsed
-    slice-aggregate-put
-    slice-aggregate-put-2
     put-requires
     (λ c κs. search needs)
     loop-less
@@ -370,16 +314,12 @@ advance-spec =
     shared-slice-read-b
     (λ c κs. search needs)
     ask-requires
-    slice-aggregate-relax
-    slice-aggregate-relax-2
-    slice-aggregate-relax-3
     relax-requires
-    slice-aggregate-choose-2
     choose-requires-2
     loop-less-2
     loop-again-2
     (λ c. estimates-long (c .before))
     (λ c. elapsed-long (c .before))
-    (λ c. vias-long (c .before))
     (λ c. c .before .loop .inv .log-long)
+    (λ c. room-long (c .before))
     returns)

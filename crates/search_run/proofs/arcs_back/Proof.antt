@@ -4,16 +4,16 @@ use borrow.Author.Needs.{needs}
 use Prim.Native.Nat.{_-_}
 use borrow.Author.Tests.{eq-eqb, ne-eqb}
 use lib.Dec.{eqb}
-use Rattle.search_junctions.specs.Ways.{stepBack}
+use Rattle.search_run.specs.Runs.{backIn}
 use Rattle.search_run.proofs.Backs.{Counting, count-end, count-start, count-there, count-turn}
 use Rattle.search_run.proofs.arcs_back.Statement.{statement}
 use Rattle.search_run.proofs.arcs_back.Tie as tie
 
 abbrev Inv-loop : tie.InvT-loop
-Inv-loop roads vias n m start v k₀ u₀ k u = Counting (λ u. eqb u start) (stepBack roads vias n m) n v k u
+Inv-loop roads room n m start v k₀ u₀ k u = Counting (λ u. eqb u start) (backIn roads room n m) n v k u
 
 abbrev μ-loop : tie.MeasureT-loop
-μ-loop roads vias n m start v k₀ u₀ k u = n - k
+μ-loop roads room n m start v k₀ u₀ k u = n - k
 
 loop-holds : tie.Need-loop-holds Inv-loop μ-loop
 loop-holds c = count-start (search needs)

@@ -4,52 +4,41 @@ use borrow.Author.Needs.{needs}
 use native.Mathlib.Omega.{arith}
 use Prim.Native.Nat.{_-_}
 use lib.ListN.{length}
-use Rattle.search_labels.specs.Labelling.{labellingOf}
 use Rattle.search_junctions.specs.Views.{seen}
 use Rattle.search_junctions.proofs.Roads.{Relaxing, relaxing-end, relaxing-pass, relaxing-start, relaxing-turn}
 use Rattle.search_junctions.proofs.Trip.relax.Statement.{statement}
 use Rattle.search_junctions.proofs.Trip.relax.Tie as tie
 
 abbrev Inv-loop : tie.InvT-loop
-Inv-loop trip roads live estimates times₀ keys₀ vias₀ tree₀ group u m from j₀ times keys vias tree j =
-    Relaxing (record { sizes = trip .sizes; roads = roads; live = seen (trip .view) live; estimates = estimates }) group u (from .0) j
-    (labellingOf times₀ keys₀ vias₀ tree₀) (labellingOf times keys vias tree)
+Inv-loop trip roads live estimates room₀ group from m j₀ room j =
+    Relaxing (record { sizes = trip .sizes; roads = roads; live = seen (trip .view) live; estimates = estimates }) group (from .0) j
+    room₀ room
 
 abbrev μ-loop : tie.MeasureT-loop
-μ-loop trip roads live estimates times₀ keys₀ vias₀ tree₀ group u m from j₀ times keys vias tree j = length group - j
+μ-loop trip roads live estimates room₀ group from m j₀ room j = length group - j
 
--- ---- from where the time of u is read
-
-abbrev start : tie.After-slice-known5 Inv-loop μ-loop → tie.Start Inv-loop μ-loop
-start c = c .before .before .before .before .before .before .before .before .before
-
--- ---- the answers
-
-slice-read-of-word : tie.Need-slice-read-of-word Inv-loop μ-loop
-slice-read-of-word c =
-    let (here, _, room) = start c .pre in
-    omega (arith, here, room .times-room)
+abbrev start : tie.At-loop Inv-loop μ-loop → tie.Start Inv-loop μ-loop
+start c = c .before .before .before .before .before .before
 
 loop-holds : tie.Need-loop-holds Inv-loop μ-loop
 loop-holds c =
-    let (_, _, room) = start (c .before) .pre in
+    let start = c .before .before .before .before .before in
+    let (_, room) = start .pre in
     relaxing-start room
 
 relax-road-requires : tie.Need-relax-road-requires Inv-loop μ-loop
 relax-road-requires c κs =
-    let then1 = c .before .before .before .before in
+    let then1 = c .before in
     let at-loop = then1 .before .before .before in
-    let (_, read, _) = start (at-loop .before .before) .pre in
+    let (read, _) = start at-loop .pre in
     (then1 .if1 .taken, read, at-loop .loop .inv .room)
 
 loop-again : tie.Need-loop-again Inv-loop μ-loop
 loop-again c =
-    let after-relax-road = c .before .before .before .before .before .before .before .before in
-    let in-loop = after-relax-road .before .before .before .before .before .before .before in
-    let (_, (_, (_, (_, (times-kept, (keys-kept, (vias-kept, (tree-kept, _)))))))) = after-relax-road .relax-road .kept in
-    relaxing-turn (in-loop .loop-test .taken) (in-loop .before .loop .inv)
-    (record { times-long = times-kept; keys-long = keys-kept; vias-long = vias-kept; tree-long = tree-kept })
-    (after-relax-road .relax-road .ensures)
+    let after-relax-road = c .before .before in
+    let in-loop = after-relax-road .before .before .before .before in
+    let (_, (_, (_, (_, (room-kept, _))))) = after-relax-road .relax-road .kept in
+    relaxing-turn (in-loop .loop-test .taken) (in-loop .before .loop .inv) room-kept (after-relax-road .relax-road .ensures)
 
 loop-again-2 : tie.Need-loop-again-2 Inv-loop μ-loop
 loop-again-2 c =
@@ -57,9 +46,7 @@ loop-again-2 c =
     relaxing-pass (in-loop .loop-test .taken) (in-loop .before .loop .inv) (c .if1 .left)
 
 returns : tie.Need-returns Inv-loop μ-loop
-returns c =
-    let at-loop = c .before in
-    relaxing-end (c .loop-test .left) (at-loop .before .of-word .ensures) (at-loop .loop .inv)
+returns c = relaxing-end (c .loop-test .left) (c .before .loop .inv)
 
 pub relax-spec : {M : Type 1} → statement M
 relax-spec =
@@ -67,9 +54,6 @@ relax-spec =
     (tie.spec
     Inv-loop
     μ-loop
-    (λ c. search needs)
-    slice-read-of-word
-    (λ c κs. search needs)
     loop-holds
     (λ c. search needs)
     (λ c. search needs)
@@ -79,8 +63,5 @@ relax-spec =
     loop-again
     (λ c. search needs)
     loop-again-2
-    (λ c. c .before .loop .inv .long .times-long)
-    (λ c. c .before .loop .inv .long .keys-long)
-    (λ c. c .before .loop .inv .long .vias-long)
-    (λ c. c .before .loop .inv .long .tree-long)
+    (λ c. c .before .loop .inv .long)
     returns)
