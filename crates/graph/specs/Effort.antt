@@ -1,0 +1,89 @@
+-- The search effort of a go as an exact figure (document 02, A5). Defines its rule of ties (`byTime`) and what the request says of a go
+-- (`Effort`). Proves it for every valid map whose roads take time, all live costs that are not below the base costs, every start and every
+-- target (`go-effort`). Assumes nothing.
+use mathlib.Core.Path.{_∙_, _≡_, ap, refl, sym}
+use mathlib.Core.Option.{none, some}
+use mathlib.Core.List.{List}
+use Prim.Native.Nat.{_<_, ℕ}
+use borrow.Author.Tests.{eq-eqb, eqb-true}
+use lib.ListN.{length}
+use native.Mathlib.Omega.{arith}
+use Rattle.graph.specs.Total.{Total, isNumber, noMore}
+use Rattle.graph.specs.Lists.{countBelow}
+use Rattle.graph.specs.Path.{Arcs, Path, empty, link}
+use Rattle.graph.specs.Network.{Arc, Network, atCosts}
+use Rattle.graph.specs.Potential.{Slower, base-arc}
+use Rattle.graph.specs.Search.{Problem, countOf, logOf, totalOf, vertices}
+use Rattle.graph.specs.Complete.{length-vertices}
+use Rattle.graph.specs.LogOrder.{in-order-length, inOrder, keyOf}
+use Rattle.graph.specs.Exact.{Positive, log-found, log-lost}
+use Rattle.graph.specs.Map.{Map, Valid, estimateOf, estimateOf-least, timeOf}
+use Rattle.graph.specs.Go.{go-time-least, go-well-formed, goOf}
+
+-- "Among equal keys the smaller time is now logged first, then the smaller junction number."
+abbrev pub byTime : ℕ → ℕ
+byTime t = t
+
+-- a junction's key in a go from s to z: its least time plus its estimate
+abbrev pub goKey : Map → (live : ℕ → Total) → (s z : ℕ) → ℕ → Total
+goKey M live s z = keyOf (timeOf M live s) (estimateOf M z)
+
+-- What the request says of the search G of a go.
+pub record Effort (M : Map) (live : ℕ → Total) (s z : ℕ) (G : Problem) : Type 0 where
+  -- "The count of a found route is then exactly the number of junctions whose least time from the start plus estimate is no more than the
+  -- total."
+  pub count : (T : ℕ) → totalOf G ≡ some T → countOf G ≡ countBelow (λ v. noMore (goKey M live s z v) (some T)) (M .vertices)
+  -- "The log is those junctions sorted by key, time, number."
+  pub log : (T : ℕ) → totalOf G ≡ some T
+      → vertices (logOf G) ≡ inOrder (timeOf M live s) (estimateOf M z) (λ v. noMore (goKey M live s z v) (some T)) (M .vertices)
+  -- "Where no chain exists, it is exactly the junctions reached by open roads that have an estimate."
+  pub lost-count : totalOf G ≡ none → countOf G ≡ countBelow (λ v. isNumber (goKey M live s z v)) (M .vertices)
+  pub lost-log : totalOf G ≡ none
+      → vertices (logOf G) ≡ inOrder (timeOf M live s) (estimateOf M z) (λ v. isNumber (goKey M live s z v)) (M .vertices)
+
+-- ---- roads take time
+
+-- a path that takes no time is empty
+path-zero : {E : Arcs} {a b t : ℕ} → Positive E → Path E a b t → t ≡ 0 → a ≡ b
+path-zero positive empty e = refl
+path-zero positive (link {a} {v} {c = c} x p) e = absurd (omega (arith, positive a v c x))
+
+-- base costs of at least 1 make live costs so
+live-positive : {N : Network} {live : ℕ → Total} → Positive (Arc N) → Slower N live → Positive (Arc (atCosts N live))
+live-positive positive slower a b c e = let r = base-arc slower e in omega (arith, r .le, positive a b (r .total) (r .holds))
+
+-- only the target has the estimate 0
+estimate-zero : {M : Map} → Valid M → Positive (Arc (M .base)) → {z v : ℕ} → z < M .vertices → v < M .vertices
+    → estimateOf M z v ≡ some 0 → v ≡ z
+estimate-zero ok positive {z} {v} lz lv e = path-zero positive (estimateOf-least ok z lz v lv .attained 0 e) refl
+
+-- ---- the request
+
+-- a log in order has as many entries as pass the test
+count-of : (G : Problem) {l : List ℕ} → vertices (logOf G) ≡ l → countOf G ≡ length l
+unfolding countOf
+count-of G e = sym (length-vertices (logOf G)) ∙ ap length e
+
+module _ {M : Map} (ok : Valid M) (positive : Positive (Arc (M .base))) {live : ℕ → Total} (slower : Slower (M .base) live) {s z : ℕ}
+    (ls : s < M .vertices) (lz : z < M .vertices) where
+  go-found : (T : ℕ) → totalOf (goOf M live byTime s z) ≡ some T
+      → vertices (logOf (goOf M live byTime s z))
+      ≡ inOrder (timeOf M live s) (estimateOf M z) (λ v. noMore (goKey M live s z v) (some T)) (M .vertices)
+  unfolding goOf
+  go-found =
+      log-found (go-well-formed ok slower byTime ls lz) (go-time-least ok slower byTime ls lz) (live-positive positive slower) (λ t. refl)
+      (λ v lv e. eq-eqb v z (estimate-zero ok positive lz lv e)) (λ u v p q. eqb-true u z p ∙ sym (eqb-true v z q))
+
+  go-lost : totalOf (goOf M live byTime s z) ≡ none
+      → vertices (logOf (goOf M live byTime s z))
+      ≡ inOrder (timeOf M live s) (estimateOf M z) (λ v. isNumber (goKey M live s z v)) (M .vertices)
+  unfolding goOf
+  go-lost = log-lost (go-well-formed ok slower byTime ls lz) (go-time-least ok slower byTime ls lz) (live-positive positive slower) (λ t. refl)
+
+  pub go-effort : Effort M live s z (goOf M live byTime s z)
+  go-effort = record {
+    count = λ T q. count-of (goOf M live byTime s z) (go-found T q) ∙ in-order-length (timeOf M live s) (estimateOf M z) _ (M .vertices);
+    log = go-found;
+    lost-count = λ q. count-of (goOf M live byTime s z) (go-lost q) ∙ in-order-length (timeOf M live s) (estimateOf M z) _ (M .vertices);
+    lost-log = go-lost;
+  }
