@@ -1,6 +1,6 @@
--- The search effort of a go as an exact figure (document 02, A5). Defines its rule of ties (`byTime`) and what the request says of a go
--- (`Effort`). Proves it for every valid map whose roads take time, all live costs that are not below the base costs, every start and every
--- target (`go-effort`). Assumes nothing.
+-- The search effort of a go as an exact figure (document 02, A5). Defines what the request says of a go (`Effort`). Proves it for every
+-- valid map whose arcs cost something, all live costs that are not below the base costs, every start and every target, where equal keys go
+-- by time (`go-effort`). Assumes nothing.
 use mathlib.Core.Path.{_∙_, _≡_, ap, refl, sym}
 use mathlib.Core.Option.{none, some}
 use mathlib.Core.List.{List}
@@ -19,10 +19,6 @@ use Rattle.graph.specs.LogOrder.{in-order-length, inOrder, keyOf}
 use Rattle.graph.specs.Exact.{Positive, log-found, log-lost}
 use Rattle.graph.specs.Map.{Map, Valid, estimateOf, estimateOf-least, timeOf}
 use Rattle.graph.specs.Go.{go-time-least, go-well-formed, goOf}
-
--- "Among equal keys the smaller time is now logged first, then the smaller junction number."
-abbrev pub byTime : ℕ → ℕ
-byTime t = t
 
 -- a junction's key in a go from s to z: its least time plus its estimate
 abbrev pub goKey : Map → (live : ℕ → Total) → (s z : ℕ) → ℕ → Total
@@ -65,25 +61,26 @@ unfolding countOf
 count-of G e = sym (length-vertices (logOf G)) ∙ ap length e
 
 module _ {M : Map} (ok : Valid M) (positive : Positive (Arc (M .base))) {live : ℕ → Total} (slower : Slower (M .base) live) {s z : ℕ}
-    (ls : s < M .vertices) (lz : z < M .vertices) where
-  go-found : (T : ℕ) → totalOf (goOf M live byTime s z) ≡ some T
-      → vertices (logOf (goOf M live byTime s z))
+    (ls : s < M .vertices) (lz : z < M .vertices) (tie : ℕ → ℕ) (by-time : (t : ℕ) → tie t ≡ t) where
+  go-found : (T : ℕ) → totalOf (goOf M live tie s z) ≡ some T
+      → vertices (logOf (goOf M live tie s z))
       ≡ inOrder (timeOf M live s) (estimateOf M z) (λ v. noMore (goKey M live s z v) (some T)) (M .vertices)
   unfolding goOf
   go-found =
-      log-found (go-well-formed ok slower byTime ls lz) (go-time-least ok slower byTime ls lz) (live-positive positive slower) (λ t. refl)
+      log-found (go-well-formed ok slower tie ls lz) (go-time-least ok slower tie ls lz) (live-positive positive slower) by-time
       (λ v lv e. eq-eqb v z (estimate-zero ok positive lz lv e)) (λ u v p q. eqb-true u z p ∙ sym (eqb-true v z q))
 
-  go-lost : totalOf (goOf M live byTime s z) ≡ none
-      → vertices (logOf (goOf M live byTime s z))
+  go-lost : totalOf (goOf M live tie s z) ≡ none
+      → vertices (logOf (goOf M live tie s z))
       ≡ inOrder (timeOf M live s) (estimateOf M z) (λ v. isNumber (goKey M live s z v)) (M .vertices)
   unfolding goOf
-  go-lost = log-lost (go-well-formed ok slower byTime ls lz) (go-time-least ok slower byTime ls lz) (live-positive positive slower) (λ t. refl)
+  go-lost =
+      log-lost (go-well-formed ok slower tie ls lz) (go-time-least ok slower tie ls lz) (live-positive positive slower) by-time
 
-  pub go-effort : Effort M live s z (goOf M live byTime s z)
+  pub go-effort : Effort M live s z (goOf M live tie s z)
   go-effort = record {
-    count = λ T q. count-of (goOf M live byTime s z) (go-found T q) ∙ in-order-length (timeOf M live s) (estimateOf M z) _ (M .vertices);
+    count = λ T q. count-of (goOf M live tie s z) (go-found T q) ∙ in-order-length (timeOf M live s) (estimateOf M z) _ (M .vertices);
     log = go-found;
-    lost-count = λ q. count-of (goOf M live byTime s z) (go-lost q) ∙ in-order-length (timeOf M live s) (estimateOf M z) _ (M .vertices);
+    lost-count = λ q. count-of (goOf M live tie s z) (go-lost q) ∙ in-order-length (timeOf M live s) (estimateOf M z) _ (M .vertices);
     lost-log = go-lost;
   }

@@ -1,6 +1,6 @@
--- The log as an exact figure (document 02, A5), over an abstract problem whose arcs cost something and whose equal keys go by time. Proves
--- that the log is in the order of key, time and number; that of a search which finds its one goal it is all vertices whose key is within the
--- total (`log-found`), if only the goal has the potential 0; and that of one which finds none it is all vertices that a walk reaches and
+-- The log as an exact list (document 02, A5), over an abstract problem whose arcs cost something and whose equal keys go by time. Proves
+-- that it is in the order of key, time and number; that of a search which finds its one goal it is all vertices whose key is within the
+-- total, if only the goal has the potential 0 (`log-found`); and that of one which finds none it is all vertices that a walk reaches and
 -- that have a potential (`log-lost`). Assumes nothing.
 use mathlib.Core.Path.{_∙_, _≡_, ap, ap₂, refl, sym}
 use mathlib.Core.Logic.{_⊎_, inl, inr}
@@ -23,7 +23,7 @@ use Rattle.graph.specs.Choice.{Prior, chosen, prior-trans}
 use Rattle.graph.specs.History.{Ahead, LastArc, Logged, Reached, candidate-of, frontier, grow, keyed, logged-least, offer-of}
 use Rattle.graph.specs.History.{walk-no-sooner}
 use Rattle.graph.specs.Complete.{distinct-vertices, vertices-mem}
-use Rattle.graph.specs.Count.{goal-key, keys-within, logged-key, logged-vertex, reached-logged}
+use Rattle.graph.specs.Within.{goal-key, keys-within, logged-key, logged-vertex, reached-logged}
 use Rattle.graph.specs.Answer.{Ended, end, found, lost}
 use Rattle.graph.specs.Sorted.{SortedOf, sorted-reverse}
 use Rattle.graph.specs.LogOrder.{Passing, inOrder, in-order-one, keyOf, sooner, true-sooner}

@@ -1,10 +1,10 @@
--- Defines the order of the log (document 02, A5: key, time, number), and the list of all vertices that pass a test in this order. Proves that
--- it is an order of all vertices, that a list of those vertices in this order is that list (`in-order-one`), and how long it is
+-- Defines the order of the log (document 02, A5: key, time, number), and the list of all vertices that pass a test in this order. Proves
+-- that no other list has just these vertices, each once, in this order (`in-order-all`, `in-order-one`), and how long it is
 -- (`in-order-length`). Assumes nothing.
 use mathlib.Core.Path.{_∙_, _≡_, ap, refl, sym}
 use mathlib.Core.Logic.{inl, inr}
 use mathlib.Core.Bool.{Bool, cond, false, true}
-use mathlib.Core.List.{List, List·Memᴰ}
+use mathlib.Core.List.{List, List·Memᴰ, List·Memᴰ·head, List·Memᴰ·tail}
 use Prim.Native.Nat.{_<_, _≤_, ℕ}
 use borrow.Author.Tests.{le-leb, leb-false, leb-true}
 use lib.Dec.{leb}
@@ -12,8 +12,8 @@ use lib.ListN.{length}
 use native.Mathlib.Omega.{arith}
 use Rattle.graph.specs.Total.{Tested, Total, _≼_, _⊕_, decide, noMore, noMore-false, noMore-true, true-false, true-noMore}
 use Rattle.graph.specs.Total.{≼-antisym, ≼-refl, ≼-trans}
-use Rattle.graph.specs.Lists.{countBelow, counted, distinct-filter, distinct-range, filter, filter-mem, mem-filter, range}
-use Rattle.graph.specs.Lists.{range-lt, range-mem}
+use Rattle.graph.specs.Lists.{Ordered, countBelow, counted, distinct-filter, distinct-range, filter, filter-mem, mem-filter}
+use Rattle.graph.specs.Lists.{ordered-cons, ordered-nil, range, range-lt, range-mem}
 use Rattle.graph.specs.Sorted.{SortedOf, sorted, sorted-all, sorted-one}
 
 -- x is smaller than y, or is equal to it and b decides
@@ -146,4 +146,29 @@ module _ (time est : ℕ → Total) where
     pub in-order-length : length (inOrder time est p n) ≡ countBelow p n
     in-order-length =
         let s = in-order-all in
-        counted p n (s .once) (λ v m. (let k = s .only v m in (k .below, k .passes))) (λ v lv t. s .all v (record { below = lv; passes = t }))
+        counted p n (s .once) (λ v m. (let k = s .only v m in (k .below, k .passes)))
+        (λ v lv t. s .all v (record { below = lv; passes = t }))
+
+-- Vertices below n have the same places under an estimate and a test that are the same for them.
+module _ (time : ℕ → Total) {est est′ : ℕ → Total} {p p′ : ℕ → Bool} (n : ℕ) (ests : (v : ℕ) → v < n → est v ≡ est′ v)
+    (tests : (v : ℕ) → v < n → p v ≡ p′ v) where
+  sooner-same : (u v : ℕ) → u < n → v < n → sooner time est u v ≡ true → sooner time est′ u v ≡ true
+  unfolding sooner
+  sooner-same u v lu lv h = rw (← (ests u lu), ← (ests v lv)) h
+
+  ordered-same : {l : List ℕ} → ((v : ℕ) → List·Memᴰ v l → v < n) → Ordered (λ u v. sooner time est u v ≡ true) l
+      → Ordered (λ u v. sooner time est′ u v ≡ true) l
+  ordered-same below ordered-nil = ordered-nil
+  ordered-same below (ordered-cons {a} {l} h o) =
+      ordered-cons (λ v m. sooner-same a v (below a (List·Memᴰ·head refl)) (below v (List·Memᴰ·tail m)) (h v m))
+      (ordered-same (λ v m. below v (List·Memᴰ·tail m)) o)
+
+  pub in-order-same : inOrder time est p n ≡ inOrder time est′ p′ n
+  in-order-same =
+      let s = in-order-all time est p n in
+      in-order-one time est′ p′ n (record {
+        in-order = ordered-same (λ v m. s .only v m .below) (s .in-order);
+        once = s .once;
+        only = λ v m. (let k = s .only v m in record { below = k .below; passes = sym (tests v (k .below)) ∙ k .passes });
+        all = λ v k. s .all v (record { below = k .below; passes = tests v (k .below) ∙ k .passes });
+      })
