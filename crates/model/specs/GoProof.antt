@@ -131,7 +131,7 @@ not-15 {p} {c} h e = let z : p .question ≡ 15 = ap (λ (r : Refusal). r .quest
 -- ---- one go, of any step that answers by the search and writes its route and its log first
 
 -- the log of c entries that stands first in an area
-logged-first : (G : Problem) {c : ℕ} (area : List ℕ) → countOf G ≡ c → take c (first (vertices (logOf G)) area) ≡ vertices (logOf G)
+pub logged-first : (G : Problem) {c : ℕ} (area : List ℕ) → countOf G ≡ c → take c (first (vertices (logOf G)) area) ≡ vertices (logOf G)
 unfolding countOf
 logged-first G area e = rw (← e, ← length-vertices (logOf G)) (first-take (vertices (logOf G)) area)
 
