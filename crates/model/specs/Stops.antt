@@ -134,11 +134,11 @@ LegsRight M live a (b ∷ stops) [] area = ⊥
 LegsRight M live a (b ∷ stops) (x ∷ legs) area =
     LegRight M live a b x area × LegsRight M live b stops legs (drop (x .roads) area)
 
--- document 02, A5: a leg's log, of the junctions that pass the test, stands first in the log area
+-- document 02, A5, of a leg from a to b: its log, of the junctions that pass the test, stands first in the log area
 abbrev pub LegLogged : Map → (ℕ → Total) → (a b : ℕ) → (ℕ → Bool) → (area : List ℕ) → Type 0
 LegLogged M live a b p area = take (effort M p) area ≡ effortLog M live a b p
 
--- leg k, from 0, of total T, or one without a chain
+-- leg k, from 0, of total T; and one without a chain
 abbrev pub FoundLogged : Map → (ℕ → Total) → (stops : List ℕ) → (k T : ℕ) → (area : List ℕ) → Type 0
 FoundLogged M live stops k T =
     let a = getD stops k 0 in
@@ -161,6 +161,7 @@ pub record JourneyRight (M : Map) (live : ℕ → Total) (stops : List ℕ) (leg
   pub whole-is : whole ≡ wholeOf legs
   -- "The whole is at most that of every other chain of open roads that meets the stops in that order, at the live times in force."
   pub at-most : (t : ℕ) → Meeting (liveNet M live) stops t → whole ≤ t
+  -- the log area holds the last leg's log
   pub log : (k : ℕ) → suc k ≡ length legs → FoundLogged M live stops k (legAt legs k .total) (areas .log)
 
 -- leg k, from 0, has no chain of open roads

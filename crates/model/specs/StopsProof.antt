@@ -27,8 +27,8 @@ use Rattle.model.specs.State.{Lent, State, Step, first, unless}
 use Rattle.model.specs.Machine.{Known, LivePath, Machine, knownTo, leastBase}
 use Rattle.model.specs.Go.{foundTold, goRoute, liveOf, plainSearch, searchOf}
 use Rattle.model.specs.Stops.{FirstLost, FoundLogged, Journey, JourneyRight, LegRight, LegsRight, LostLogged, NoChain, PlainJourney}
-use Rattle.model.specs.Stops.{StopsRight, StrandedRight, allBelow, journey, legAt, legMade, past, plainJourney, plainLeg, stopsAnswer, stopsMade, stopsRefusal}
-use Rattle.model.specs.Stops.{stopsTold, wholeOf, withLeg}
+use Rattle.model.specs.Stops.{StopsRight, StrandedRight, allBelow, journey, legAt, legMade, past, plainJourney, plainLeg}
+use Rattle.model.specs.Stops.{stopsAnswer, stopsMade, stopsRefusal, stopsTold, wholeOf, withLeg}
 use Rattle.model.specs.Calls.{askedOf, step, stopsCall}
 use Rattle.model.specs.Demand3.{Same}
 use Rattle.model.specs.Laws.{first-take}
@@ -297,7 +297,8 @@ module _ {M : Map} {live : ℕ → Total} (least : (a b : ℕ) → IsLeast (Live
       let i-is = no-leg-is (answer-left-off (j .complete) (j .legs) c) e in
       subst (λ (i : ℕ). StrandedRight M live (a ∷ stops) i (j .lent)) i-is (record { first-lost = f; log = logged })
 
-  first-told : Ended M live a stops log j → (k : ℕ) → FirstLost M live (a ∷ stops) k → stopsAnswer (j .complete) (j .legs) ≡ Refused (NoLeg k)
+  first-told : Ended M live a stops log j → (k : ℕ) → FirstLost M live (a ∷ stops) k
+      → stopsAnswer (j .complete) (j .legs) ≡ Refused (NoLeg k)
   first-told (left-off c f logged) k h = answer-left-off (j .complete) (j .legs) c ∙ ap (λ (i : ℕ). Refused (NoLeg i)) (first-one f h)
   first-told (arrived c r w logged stays) k h =
       let (x, e) = each-leg (timeOf M live) a stops (wholeOf (j .legs)) w k (h .inside) in
