@@ -171,11 +171,11 @@ def effort(chart, live, start, target):
     return [junction for key, _, junction in keys if key < math.inf and key <= times.get(target, math.inf)]
 
 
-def searched(chart, live, start, target):
+def searched(chart, live, start, target, order=None):
     """The open roads, the logged junctions' times, and the junctions that the search asks for an estimate: the start, and the heads
     of open roads from logged ones other than the target."""
     arcs = chart.open_roads(live)
-    times = search(arcs, least_totals(chart.roads, target), start, target)[0]
+    times = search(arcs, least_totals(chart.roads, target), start, target, order)[0]
     return arcs, times, [start, *[head for tail, head, *_ in arcs if tail in times and tail != target]]
 
 

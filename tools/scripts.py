@@ -346,12 +346,17 @@ def log_kinds(script, turn, arcs, times, choices, found):
     }
 
 
+def by_number(candidate):
+    """Document 01's order of candidates, before A5."""
+    return candidate[0], candidate[2]
+
+
 def tie_kinds(script, turn, arcs, times, choices, found):
     """Where A5's order of equal keys shows, and where document 01's, by number, would have given something else."""
     start, target, log = turn.call[1], script.header.target, list(times)
     ties = [[candidate for candidate in choice if candidate[0] == choice[0][0]] for choice in choices]
-    by_number = model.search(arcs, model.least_totals(script.chart.roads, target), start, target, lambda c: (c[0], c[2]))[0]
-    another = found and model.route_back(arcs, by_number, target) != model.route_back(arcs, times, target)
+    old = model.search(arcs, model.least_totals(script.chart.roads, target), start, target, by_number)[0]
+    another = found and model.route_back(arcs, old, target) != model.route_back(arcs, times, target)
     reached = {end for end, _ in model.chains(arcs, start)}
     return {
         "go with a tie of keys": any(len(tie) > 1 for tie in ties),
@@ -359,10 +364,10 @@ def tie_kinds(script, turn, arcs, times, choices, found):
         "go with a tie of keys and times": any(len(tie) > 1 and tie[0][1] == tie[1][1] for tie in ties),
         "go with a tie of three keys": any(len(tie) > 2 for tie in ties),
         "go where the target ties and goes last": any(target in [junction for _, _, junction in tie[1:]] for tie in ties),
-        "go that by number would log fewer": len(by_number) < len(log),
-        "go that by number would log the same in another order": found and log != list(by_number) and len(by_number) == len(log),
+        "go that by number would log fewer": len(old) < len(log),
+        "go that by number would log the same in another order": found and log != list(old) and len(old) == len(log),
         "go that by number would go another way": another,
-        "go: 15 that by number would log in another order": not found and log != list(by_number),
+        "go: 15 that by number would log in another order": not found and log != list(old),
         "go: 15 where a junction that is reached has no estimate": not found and log and reached - times.keys(),
     }
 
@@ -408,11 +413,14 @@ def preview_kinds(script, turn, no):
 def outlook_kinds(script, turn, base, live):
     (road, time, start, _), (_, present, new, change) = turn.call[1:], turn.answer
     before, after, target = script.areas, turn.areas.estimates, script.header.target
-    fills = []
-    for times in (before.live, model.replaced(before.live, road, time)):
-        asked = model.searched(script.chart, times, start, target)[2]
+
+    def filled(times, order=None):
+        asked = model.searched(script.chart, times, start, target, order)[2]
         estimates = model.filled(script.chart, script.header, before, asked)
-        fills.append({junction for junction, old in enumerate(before.estimates) if estimates[junction] != old})
+        return {junction for junction, old in enumerate(before.estimates) if estimates[junction] != old}
+
+    both = before.live, model.replaced(before.live, road, time)
+    fills = [filled(times) for times in both]
     return {
         "preview of more": change and change > 0,
         "preview of less": change and change < 0,
@@ -430,6 +438,7 @@ def outlook_kinds(script, turn, base, live):
         "preview whose second search alone fills some": fills[1] - fills[0],
         "preview whose second search fills some, the first without a chain": present is None and fills[1] - fills[0],
         "preview whose searches both fill some": fills[0] & fills[1],
+        "preview that by number would fill fewer": set().union(*fills) != set().union(*[filled(times, by_number) for times in both]),
         "preview that meets estimates filled": any(word != UNASKED for word in before.estimates),
         "preview that leaves estimates unasked": UNASKED in after,
         "preview where elapsed has times": set(before.elapsed) - {NONE},
@@ -456,6 +465,8 @@ def journey_kinds(script, turn, stops, target, lengths, no):
     arcs, logs = script.chart.open_roads(before.live), []
     for start, end in list(zip(stops, stops[1:]))[:legs + bool(no)]:
         logs.append(list(model.search(arcs, model.least_totals(script.chart.roads, end), start, end)[0]))
+        assert logs[-1] == model.effort(script.chart, before.live, start, end)
+    old = list(model.search(arcs, model.least_totals(script.chart.roads, end), start, end, by_number)[0])
     roads = sum(word < 60 for word in turn.lent[0])
     return {
         "stops: 17 with the first leg": no and legs == 0,
@@ -474,6 +485,7 @@ def journey_kinds(script, turn, stops, target, lengths, no):
         "stops whose first leg leads to the target": target == stops[1] and set(before.estimates) - {UNASKED},
         "stops whose last target is the one before": target == turn.header.target and len(stops) > 2,
         "stops whose log has more of an earlier leg behind it": any(len(log) > len(logs[-1]) for log in logs),
+        "stops whose last log by number would be another": logs[-1] != old,
         "stops over a delayed road": any(turn.lent[0][i] < 60 and before.live[turn.lent[0][i]] > script.chart.base[turn.lent[0][i]]
                                          for i in range(roads)),
         "stops that leave estimates unasked": UNASKED in turn.areas.estimates,
