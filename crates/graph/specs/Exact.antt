@@ -6,11 +6,11 @@ use mathlib.Core.Path.{_∙_, _≡_, ap, ap₂, refl, sym}
 use mathlib.Core.Logic.{_⊎_, inl, inr}
 use mathlib.Core.Bool.{Bool, true, false}
 use mathlib.Core.Option.{none, some}
-use mathlib.Core.List.{List, List·Memᴰ, List·Memᴰ·cases-cons, List·Memᴰ·head, List·Memᴰ·not-nil, List·Memᴰ·tail, [], _∷_, map, reverse}
+use mathlib.Core.List.{List, List·Memᴰ, List·Memᴰ·cases-cons, List·Memᴰ·head, List·Memᴰ·not-nil, List·Memᴰ·tail, [], _∷_, reverse}
 use mathlib.Core.List.{reverseAux}
 use Prim.Native.Nat.{_+_, _<_, _≤_, ℕ}
 use native.Mathlib.Omega.{arith}
-use Rattle.graph.specs.Total.{Tested, Total, _≼_, _⊕_, decide, isNumber, isNumber-true, noMore, noMore-true, none-some, some-some}
+use Rattle.graph.specs.Total.{Tested, Total, _⊕_, decide, isNumber, isNumber-true, noMore, noMore-true, none-some, some-some}
 use Rattle.graph.specs.Total.{true-false, true-isNumber, true-noMore, within, ⊕-some}
 use Rattle.graph.specs.Least.{IsLeast, least-unique}
 use Rattle.graph.specs.Lists.{Ordered, ordered-cons, ordered-nil}
@@ -25,7 +25,7 @@ use Rattle.graph.specs.History.{walk-no-sooner}
 use Rattle.graph.specs.Complete.{distinct-vertices, vertices-mem}
 use Rattle.graph.specs.Within.{goal-key, keys-within, logged-key, logged-vertex, reached-logged}
 use Rattle.graph.specs.Answer.{Ended, end, found, lost}
-use Rattle.graph.specs.Sorted.{SortedOf, sorted-reverse}
+use Rattle.graph.specs.Sorted.{sorted-reverse}
 use Rattle.graph.specs.LogOrder.{Passing, inOrder, in-order-one, keyOf, sooner, true-sooner}
 
 -- every arc costs something (document 01: "a base time 1 to 1,000,000")

@@ -1,7 +1,7 @@
 -- Defines the order of the log (document 02, A5: key, time, number), and the list of all vertices that pass a test in this order. Proves
 -- that no other list has just these vertices, each once, in this order (`in-order-all`, `in-order-one`), and how long it is
 -- (`in-order-length`). Assumes nothing.
-use mathlib.Core.Path.{_∙_, _≡_, ap, refl, sym}
+use mathlib.Core.Path.{_∙_, _≡_, refl, sym}
 use mathlib.Core.Logic.{inl, inr}
 use mathlib.Core.Bool.{Bool, cond, false, true}
 use mathlib.Core.List.{List, List·Memᴰ, List·Memᴰ·head, List·Memᴰ·tail}

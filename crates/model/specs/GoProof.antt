@@ -5,7 +5,7 @@ use mathlib.Core.Logic.{_⊎_, inl, inr}
 use mathlib.Core.Bool.{Bool, _&&_, false, true}
 use mathlib.Core.Option.{Option, none, some}
 use mathlib.Core.List.{List}
-use Prim.Native.Nat.{_<_, _≤_, suc, zero, ℕ}
+use Prim.Native.Nat.{_<_, _≤_, ℕ}
 use lib.Dec.{leb, lit<, ltb}
 use lib.ListN.{length, length-reverse, take}
 use native.Mathlib.Omega.{arith}
