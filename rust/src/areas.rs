@@ -363,8 +363,8 @@ impl Ways<'_> {
     }
 
     /// Logs one junction after the other, up to the target, by key, time and number: `times` has the candidates'
-    /// times, `logged` those of the logged. Each that is logged is told, and each road that gives a candidate its time, a smaller one
-    /// than before or the same.
+    /// times, `logged` those of the logged. Each that is logged is told, and each road that gives a candidate its
+    /// time, a smaller one than before or the same.
     fn run(
         &self,
         estimates: &mut [Time],

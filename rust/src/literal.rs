@@ -1,7 +1,7 @@
 //! Aim and go as document 01's sentences have them, with document 02's A5 for equal keys: a search's log by making
-//! its candidates anew before each choice, the route back from it by trying every road. Which estimates lie above a junction and the down
-//! totals come from the chains that define a pair, found by Dijkstra's searches over lower ranks; estimates by
-//! Dijkstra's too. The least total of a go by rounds over all roads, from 300 junctions on by Dijkstra's.
+//! its candidates anew before each choice, the route back from it by trying every road. Which estimates lie
+//! above a junction and the down totals come from the chains that define a pair, found by Dijkstra's searches over
+//! lower ranks; estimates by Dijkstra's too. The least total of a go by rounds over all roads, from 300 junctions on by Dijkstra's.
 
 use crate::brute;
 use crate::dijkstra;

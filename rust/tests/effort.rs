@@ -1,7 +1,7 @@
 //! The search effort of the proved unit as an exact figure (document 02, A5), with no search: least times from the
 //! start and estimates by rounds over all roads. A found route's log is the junctions whose two add up to no more than
 //! the total, by key, time and number; where no chain exists, those that have both. Roads, times and filled estimates
-//! follow from that log. Beside it stands the search of document 01, equal keys by number alone, to count how often
+//! follow from that log; only what lies above a junction is shared, with `Literal`. Beside it stands the search of document 01, equal keys by number alone, to count how often
 //! the two part.
 
 use harness::areas;

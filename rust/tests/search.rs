@@ -228,7 +228,7 @@ fn ties() {
 /// Into 1, roads 0 and 1 give the time. Road 0 comes from 2, which is logged before 1: its key is the same, its
 /// time smaller.
 #[test]
-fn a_route_by_earlier_ones_only() {
+fn equal_keys_by_time() {
     let road = |(tail, head, base)| Road { tail, head, base };
     let roads = [(2, 1, 1), (0, 1, 2), (0, 2, 1), (1, 3, 1)].map(road).to_vec();
     let map = Map { roads, order: vec![0, 1, 2, 3] };

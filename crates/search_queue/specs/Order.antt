@@ -24,7 +24,7 @@ blankWord = 18446744073709551615
 abbrev pub keyIn : (n : ℕ) (room : List ℕ) (v : ℕ) → ℕ
 keyIn n room v = getD room (n + v) 0 / mostNodes
 
--- the word that stands for v behind the tournament; its upper part, the search's time of v, decides between equal keys
+-- what decides between equal keys: the upper part of v's word behind the tournament, the search's time of v
 abbrev pub tieIn : (n : ℕ) (room : List ℕ) (v : ℕ) → ℕ
 tieIn n room v = getD room (2 * n + v) 0 / mostNodes
 
