@@ -1,6 +1,6 @@
 /*
- * Map P of document 01 through route_unit.h: prints cases P1 to P10, and of document 02 the roads by tail, A1, previews, A2, and lists of
- * stops, A3, and ends with 0 only if all are as the documents have them.
+ * Map P of document 01 through route_unit.h: prints cases P1 to P10, and of document 02 the roads by tail, A1, previews, A2, lists of
+ * stops, A3, and on another map of its size equal keys, A5; and ends with 0 only if all are as the documents have them.
  */
 #include "route_unit.h"
 
@@ -18,6 +18,8 @@ static const uint32_t WORDS[7] = {2, 1, 28, 60, 2, 88, 16};
 static const uint32_t RECORDS[4 * PAIRS] = {
     0, 2, UNIT_NONE, 10, 0, 3, 10, UNIT_NONE, 1, 2, UNIT_NONE, 15, 1, 3, 10, UNIT_NONE, 2, 3, 20, 20,
 };
+/* From 0 to 3 all keys are 3. It has as many junctions, roads and pairs. */
+static const uint32_t TIED_ROADS[3 * M] = {2, 1, 1, 0, 1, 2, 0, 2, 1, 1, 3, 1, 3, 0, 20}, TIED_ORDER[N] = {2, 3, 0, 1};
 static const uint32_t BY_TAIL[M] = {0, 2, 1, 3, 4}, STARTS[N + 1] = {0, 2, 3, 4, 5};
 
 static uint8_t card[CARD];
@@ -244,6 +246,15 @@ static bool replayed(void) {
         filled(entries + 4, LENT - 4, UNTOUCHED) && work[2 * N] == UNTOUCHED;
 }
 
+/* The last: it leaves another map's card. */
+static bool tied(void) {
+    static const uint32_t roads[] = {2, 0, 3}, log[] = {0, 2, 1, 3}, ends[] = {0, 3};
+    static const Journey one_leg = {0, 0, 1, 3, {3, 0}, {3, 0}, 3, {2, 0, 3}, 4, {0, 2, 1, 3}, 3};
+    uint32_t place;
+    return card_write(TIED_ROADS, 3 * M, TIED_ORDER, N, card, CARD, &place) == 0 && prepared_at(3) &&
+        gone(0, 0, 3, 3, roads, 4, log) && called(ends, 2, 2 * N, N, &one_leg);
+}
+
 int main(void) {
     static const uint32_t roads_01[] = {0, 1}, roads_23[] = {2, 3};
     static const uint32_t log_3[] = {0, 1, 3}, log_4[] = {0, 1, 2, 3}, log_of_3[] = {3}, log_2[] = {0, 1};
@@ -284,5 +295,6 @@ int main(void) {
     told("A3  stops 0, 0: 0 by no road", prepared_at(3) && called(stay, 2, 2 * N, N, &stayed));
     told("A3  refused by 16, 12 and 14, by the first that says no", uncalled());
     told("replay: the program's example, previews and stops as one script", replayed());
+    told("A5  equal keys by time: log 0, 2, 1, 3, roads 2, 0, 3", tied());
     return all_right ? 0 : 1;
 }

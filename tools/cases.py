@@ -190,8 +190,8 @@ script-{index} : Holds record {{
   turns =
       {turns};
 }}
-unfolding played
-script-{index} = refl
+unfolding played figures
+script-{index} = record {{ plays = refl; counts = refl }}
 """
 
 
@@ -203,7 +203,7 @@ use mathlib.Core.List.{{[], _∷_}}
 use lib.ListN.{{replicate}}
 use Rattle.model.specs.Types.{{Lengths, LentLengths, NoJunction, NoRoad, NoTarget, NotAllowed, StopCount}}
 use Rattle.model.specs.Calls.{{aimCall, estimateCall, goCall, previewCall, setCall, stopsCall}}
-{use(NOTATION, "Holds _over_ _–_–_ aim est go lent less lost more no pair played preview set stops stranded ∞ □".split())}"""
+{use(NOTATION, "Holds _over_ _–_–_ aim est figures go lent less lost more no pair played preview set stops stranded ∞ □".split())}"""
 
 
 # ---- Cards.antt: what is given, in groups with a comment each

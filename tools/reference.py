@@ -1,4 +1,4 @@
-"""Document 01, with A1 to A3 of document 02, as a plain model: the card, preparing, the six calls and the machine to compare with.
+"""Document 01, with A1 to A3 and A5 of document 02, as a plain model: the card, preparing, the six calls and the machine to compare with.
 
 It is written from the paper alone and shares nothing with the definitions of crates/model. Each least total comes from
 one function, which relaxes arcs until nothing changes; candidates, fillings and routes are read off the paper's sentences.
@@ -133,27 +133,49 @@ def group_starts(chart):
 
 # ---- the search log
 
-def search(arcs, estimate, start, target):
-    """The logged junctions' times, in the log's order; and the candidates at each choice, as (key, junction, time)."""
+def search(arcs, estimate, start, target, order=None):
+    """The logged junctions' times, in the log's order; and the candidates at each choice, as (key, time, junction), by which they are
+    logged if no other order is given."""
     times, choices = {}, []
     while target not in times:
         found = {} if times else {start: 0}
         for tail, head, time, _ in arcs:
             if tail in times and head not in times:
                 found[head] = min(found.get(head, math.inf), times[tail] + time)
-        candidates = sorted((time + estimate[head], head, time) for head, time in found.items() if head in estimate)
+        candidates = sorted(((time + estimate[head], time, head) for head, time in found.items() if head in estimate), key=order)
         if not candidates:
             break
         choices.append(candidates)
-        times[candidates[0][1]] = candidates[0][2]
+        times[candidates[0][2]] = candidates[0][1]
     return times, choices
 
 
-def searched(chart, live, start, target):
+def chains(arcs, start, passed=()):
+    """Every chain of arcs from a junction that passes none twice: its end and its total."""
+    yield start, 0
+    for tail, head, time, *_ in arcs:
+        if tail == start and head not in passed:
+            for end, total in chains(arcs, head, (*passed, start)):
+                yield end, time + total
+
+
+def effort(chart, live, start, target):
+    """A5 without a search, over all chains: the junctions whose least time from the start plus estimate is no more than the total or,
+    where no chain exists, all that open roads reach and that have an estimate, sorted by key, time and number."""
+    times, estimates = {}, {}
+    for end, total in chains(chart.open_roads(live), start):
+        times[end] = min(total, times.get(end, math.inf))
+    for junction in times:
+        estimates[junction] = min([total for end, total in chains(chart.roads, junction) if end == target], default=math.inf)
+    keys = sorted((time + estimates[junction], time, junction) for junction, time in times.items())
+    return [junction for key, _, junction in keys if key < math.inf and key <= times.get(target, math.inf)]
+
+
+def searched(chart, live, start, target, order=None):
     """The open roads, the logged junctions' times, and the junctions that the search asks for an estimate: the start, and the heads
     of open roads from logged ones other than the target."""
     arcs = chart.open_roads(live)
-    times = search(arcs, least_totals(chart.roads, target), start, target)[0]
+    times = search(arcs, least_totals(chart.roads, target), start, target, order)[0]
     return arcs, times, [start, *[head for tail, head, *_ in arcs if tail in times and tail != target]]
 
 

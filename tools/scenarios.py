@@ -16,7 +16,7 @@ from collections import Counter, namedtuple
 sys.dont_write_bytecode = True
 import reference as model
 from reference import CLOSED, NONE, SLOWEST, UNASKED
-from scripts import Dice
+from scripts import Dice, shuffled
 
 CRATES = pathlib.Path(__file__).resolve().parent.parent / "crates"
 MOST_BYTES, MOST_JUNCTIONS, MOST_ROADS, MOST_PAIRS = 32_768, 200, 800, 4_000
@@ -320,14 +320,6 @@ def town(seed, wide, high, times):
         roads.append((tail, head, 4 * dice.pick(*times)))
     roads = shuffled(dice, roads)[:MOST_ROADS]
     return dice, card_of(roads, least_degree(n, roads))
-
-
-def shuffled(dice, items):
-    items = list(items)
-    for i in range(len(items) - 1):
-        j = i + dice.below(len(items) - i)
-        items[i], items[j] = items[j], items[i]
-    return items
 
 
 def trips(dice, card, calls):

@@ -4,7 +4,7 @@ from collections import Counter, namedtuple
 import reference as model
 from reference import CLOSED, NONE, SLOWEST, UNASKED, Areas
 
-POOL, TURNS = 800, 40  # random scripts to choose from, and how many turns each has at first
+POOL, STREETS, TURNS = 800, 200, 40  # random scripts to choose from, of both kinds, and how many turns each has at first
 
 
 # ---- scripts: a map, the room for pairs, and turns
@@ -69,21 +69,40 @@ class Script:
         self.header, self.areas = turn.header, turn.areas
 
 
+def shuffled(dice, items):
+    items = list(items)
+    for i in range(len(items) - 1):
+        j = i + dice.below(len(items) - i)
+        items[i], items[j] = items[j], items[i]
+    return items
+
+
 def random_script(seed):
     dice = Dice(seed)
     n = dice.pick(4, 5, 5, 6, 6, 6)
     times = dice.pick([1, 2, 3], [1, 2, 3, 4, 5], [1, 2, SLOWEST] if n < 6 else [2, 4, 6])
-    order, roads = list(range(n)), []
-    for i in range(n - 1):
-        j = i + dice.below(n - i)
-        order[i], order[j] = order[j], order[i]
+    order, roads = shuffled(dice, range(n)), []
     for _ in range(n + dice.below(n)):
         tail = dice.below(n)
         head = (tail + 1 + dice.below(n - 1)) % n
         roads += [(tail, head, dice.pick(*times)) for _ in range(1 + (dice.below(6) == 0))]
-    script = Script(f"seed {seed}", roads, order, dice.pick(0, 0, 1, 2))
+    return random_turns(dice, Script(f"seed {seed}", roads, order, dice.pick(0, 0, 1, 2)))
+
+
+def street_script(seed):
+    """Two blocks of streets, most of them of the same time and both ways, where many keys tie; junctions and roads have any numbers."""
+    dice = Dice(POOL + seed)
+    at, roads = shuffled(dice, range(6)), []
+    for a, b in ((0, 1), (1, 2), (3, 4), (4, 5), (0, 3), (1, 4), (2, 5)):
+        time = dice.pick(1, 1, 1, 2)
+        roads += [(at[a], at[b], time)] if dice.below(6) else []
+        roads += [(at[b], at[a], time)] if dice.below(4) else []
+    return random_turns(dice, Script(f"streets {seed}", shuffled(dice, roads), shuffled(dice, range(6)), dice.pick(0, 1)))
+
+
+def random_turns(dice, script):
     script.play(*random_call(dice, script))
-    script.play("aim", dice.below(n))
+    script.play("aim", dice.below(script.header.n))
     for _ in range(TURNS - 2):
         script.play(*random_call(dice, script))
     return script
@@ -126,9 +145,17 @@ def chosen_scripts():
         Script("no roads, and calls before the first aim", [], [1, 0], 1,
                ("est", 0), ("est", 2), ("est", NONE), ("go", 2, 2, 2), ("go", UNASKED, 1, 1), ("go", 1, 2, 1), ("go", 1, 1, 3), ("aim", 2),
                ("set", 0, UNASKED), ("aim", 1), ("est", 0), ("est", 1), ("go", 0, 2, 3), ("aim", 0), ("go", 0, 2, 2)),
-        Script("road 0, from 2 to 1, gives the time of 1, but 2 is logged after 1", [(2, 1, 1), (0, 1, 2), (0, 2, 1), (1, 3, 1)], [3, 1, 0, 2], 0,
+        Script("road 0, from 2 to 1, gives the time of 1, and 2 is logged before 1", [(2, 1, 1), (0, 1, 2), (0, 2, 1), (1, 3, 1)], [3, 1, 0, 2], 0,
                ("est", 0), ("go", 4, 4, 4), ("go", 0, 0, 0), ("est", 4), ("aim", 3), ("go", 0, 4, 5), ("set", 0, 2), ("go", 0, 5, 4),
                ("set", 0, 1), ("go", 2, 4, 4), ("aim", 4), ("set", 4, 0)),
+        Script("from 3 to 0 all keys are 3, and the larger numbers have the smaller times",
+               [(3, 0, 3), (3, 1, 2), (3, 2, 1), (2, 1, 1), (2, 0, 2), (1, 0, 1)], [0, 2, 1, 3], 0,
+               ("aim", 0), ("go", 3, 4, 4), ("set", 5, 2), ("go", 3, 4, 4), ("set", 0, CLOSED), ("go", 3, 4, 5), ("set", 4, CLOSED), ("go", 2, 4, 4),
+               ("set", 5, CLOSED), ("go", 3, 5, 4), ("stops", [3, 1, 0], 12, 4), ("set", 5, 1), ("stops", [3, 2, 0], 12, 4), ("aim", 1), ("go", 3, 4, 4)),
+        Script("two blocks of streets: from 5 to 0 keys tie, and times too",
+               [(5, 3, 1), (5, 4, 1), (4, 1, 1), (3, 1, 1), (3, 2, 1), (1, 0, 1), (2, 0, 1), (4, 3, 1), (0, 5, 4)], [4, 2, 0, 1, 5, 3], 1,
+               ("aim", 0), ("go", 5, 6, 6), ("set", 5, CLOSED), ("go", 5, 6, 6), ("set", 6, 2), ("go", 4, 6, 6), ("set", 6, CLOSED), ("go", 5, 6, 6),
+               ("aim", 4), ("go", 1, 6, 6), ("go", 3, 6, 6)),
         Script("map P of document 01, and previews on it", *MAP_P, 0,
                ("preview", 1, 15, 0, 8), ("aim", 3), ("go", 0, 4, 4), ("preview", 1, 15, 0, 8), ("preview", 4, 30, 0, 8), ("set", 1, CLOSED),
                ("preview", 1, 10, 0, 8), ("preview", 2, CLOSED, 0, 8), ("set", 2, CLOSED), ("preview", 2, 15, 0, 8), ("preview", 2, CLOSED, 3, 8),
@@ -146,7 +173,7 @@ def chosen_scripts():
                ("stops", [0, 3, 0], 12, 3), ("stops", [0, 3, 4], 12, 4), ("set", 4, CLOSED), ("stops", [0, 3, 0], 13, 6), ("set", 1, CLOSED),
                ("aim", 3), ("go", 0, 4, 4), ("stops", [0, 3, 3, 1], 17, 4), ("set", 3, CLOSED), ("stops", [0, 3], 8, 4), ("stops", [3, 0, 3], 12, 4)),
     ]
-    pool, chosen = [random_script(seed) for seed in range(POOL)], []
+    pool, chosen = [*map(random_script, range(POOL)), *map(street_script, range(STREETS))], []
     while seldom := too_seldom(made + chosen):
         best = max(pool, key=lambda script: sum(min(script.kinds[kind], missing) for kind, missing in seldom.items()))
         assert any(best.kinds[kind] for kind in seldom), seldom
@@ -279,8 +306,9 @@ def go_kinds(script, turn, no):
     }
     if no in (0, 15):
         arcs = script.chart.open_roads(script.areas.live)
+        assert turn.lent[1][:turn.answer[2]] == model.effort(script.chart, script.areas.live, start, target)
         times, choices = model.search(arcs, model.least_totals(script.chart.roads, target), start, target)
-        kinds |= log_kinds(script, turn, arcs, times, choices, not no)
+        kinds |= log_kinds(script, turn, arcs, times, choices, not no) | tie_kinds(script, turn, arcs, times, choices, not no)
         kinds |= {"go with areas of n entries": lengths == [n, n], "go with longer areas": min(lengths) > n}
     if no == 0:
         kinds |= route_kinds(script, arcs, times, turn.lent[0][:turn.answer[3]])
@@ -289,8 +317,8 @@ def go_kinds(script, turn, no):
 
 def log_kinds(script, turn, arcs, times, choices, found):
     start, target, before, after = turn.call[1], script.header.target, script.areas, turn.areas
-    log, keys, junctions = list(times), [choice[0][0] for choice in choices], range(script.header.n)
-    waiting = [{junction: time for _, junction, time in choice} for choice in choices]
+    log, junctions = list(times), range(script.header.n)
+    waiting = [{junction: time for _, time, junction in choice} for choice in choices]
     falls = {junction for early, late in zip(waiting, waiting[1:]) for junction in early if late.get(junction, NONE) < early[junction]}
     heads = {head for tail, head, *_ in arcs if tail in times and tail != target}
     closed = {road[1] for road, live in zip(script.chart.roads, before.live) if live == CLOSED and road[0] in times and road[0] != target}
@@ -307,8 +335,6 @@ def log_kinds(script, turn, arcs, times, choices, found):
         "go that leaves a head behind the target unasked": any(after.estimates[head] == UNASKED for head in beyond),
         "go that meets a junction without estimate": any(after.estimates[head] == NONE for head in heads),
         "go where open roads do not reach all": found and len(model.least_totals([(b, a, c) for a, b, c, _ in arcs], start)) < len(junctions),
-        "go with a tie of keys": any(len(choice) > 1 and choice[0][0] == choice[1][0] for choice in choices),
-        "go with a tie, the smaller number later": any(keys[i] == keys[i + 1] and log[i] > log[i + 1] for i in range(len(log) - 1)),
         "go where the target waits": any(target in wait for wait in waiting[:-1]),
         "go where the target's time falls": target in falls,
         "go where another candidate's time falls": falls - {target},
@@ -320,17 +346,43 @@ def log_kinds(script, turn, arcs, times, choices, found):
     }
 
 
+def by_number(candidate):
+    """Document 01's order of candidates, before A5."""
+    return candidate[0], candidate[2]
+
+
+def tie_kinds(script, turn, arcs, times, choices, found):
+    """Where A5's order of equal keys shows, and where document 01's, by number, would have given something else."""
+    start, target, log = turn.call[1], script.header.target, list(times)
+    ties = [[candidate for candidate in choice if candidate[0] == choice[0][0]] for choice in choices]
+    old = model.search(arcs, model.least_totals(script.chart.roads, target), start, target, by_number)[0]
+    another = found and model.route_back(arcs, old, target) != model.route_back(arcs, times, target)
+    reached = {end for end, _ in model.chains(arcs, start)}
+    return {
+        "go with a tie of keys": any(len(tie) > 1 for tie in ties),
+        "go with a tie, the smaller number later by its time": any(min(junction for _, _, junction in tie) < tie[0][2] for tie in ties),
+        "go with a tie of keys and times": any(len(tie) > 1 and tie[0][1] == tie[1][1] for tie in ties),
+        "go with a tie of three keys": any(len(tie) > 2 for tie in ties),
+        "go where the target ties and goes last": any(target in [junction for _, _, junction in tie[1:]] for tie in ties),
+        "go that by number would log fewer": len(old) < len(log),
+        "go that by number would log the same in another order": found and log != list(old) and len(old) == len(log),
+        "go that by number would go another way": another,
+        "go: 15 that by number would log in another order": not found and log != list(old),
+        "go: 15 where a junction that is reached has no estimate": not found and log and reached - times.keys(),
+    }
+
+
 def route_kinds(script, arcs, times, route):
     kinds, log = {"route of three roads and more": len(route) > 2}, list(times)
     for tail, head, time, road in (arc for arc in arcs if arc[3] in route):
         others = [arc for arc in arcs if arc[1] == head and arc[0] in times and arc[3] != road]
         equal = [arc for arc in others if times[arc[0]] + arc[2] == times[head]]
+        assert all(arc[3] > road and log.index(arc[0]) < log.index(head) for arc in equal)
         for name, holds in {
             "route by the first of equal parallel roads": any(arc[0] == tail for arc in equal),
             "route by a later, faster parallel road": any(arc[0] == tail and arc[2] > time and arc[3] < road for arc in others),
             "route by the first road, from the larger tail": any(arc[0] < tail and arc[3] > road for arc in equal),
             "route by the first road, from the later tail": any(log.index(arc[0]) < log.index(tail) and arc[3] > road for arc in equal),
-            "route past an equal road from a later logged tail": any(arc[3] < road for arc in equal),
             "route over a delayed road": time > script.chart.base[road],
             "route over a road whose delay or closure ended": road in script.ended,
         }.items():
@@ -361,11 +413,14 @@ def preview_kinds(script, turn, no):
 def outlook_kinds(script, turn, base, live):
     (road, time, start, _), (_, present, new, change) = turn.call[1:], turn.answer
     before, after, target = script.areas, turn.areas.estimates, script.header.target
-    fills = []
-    for times in (before.live, model.replaced(before.live, road, time)):
-        asked = model.searched(script.chart, times, start, target)[2]
+
+    def filled(times, order=None):
+        asked = model.searched(script.chart, times, start, target, order)[2]
         estimates = model.filled(script.chart, script.header, before, asked)
-        fills.append({junction for junction, old in enumerate(before.estimates) if estimates[junction] != old})
+        return {junction for junction, old in enumerate(before.estimates) if estimates[junction] != old}
+
+    both = before.live, model.replaced(before.live, road, time)
+    fills = [filled(times) for times in both]
     return {
         "preview of more": change and change > 0,
         "preview of less": change and change < 0,
@@ -383,6 +438,7 @@ def outlook_kinds(script, turn, base, live):
         "preview whose second search alone fills some": fills[1] - fills[0],
         "preview whose second search fills some, the first without a chain": present is None and fills[1] - fills[0],
         "preview whose searches both fill some": fills[0] & fills[1],
+        "preview that by number would fill fewer": set().union(*fills) != set().union(*[filled(times, by_number) for times in both]),
         "preview that meets estimates filled": any(word != UNASKED for word in before.estimates),
         "preview that leaves estimates unasked": UNASKED in after,
         "preview where elapsed has times": set(before.elapsed) - {NONE},
@@ -409,6 +465,8 @@ def journey_kinds(script, turn, stops, target, lengths, no):
     arcs, logs = script.chart.open_roads(before.live), []
     for start, end in list(zip(stops, stops[1:]))[:legs + bool(no)]:
         logs.append(list(model.search(arcs, model.least_totals(script.chart.roads, end), start, end)[0]))
+        assert logs[-1] == model.effort(script.chart, before.live, start, end)
+    old = list(model.search(arcs, model.least_totals(script.chart.roads, end), start, end, by_number)[0])
     roads = sum(word < 60 for word in turn.lent[0])
     return {
         "stops: 17 with the first leg": no and legs == 0,
@@ -427,6 +485,7 @@ def journey_kinds(script, turn, stops, target, lengths, no):
         "stops whose first leg leads to the target": target == stops[1] and set(before.estimates) - {UNASKED},
         "stops whose last target is the one before": target == turn.header.target and len(stops) > 2,
         "stops whose log has more of an earlier leg behind it": any(len(log) > len(logs[-1]) for log in logs),
+        "stops whose last log by number would be another": logs[-1] != old,
         "stops over a delayed road": any(turn.lent[0][i] < 60 and before.live[turn.lent[0][i]] > script.chart.base[turn.lent[0][i]]
                                          for i in range(roads)),
         "stops that leave estimates unasked": UNASKED in turn.areas.estimates,

@@ -362,9 +362,9 @@ impl Ways<'_> {
         Some((total, roads as u32))
     }
 
-    /// Logs one junction after the other, up to the target: `times` has the candidates' times, `logged` those
-    /// of the logged. Each that is logged is told, and each road that gives a candidate its time, a smaller one
-    /// than before or the same.
+    /// Logs one junction after the other, up to the target, by key, time and number: `times` has the candidates'
+    /// times, `logged` those of the logged. Each that is logged is told, and each road that gives a candidate its
+    /// time, a smaller one than before or the same.
     fn run(
         &self,
         estimates: &mut [Time],
@@ -381,14 +381,14 @@ impl Ways<'_> {
         let ahead = self.prepared.estimate(estimates, start as usize);
         if ahead != NONE {
             times[start as usize] = 0;
-            queue.push(Reverse((u64::from(ahead), start)));
+            queue.push(Reverse((u64::from(ahead), 0, start)));
         }
-        while let Some(Reverse((_, junction))) = queue.pop() {
+        while let Some(Reverse((_, time, junction))) = queue.pop() {
             let at = junction as usize;
             if logged[at] != NONE {
                 continue;
             }
-            logged[at] = times[at];
+            logged[at] = time;
             logs(junction);
             if junction == self.target {
                 break;
@@ -403,11 +403,11 @@ impl Ways<'_> {
                 if ahead == NONE {
                     continue;
                 }
-                let sum = logged[at] + live;
+                let sum = time + live;
                 let order = sum.cmp(&times[head as usize]);
                 if order.is_lt() {
                     times[head as usize] = sum;
-                    queue.push(Reverse((u64::from(sum) + u64::from(ahead), head)));
+                    queue.push(Reverse((u64::from(sum) + u64::from(ahead), sum, head)));
                 }
                 if order.is_le() && logged[head as usize] == NONE {
                     leads(road, head, order);

@@ -1,7 +1,7 @@
-//! Aim and go as document 01's sentences have them: a search's log by making its candidates anew before each
-//! choice, the route back from it by trying every road. Which estimates lie above a junction and the down
-//! totals come from the chains that define a pair, found by Dijkstra's searches over lower ranks; estimates by
-//! Dijkstra's too. The least total of a go by rounds over all roads, from 300 junctions on by Dijkstra's.
+//! Aim and go as document 01's sentences have them, with document 02's A5 for equal keys: a search's log by making
+//! its candidates anew before each choice, the route back from it by trying every road. Which estimates lie
+//! above a junction and the down totals come from the chains that define a pair, found by Dijkstra's searches over
+//! lower ranks; estimates by Dijkstra's too. The least total of a go by rounds over all roads, from 300 junctions on by Dijkstra's.
 
 use crate::brute;
 use crate::dijkstra;
@@ -19,6 +19,7 @@ pub struct Literal {
 }
 
 /// What a search finds, logs and fills.
+#[derive(Clone, Debug, PartialEq, Eq)]
 pub struct Searched {
     /// The least total, if there is a chain.
     pub total: Option<u64>,
@@ -112,7 +113,7 @@ impl Literal {
             let candidates = first.into_iter().chain(others);
             let has_estimate = |&(junction, _): &(u32, u64)| estimates[junction as usize] != NONE;
             let key = |&(junction, time): &(u32, u64)| {
-                (time + u64::from(estimates[junction as usize]), junction, time)
+                (time + u64::from(estimates[junction as usize]), time, junction)
             };
             let Some((junction, time)) = candidates.filter(has_estimate).min_by_key(key) else {
                 break;

@@ -1,5 +1,6 @@
 //! The plain machine that document 01 compares the unit with: a live time of its own for each road, and
-//! a target. It is fed the map, each call's arguments and the lengths of what is lent with it.
+//! a target. It is fed the map, each call's arguments and the lengths of what is lent with it. Of equal keys
+//! the smaller time is logged first, then the smaller number (document 02, A5).
 
 use crate::calls::{
     Accepted, Answer, Call, Previewed, Refusal, Stopped, Trip, FEWEST_STOPS, MOST_STOPS,
@@ -183,10 +184,10 @@ impl Machine<'_> {
         while log.last() != Some(&target) {
             let key = |((junction, time), &estimate): ((u32, &Option<u64>), &Time)| {
                 let time = (*time)?;
-                Some((time + u64::from(estimate), junction, time))
+                Some((time + u64::from(estimate), time, junction))
             };
             let keys = (0..).zip(&candidates).zip(&estimates).filter_map(key);
-            let Some((_, junction, time)) = keys.min() else { break };
+            let Some((_, time, junction)) = keys.min() else { break };
             candidates[junction as usize] = None;
             logged[junction as usize] = true;
             log.push(junction);

@@ -1,4 +1,5 @@
-//! The search log: A* with a binary heap over live times, and the route read back from it.
+//! The search log: A* with a binary heap over live times, and the route read back from it. Equal keys go by time,
+//! then by number (document 02, A5).
 
 use crate::graph::Graph;
 use crate::time::{Time, CLOSED, NONE};
@@ -56,18 +57,19 @@ fn logged(
     // Times of candidates. One is queued again whenever its time falls; the first to come up counts.
     let mut times = vec![NONE; graph.n()];
     let mut queue = BinaryHeap::new();
-    let key = |time: Time, estimate: Time| u64::from(time) + u64::from(estimate);
+    let entry = |time: Time, estimate: Time, junction: u32| {
+        Reverse((u64::from(time) + u64::from(estimate), time, junction))
+    };
 
     let ahead = estimate(start);
     if ahead != NONE {
         times[start as usize] = 0;
-        queue.push(Reverse((key(0, ahead), start)));
+        queue.push(entry(0, ahead, start));
     }
-    while let Some(Reverse((_, junction))) = queue.pop() {
+    while let Some(Reverse((_, time, junction))) = queue.pop() {
         if elapsed[junction as usize] != NONE {
             continue;
         }
-        let time = times[junction as usize];
         elapsed[junction as usize] = time;
         log.push(junction);
         if junction == target {
@@ -81,7 +83,7 @@ fn logged(
             let ahead = estimate(arc.end);
             if ahead != NONE && time + live < times[arc.end as usize] {
                 times[arc.end as usize] = time + live;
-                queue.push(Reverse((key(time + live, ahead), arc.end)));
+                queue.push(entry(time + live, ahead, arc.end));
             }
         }
     }
@@ -178,7 +180,7 @@ mod tests {
                 }
                 candidates.retain(|&(junction, _)| estimates[junction as usize] != NONE);
                 let key = |&(junction, time): &(u32, Time)| {
-                    (u64::from(time) + u64::from(estimates[junction as usize]), junction)
+                    (u64::from(time) + u64::from(estimates[junction as usize]), time, junction)
                 };
                 let Some((junction, time)) = candidates.into_iter().min_by_key(key) else {
                     break;
@@ -229,28 +231,27 @@ mod tests {
             (0..self.map.n() as u32).map(|junction| filled[rank(junction)]).collect()
         }
 
-        /// How many of a route's roads are not the smallest-numbered open ones from a logged
-        /// junction that give the time, since that one was logged later.
-        fn roads_from_earlier(&self, search: &Search) -> usize {
-            let elapsed = |junction: u32| search.elapsed[junction as usize];
-            let gives = |other: &Road, live, head| {
-                other.head == head
-                    && search.log.contains(&other.tail)
-                    && elapsed(other.tail) + live == elapsed(head)
-            };
-            let differs = |&&number: &&u32| {
-                let head = self.map.roads[number as usize].head;
-                self.open().find(|(_, other, live)| gives(other, *live, head)).unwrap().0 != number
-            };
-            let route = search.found.as_ref().map_or(&[][..], |(_, route)| route);
-            route.iter().filter(differs).count()
+        /// The open roads that give a logged junction its time all come from earlier logged ones. How
+        /// many there are beyond one for each junction.
+        fn choices(&self, Search { log, elapsed, .. }: &Search) -> usize {
+            let place = |junction| log.iter().position(|&logged| logged == junction);
+            let mut ways = vec![0; self.map.n()];
+            for (_, road, live) in self.open() {
+                let [tail, head] = [road.tail, road.head].map(place);
+                let (Some(tail), Some(head)) = (tail, head) else { continue };
+                if elapsed[road.tail as usize] + live == elapsed[road.head as usize] {
+                    assert!(tail < head, "{:?}, {:?}: {road:?}", self.map, self.live);
+                    ways[road.head as usize] += 1_usize;
+                }
+            }
+            ways.into_iter().map(|ways| ways.saturating_sub(1)).sum()
         }
     }
 
     #[test]
     fn as_defined() {
         let mut random = Random::new(1);
-        let (mut found, mut missing, mut unasked, mut earlier) = (0, 0, 0, 0);
+        let (mut found, mut missing, mut unasked, mut choices) = (0, 0, 0, 0);
         for i in 0..10_000 {
             let map = match i % 50 {
                 0 => maps::even_grid(&mut random, 8, 8),
@@ -265,23 +266,34 @@ mod tests {
                 unasked += !filled as usize;
             }
             *if search.found.is_some() { &mut found } else { &mut missing } += 1;
-            earlier += trip.roads_from_earlier(&search);
+            choices += trip.choices(&search);
         }
         assert!(
-            found > 6_000 && missing > 2_000 && unasked > 20_000 && earlier > 20,
-            "{found} found, {missing} not, {unasked} unasked, {earlier} roads from earlier ones"
+            found > 6_000 && missing > 2_000 && unasked > 20_000 && choices > 1_000,
+            "{found} found, {missing} not, {unasked} unasked, {choices} roads to choose from"
         );
     }
 
+    /// The log is the junctions whose least time plus estimate is no more than the total or, where there
+    /// is no chain, those that have both, by key, time and number.
     #[test]
-    fn a_least_chain_within_the_bound() {
+    fn a_least_chain_and_its_effort() {
         let mut random = Random::new(2);
-        let (mut found, mut missing, mut fewer) = (0, 0, 0);
+        let (mut found, mut missing, mut at_the_total) = (0, 0, 0);
         for _ in 0..10_000 {
             let map = maps::small(&mut random);
             let trip = Trip::random(&mut random, map);
             let times = brute::least(&trip.map, &trip.live, trip.start);
             let (search, _) = trip.go();
+            let mut due: Vec<(u64, Time, u32)> = (0..)
+                .zip(times.iter().zip(trip.estimates()))
+                .filter(|&(_, (&time, estimate))| time != NONE && estimate != NONE)
+                .map(|(at, (&time, estimate))| (u64::from(time) + u64::from(estimate), time, at))
+                .collect();
+            let most = search.found.as_ref().map_or(u64::MAX, |found| found.0.into());
+            due.retain(|&(key, ..)| key <= most);
+            due.sort();
+            assert!(due.iter().map(|&(_, _, at)| at).eq(search.log.iter().copied()));
             let Some((total, route)) = search.found else {
                 assert_eq!(times[trip.target as usize], NONE);
                 missing += 1;
@@ -295,16 +307,12 @@ mod tests {
             }
             assert_eq!(end, trip.target);
             assert_eq!(route.iter().map(|&number| trip.live[number as usize]).sum::<Time>(), total);
-            let keys = times.iter().zip(trip.estimates());
-            let keys = keys.map(|(&time, estimate)| u64::from(time) + u64::from(estimate));
-            let bound = keys.filter(|&key| key <= total.into()).count();
-            assert!(search.log.len() <= bound);
             found += 1;
-            fewer += (search.log.len() < bound) as usize;
+            at_the_total += due.iter().filter(|&&(key, ..)| key == most).count() - 1;
         }
         assert!(
-            found > 6_000 && missing > 2_000 && fewer > 100,
-            "{found} found, {missing} not, {fewer} counts below the bound"
+            found > 6_000 && missing > 2_000 && at_the_total > 5_000,
+            "{found} found, {missing} not, {at_the_total} more with the total as their key"
         );
     }
 
@@ -327,15 +335,15 @@ mod tests {
         assert_eq!(trip(&[(1, CLOSED), (2, CLOSED)], 0, 3), (None, vec![0, 1]));
     }
 
-    /// Into 1, road 0 gives the time too, but comes from 2, which is logged later.
+    /// All keys are 3. Junction 2 has the smaller time and is logged before 1; so road 0 leads into 1.
     #[test]
-    fn a_route_by_earlier_ones_only() {
+    fn equal_keys_by_time() {
         let road = |(tail, head, base)| Road { tail, head, base };
         let roads = [(2, 1, 1), (0, 1, 2), (0, 2, 1), (1, 3, 1)].map(road).to_vec();
         let map = Map { roads, order: vec![0, 1, 2, 3] };
         let (search, _) = Trip { live: map.base(), map, start: 0, target: 3 }.go();
-        assert_eq!(search.log, [0, 1, 2, 3]);
-        assert_eq!(search.found, Some((3, vec![1, 3])));
+        assert_eq!(search.log, [0, 2, 1, 3]);
+        assert_eq!(search.found, Some((3, vec![2, 0, 3])));
     }
 
     #[test]

@@ -170,12 +170,12 @@ fn map_p() {
     let output = run("right", &read("c/map_p.c"));
     let said = told(&output.stdout);
     assert_eq!(output.status.code(), Some(0), "{said}");
-    assert_eq!((said.matches(" ok\n").count(), said.lines().count()), (23, 23), "{said}");
+    assert_eq!((said.matches(" ok\n").count(), said.lines().count()), (24, 24), "{said}");
     for case in 1..=10 {
         assert!(said.contains(&format!("P{case} ")), "{said}");
     }
-    let requests = ["A1 ", "A2 ", "A3 "].map(|request| said.matches(request).count());
-    assert_eq!(requests, [1, 6, 4], "{said}");
+    let requests = ["A1 ", "A2 ", "A3 ", "A5 "].map(|request| said.matches(request).count());
+    assert_eq!(requests, [1, 6, 4, 1], "{said}");
 }
 
 /// The C program sees an answer that is not the one it waits for, in each case.
@@ -214,6 +214,9 @@ fn map_p_with_another_answer() {
         ("replay", "{0, 45, 0, 2}", "{0, 45, 2, 0}"),
         ("replay", "{25, 2, 20, 1}", "{25, 20, 2, 1}"),
         ("replay", "{17, 1, 0, 0}", "{17, 0, 1, 0}"),
+        ("A5 ", "gone(0, 0, 3, 3, roads, 4, log)", "gone(0, 0, 3, 2, roads, 4, log)"),
+        ("A5 ", "log[] = {0, 2, 1, 3}, ends", "log[] = {0, 1, 2, 3}, ends"),
+        ("A5 ", "{2, 0, 3}, 4, {0, 2, 1, 3}, 3}", "{2, 0, 3}, 4, {0, 1, 2, 3}, 3}"),
     ]
     .into_iter()
     .enumerate()

@@ -305,7 +305,8 @@ fn lists() {
             let map = random_map(&mut random, most);
             run_list(&mut random, &map, calls, &mut tally);
         }
-        tally.at_least(length / 1_000);
+        // The rarest answer comes about once in 1,000 calls; other seeds meet this count too.
+        tally.at_least(length / 1_500);
         assert!(tally.previews.all().iter().all(|&met| met > length / 1_000), "{tally:?}");
         let Listed { empty, several, moved, not_by_head, .. } = tally.listed;
         assert!(

@@ -1,8 +1,8 @@
--- One small map, computed through the definitions: it has parallel arcs, a dead end, keys that tie, an arc that gives a logged time but
--- comes from a later entry, up times that a path over higher ranks would undercut, and a target that is a candidate long before it is
--- logged. Every fact here is proved by computing. Assumes nothing.
+-- Two small maps, computed through the definitions. One has parallel arcs, a dead end, keys that tie, up times that a path over higher
+-- ranks would undercut, and a target that is a candidate long before it is logged; the other has vertices whose keys and times tie. Every
+-- fact here is proved by computing. Assumes nothing.
 use mathlib.Core.Path.{_≡_, refl}
-use mathlib.Core.Bool.{cond, false, true}
+use mathlib.Core.Bool.{Bool, cond, false, true}
 use mathlib.Core.Option.{none, some}
 use mathlib.Core.List.{List, [], _∷_, map}
 use Prim.Native.Nat.{ℕ}
@@ -20,6 +20,8 @@ use Rattle.graph.specs.Reach.{reaches}
 use Rattle.graph.specs.Search.{Entry, back, backStep, before, below-or, bestBelow, better, consider, countOf}
 use Rattle.graph.specs.Search.{extend, firstVia, hasGoal, history, is, logOf, next, offerVia, offered}
 use Rattle.graph.specs.Search.{push, routeOf, run, timeIn, totalIn, totalOf, vertices, wayIn}
+use Rattle.graph.specs.Sorted.{insert, sorted}
+use Rattle.graph.specs.LogOrder.{inOrder, smaller-or, sooner}
 use Rattle.graph.specs.Map.{Map, downTotalOf, estimateOf, fills, pairsOf, rank, timeOf, weights}
 use Rattle.graph.specs.Go.{goOf}
 
@@ -129,10 +131,10 @@ pub record Shown : Type 0 where
   pub route : List ℕ
   pub count : ℕ
 
--- the go from s to z at live costs, equal keys by number
-abbrev shown : (live : ℕ → Total) (s z : ℕ) → Shown
-shown live s z =
-    let G = goOf M live (λ t. 0) s z in
+-- the go from s to z at live costs, equal keys by time
+abbrev shownOn : Map → (live : ℕ → Total) (s z : ℕ) → Shown
+shownOn N live s z =
+    let G = goOf N live (λ t. t) s z in
     record {
       log = vertices (logOf G);
       times = map (λ (e : Entry). e .time) (logOf G);
@@ -142,6 +144,9 @@ shown live s z =
       route = routeOf G;
       count = countOf G;
     }
+
+abbrev shown : (live : ℕ → Total) (s z : ℕ) → Shown
+shown = shownOn M
 
 -- the costs f, but x for arc i
 abbrev but : ℕ → Total → (ℕ → Total) → ℕ → Total
@@ -161,19 +166,18 @@ pub searches-are :
     ∷ shown shut 3 2
     ∷ shown costs 4 2
     ∷ []
-    -- Vertices 0, 1 and at last 2 have the key 3, and the smaller number goes first. Arc 4 makes 2 a
-    -- candidate at once, with time 5. Arc 0 gives vertex 0 its time too, and has the smallest number,
-    -- but comes from 1, which is logged later. Arc 6 gives the same as 3. Vertex 4 has no estimate.
+    -- All keys are 3, and the smaller time goes first: 1 before 0, and at last 2. Arc 4 makes 2 a candidate at once, with time 5. Arc 0
+    -- gives vertex 0 its time as arc 1 does, from 1, and has the smaller number. Arc 6 gives the same as 3. Vertex 4 has no estimate.
     ≡ record {
-      log = 3 ∷ 0 ∷ 1 ∷ 2 ∷ [];
-      times = 0 ∷ 2 ∷ 1 ∷ 3 ∷ [];
+      log = 3 ∷ 1 ∷ 0 ∷ 2 ∷ [];
+      times = 0 ∷ 1 ∷ 2 ∷ 3 ∷ [];
       keys = 3 ∷ 3 ∷ 3 ∷ 3 ∷ [];
       elapsed = some 2 ∷ some 1 ∷ some 3 ∷ some 0 ∷ none ∷ [];
       total = some 3;
-      route = 1 ∷ 3 ∷ [];
+      route = 2 ∷ 0 ∷ 3 ∷ [];
       count = 4;
     }
-    -- arc 1 closed: 0 is logged after 1, so that arc 0 is taken
+    -- arc 1 closed: the same
     ∷ record {
       log = 3 ∷ 1 ∷ 0 ∷ 2 ∷ [];
       times = 0 ∷ 1 ∷ 2 ∷ 3 ∷ [];
@@ -185,23 +189,23 @@ pub searches-are :
     }
     -- arcs 3 and 6 delayed
     ∷ record {
-      log = 3 ∷ 0 ∷ 1 ∷ 2 ∷ [];
-      times = 0 ∷ 2 ∷ 1 ∷ 4 ∷ [];
+      log = 3 ∷ 1 ∷ 0 ∷ 2 ∷ [];
+      times = 0 ∷ 1 ∷ 2 ∷ 4 ∷ [];
       keys = 3 ∷ 3 ∷ 3 ∷ 4 ∷ [];
       elapsed = some 2 ∷ some 1 ∷ some 4 ∷ some 0 ∷ none ∷ [];
       total = some 4;
-      route = 1 ∷ 6 ∷ [];
+      route = 2 ∷ 0 ∷ 6 ∷ [];
       count = 4;
     }
-    -- to 0, which ties with 1 and goes first
+    -- to 0, which ties with 1 and goes last
     ∷ record {
-      log = 3 ∷ 0 ∷ [];
-      times = 0 ∷ 2 ∷ [];
-      keys = 2 ∷ 2 ∷ [];
-      elapsed = some 2 ∷ none ∷ none ∷ some 0 ∷ none ∷ [];
+      log = 3 ∷ 1 ∷ 0 ∷ [];
+      times = 0 ∷ 1 ∷ 2 ∷ [];
+      keys = 2 ∷ 2 ∷ 2 ∷ [];
+      elapsed = some 2 ∷ some 1 ∷ none ∷ some 0 ∷ none ∷ [];
       total = some 2;
-      route = 1 ∷ [];
-      count = 2;
+      route = 2 ∷ 0 ∷ [];
+      count = 3;
     }
     -- over all five vertices, with an end that was first a candidate at 16
     ∷ record {
@@ -225,8 +229,8 @@ pub searches-are :
     }
     -- no path is open
     ∷ record {
-      log = 3 ∷ 0 ∷ 1 ∷ [];
-      times = 0 ∷ 2 ∷ 1 ∷ [];
+      log = 3 ∷ 1 ∷ 0 ∷ [];
+      times = 0 ∷ 1 ∷ 2 ∷ [];
       keys = 3 ∷ 3 ∷ 3 ∷ [];
       elapsed = some 2 ∷ some 1 ∷ none ∷ some 0 ∷ none ∷ [];
       total = none;
@@ -240,12 +244,52 @@ unfolding goOf estimate direct vertices logOf totalOf routeOf countOf history ru
     below-or offered offerVia timeIn totalIn wayIn back backStep firstVia firstBelow is
 searches-are = refl
 
--- the bounds of the counts: within the total 3, or 2 of the search to 0; and what open arcs reach and an estimate has
-pub bounds-are :
-    countBelow (λ v. noMore (timeOf M costs 3 v ⊕ estimateOf M 2 v) (some 3)) 5
-    ∷ countBelow (λ v. noMore (timeOf M costs 3 v ⊕ estimateOf M 0 v) (some 2)) 5
-    ∷ countBelow (λ v. isNumber (timeOf M shut 3 v ⊕ estimateOf M 2 v)) 5
+-- A5's figures, with these vertices in their order: within the total 3, or 2 of the search to 0; and what open arcs reach and an estimate
+-- has
+abbrev figure : (live : ℕ → Total) (s z : ℕ) → (Total → Bool) → ℕ × List ℕ
+figure live s z p =
+    let passes : ℕ → Bool = λ v. p (timeOf M live s v ⊕ estimateOf M z v) in
+    (countBelow passes 5, inOrder (timeOf M live s) (estimateOf M z) passes 5)
+
+pub figures-are :
+    figure costs 3 2 (λ x. noMore x (some 3))
+    ∷ figure costs 3 0 (λ x. noMore x (some 2))
+    ∷ figure shut 3 2 isNumber
     ∷ []
-    ≡ 4 ∷ 3 ∷ 3 ∷ []
-unfolding estimate direct dist countBelow filter range noMore isNumber
-bounds-are = refl
+    ≡ (4, 3 ∷ 1 ∷ 0 ∷ 2 ∷ [])
+    ∷ (3, 3 ∷ 1 ∷ 0 ∷ [])
+    ∷ (3, 3 ∷ 1 ∷ 0 ∷ [])
+    ∷ []
+unfolding estimate direct dist countBelow filter range noMore isNumber inOrder sorted insert sooner smaller-or
+figures-are = refl
+
+-- ---- ties
+
+-- 2–1–1, 0–1–2, 0–2–1, 1–3–1, 0–4–1, 4–1–1: on the way from 0 to 3 all keys are 3. 2 and 4 tie in time too; 1, of a smaller number, is
+-- later. Into 1 lead the arcs 0, 1 and 5 at its time.
+abbrev tiedArcs : List (ℕ × ℕ × ℕ)
+tiedArcs = (2, 1, 1) ∷ (0, 1, 2) ∷ (0, 2, 1) ∷ (1, 3, 1) ∷ (0, 4, 1) ∷ (4, 1, 1) ∷ []
+
+abbrev tiedArc : ℕ → ℕ × ℕ × ℕ
+tiedArc i = getD tiedArcs i (0, 0, 0)
+
+abbrev tied : Map
+tied = record {
+  vertices = 5;
+  order = λ i. i;
+  base = record { arcs = length tiedArcs; tail = λ i. tiedArc i .0; head = λ i. tiedArc i .1; cost = λ i. some (tiedArc i .2) };
+}
+
+pub ties-are : shownOn tied (tied .base .cost) 0 3
+    ≡ record {
+      log = 0 ∷ 2 ∷ 4 ∷ 1 ∷ 3 ∷ [];
+      times = 0 ∷ 1 ∷ 1 ∷ 2 ∷ 3 ∷ [];
+      keys = 3 ∷ 3 ∷ 3 ∷ 3 ∷ 3 ∷ [];
+      elapsed = some 0 ∷ some 2 ∷ some 1 ∷ some 3 ∷ some 1 ∷ [];
+      total = some 3;
+      route = 2 ∷ 0 ∷ 3 ∷ [];
+      count = 5;
+    }
+unfolding goOf estimate direct vertices logOf totalOf routeOf countOf history run extend hasGoal push next bestBelow consider better before
+    below-or offered offerVia timeIn totalIn wayIn back backStep firstVia firstBelow is
+ties-are = refl

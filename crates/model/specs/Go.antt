@@ -6,13 +6,14 @@ use mathlib.Core.List.{List, []}
 use Prim.Native.Nat.{_≤_, ℕ}
 use lib.Dec.{eqb, leb, ltb}
 use lib.ListN.{getD, length, take}
-use Rattle.graph.specs.Total.{Total, _⊕_, isNumber, noMore}
+use Rattle.graph.specs.Total.{Total, isNumber, noMore}
 use Rattle.graph.specs.Least.{anyBelow}
 use Rattle.graph.specs.Lists.{countBelow}
 use Rattle.graph.specs.Reach.{reaches}
 use Rattle.graph.specs.Route.{Leads, totalOver}
 use Rattle.graph.specs.Search.{Entry, Problem, countOf, history, logOf, routeOf, timeIn, totalOf, vertices}
 use Rattle.graph.specs.Walk.{startAt}
+use Rattle.graph.specs.LogOrder.{inOrder, keyOf}
 use Rattle.graph.specs.Map.{Map, fills, liveNet, timeOf}
 use Rattle.graph.specs.Go.{goOf}
 use Rattle.model.specs.Word.{ofWord, word}
@@ -36,13 +37,13 @@ goRefusal k s r l =
 abbrev pub liveOf : (live : List ℕ) → ℕ → Total
 liveOf live i = ofWord (getD live i 0)
 
--- "on equal keys the smaller junction number": nothing of the time decides before it
-abbrev pub byNumber : ℕ → ℕ
-byNumber t = 0
+-- document 02, A5: "Among equal keys the smaller time is now logged first, then the smaller junction number."
+abbrev pub byTime : ℕ → ℕ
+byTime t = t
 
 -- the search log's problem, at the live times and with the unit's estimates
 abbrev pub searchOf : Map → (live : List ℕ) → (start target : ℕ) → Problem
-searchOf M live s z = goOf M (liveOf live) byNumber s z
+searchOf M live s z = goOf M (liveOf live) byTime s z
 
 -- "the start and .. every head of an open road from a logged junction other than the target"
 unfoldable pub goAsks : Map → (ℕ → Total) → (start target : ℕ) → List Entry → ℕ → Bool
@@ -95,7 +96,7 @@ plainSearch M live s z = record {
   start = startAt s;
   pot = leastBase M z;
   goal = λ v. eqb v z;
-  tie = byNumber;
+  tie = byTime;
 }
 
 -- by "the least total, at the times in force, over chains of open roads"; "15 also with count and log"
@@ -110,22 +111,52 @@ goTold M m j = let z = targetOf (m .target) in foundTold (timeOf M (m .live) j z
 
 -- ---- what is right about it
 
--- a route, answered with total T, count c and k roads, that stand first in the route area
-pub record RouteRight (M : Map) (live : ℕ → Total) (start target T c k : ℕ) (area : List ℕ) : Type 0 where
+-- "least time from the start plus estimate": both are least totals (law: `Proof3.least-totals`)
+abbrev pub keyFrom : Map → (live : ℕ → Total) → (start target : ℕ) → ℕ → Total
+keyFrom M live s z = keyOf (timeOf M live s) (leastBase M z)
+
+-- document 02, A5: "no more than the total"
+abbrev pub withinTotal : Map → (live : ℕ → Total) → (start target total : ℕ) → ℕ → Bool
+withinTotal M live s z T v = noMore (keyFrom M live s z v) (some T)
+
+-- document 02, A5: "reached by open roads that have an estimate"
+abbrev pub reachedEstimated : Map → (live : ℕ → Total) → (start target : ℕ) → ℕ → Bool
+reachedEstimated M live s z v = isNumber (timeOf M live s v) && isNumber (leastBase M z v)
+
+-- of the junctions that pass a test: how many they are, and their list "sorted by key, time, number"
+abbrev pub effort : Map → (ℕ → Bool) → ℕ
+effort M p = countBelow p (M .vertices)
+
+abbrev pub effortLog : Map → (live : ℕ → Total) → (start target : ℕ) → (ℕ → Bool) → List ℕ
+effortLog M live s z p = inOrder (timeOf M live s) (leastBase M z) p (M .vertices)
+
+-- a route, answered with total T, count c and k roads; roads and log stand first in their areas
+pub record RouteRight (M : Map) (live : ℕ → Total) (start target T c k : ℕ) (areas : Lent) : Type 0 where
   -- "a chain of open roads from the start asked to the target in force, answered with its total at the times in force"
-  pub leads : Leads (liveNet M live) start (take k area) target
-  pub total : totalOver (liveNet M live) (take k area) ≡ some T
+  pub leads : Leads (liveNet M live) start (take k (areas .route)) target
+  pub total : totalOver (liveNet M live) (take k (areas .route)) ≡ some T
   -- "Every other such chain between the same ends has at least as large a total."
   pub least : (t : ℕ) → LivePath M live start target t → T ≤ t
-  -- "The count .. is at most the number of junctions whose least time from the start plus estimate is no more than the route's total."
-  pub count : c ≤ countBelow (λ v. noMore (timeOf M live start v ⊕ leastBase M target v) (some T)) (M .vertices)
+  -- document 02, A5: "The count of a found route is then exactly the number of junctions whose least time from the start plus estimate is
+  -- no more than the total."
+  pub count : c ≡ effort M (withinTotal M live start target T)
+  -- "The log is those junctions sorted by key, time, number."
+  pub log : take c (areas .log) ≡ effortLog M live start target (withinTotal M live start target T)
+
+-- no route, answered with count c; the log stands first in its area
+pub record LostRight (M : Map) (live : ℕ → Total) (start target c : ℕ) (areas : Lent) : Type 0 where
+  -- "A go that passes the earlier questions says 'no chain' exactly when there is none": only then
+  pub no-chain : (t : ℕ) → LivePath M live start target t → ⊥
+  -- document 02, A5: "Where no chain exists, it is exactly the junctions reached by open roads that have an estimate."
+  pub count : c ≡ effort M (reachedEstimated M live start target)
+  pub log : take c (areas .log) ≡ effortLog M live start target (reachedEstimated M live start target)
 
 -- from the start to the target in force, the lengths of the two areas being r and l
 pub record TripRight (M : Map) (m : Machine) (start r l target : ℕ) (u : Step) : Type 0 where
   -- "Every route is the one document 01 defines"
-  pub found : (T c k : ℕ) → u .answer ≡ Gone T c k → RouteRight M (m .live) start target T c k (u .lent .route)
-  -- "A go that passes the earlier questions says 'no chain' exactly when there is none": only then, and always then
-  pub lost : (c : ℕ) → u .answer ≡ Refused (NoPath c) → (t : ℕ) → LivePath M (m .live) start target t → ⊥
+  pub found : (T c k : ℕ) → u .answer ≡ Gone T c k → RouteRight M (m .live) start target T c k (u .lent)
+  pub lost : (c : ℕ) → u .answer ≡ Refused (NoPath c) → LostRight M (m .live) start target c (u .lent)
+  -- and always where there is none
   pub told : goRefusal (knownTo M m) start r l ≡ none → ((t : ℕ) → LivePath M (m .live) start target t → ⊥)
       → (c : ℕ) × (u .answer ≡ Refused (NoPath c))
 

@@ -1,28 +1,28 @@
--- One go from a good state: its answer and its route are right (`go-right`), the plain machine tells the same (`go-told`), and the two lent
--- areas keep their lengths (`go-lengths`). Assumes nothing.
+-- One go from a good state: its answer, its route and its log are right (`go-right`), the plain machine tells the same (`go-told`), and the
+-- two lent areas keep their lengths (`go-lengths`). Assumes nothing.
 use mathlib.Core.Path.{_∙_, _≡_, ap, refl, subst, sym}
 use mathlib.Core.Logic.{_⊎_, inl, inr}
 use mathlib.Core.Bool.{Bool, _&&_, false, true}
 use mathlib.Core.Option.{Option, none, some}
 use mathlib.Core.List.{List}
-use Prim.Native.Nat.{_<_, _≤_, suc, zero, ℕ}
+use Prim.Native.Nat.{_<_, _≤_, ℕ}
 use lib.Dec.{leb, lit<, ltb}
 use lib.ListN.{length, length-reverse, take}
 use native.Mathlib.Omega.{arith}
-use Rattle.graph.specs.Total.{Total, _⊕_, decideOption, noMore, none-some, some-some, true-false}
+use Rattle.graph.specs.Total.{Total, decideOption, none-some, some-some, true-false}
 use Rattle.graph.specs.Least.{least-unique}
-use Rattle.graph.specs.Lists.{countBelow, filter, range}
 use Rattle.graph.specs.Route.{listed-path, path-listed}
 use Rattle.graph.specs.Search.{Problem, countOf, history, logOf, routeOf, totalOf, vertices}
 use Rattle.graph.specs.Map.{Map, estimateOf, estimateOf-dist, liveNet, timeOf, timeOf-least}
 use Rattle.graph.specs.Go.{Demand, go-meets, go-well-formed, goOf}
+use Rattle.graph.specs.Effort.{Effort, go-effort}
 use Rattle.graph.specs.Complete.{history-reached, length-le, length-vertices}
 use Rattle.model.specs.Types.{Absent, Answer, At, Gone, LentLengths, NoJunction, NoPath, NoTarget, Refusal, Refused, Target}
 use Rattle.model.specs.Card.{ask, mapOn}
 use Rattle.model.specs.State.{Lent, State, Step, first, unless}
 use Rattle.model.specs.Machine.{Known, LivePath, Machine, isAt, knownTo, leastBase, targetOf}
-use Rattle.model.specs.Go.{GoRight, RouteRight, TripRight, byNumber, foundTold, goAnswer, goMade, goRefusal, goRoute, liveOf}
-use Rattle.model.specs.Go.{goTold, plainSearch, searchOf}
+use Rattle.model.specs.Go.{GoRight, LostRight, RouteRight, TripRight, byTime, foundTold, goAnswer, goMade, goRefusal, goRoute}
+use Rattle.model.specs.Go.{goTold, liveOf, plainSearch, searchOf}
 use Rattle.model.specs.Calls.{Call, askedOf, goCall, refusalOf, step}
 use Rattle.model.specs.Demand3.{Same}
 use Rattle.model.specs.Laws.{first-length, first-take}
@@ -64,7 +64,15 @@ module _ {card : List ℕ} {s : State} (g : Good card s) where
 
   pub go-demand : (j z : ℕ) → j < mapOn card .vertices → z < mapOn card .vertices
       → Demand (mapOn card) (liveOf (s .areas .live)) j z (searchOf (mapOn card) (s .areas .live) j z)
-  go-demand j z lj lz = go-meets (card-facts card (g .accepted) .valid) (good-slower g) byNumber lj lz
+  go-demand j z lj lz = go-meets (card-facts card (g .accepted) .valid) (good-slower g) byTime lj lz
+
+  pub go-figures : (j z : ℕ) → j < mapOn card .vertices → z < mapOn card .vertices
+      → Effort (mapOn card .vertices) (timeOf (mapOn card) (liveOf (s .areas .live)) j) (leastBase (mapOn card) z)
+      (searchOf (mapOn card) (s .areas .live) j z)
+  go-figures j z lj lz =
+      let c = card-facts card (g .accepted) in
+      go-effort (c .valid) (c .positive) (good-slower g) lj lz byTime (λ t. refl) (leastBase (mapOn card) z) (λ v lv.
+      estimate-is z v lz lv)
 
   pub total-is : (j z : ℕ) → j < mapOn card .vertices → z < mapOn card .vertices
       → totalOf (searchOf (mapOn card) (s .areas .live) j z) ≡ timeOf (mapOn card) (liveOf (s .areas .live)) j z
@@ -99,8 +107,8 @@ gone-is (some t) c k {T} {c'} {k'} e = parts refl e
     parts : {a : Answer} → a ≡ Gone t c k → a ≡ Gone T c' k' → (some t ≡ some T) × (c ≡ c') × (k ≡ k')
     parts p q = (cc, cc, cc)
 
-lost-is : (x : Total) (c k : ℕ) {q : Refusal} → goAnswer x c k ≡ Refused q → x ≡ none
-lost-is none c k e = refl
+lost-is : (x : Total) (c k : ℕ) {c' : ℕ} → goAnswer x c k ≡ Refused (NoPath c') → (x ≡ none) × (c ≡ c')
+lost-is none c k e = (refl, ap (λ (r : Refusal). r .count) (refused-is refl e))
 lost-is (some t) c k e = absurd (gone-not-refused e refl)
 
 -- a refusal by a question before the k-th
@@ -120,52 +128,38 @@ before-15 k j r l =
 not-15 : {p : Refusal} {c : ℕ} → p .question < 15 → p ≡ NoPath c → ⊥
 not-15 {p} {c} h e = let z : p .question ≡ 15 = ap (λ (r : Refusal). r .question) e in omega arith
 
--- ---- counting depends on the numbers below n
+-- ---- one go, of any step that answers by the search and writes its route and its log first
 
-module _ (p q : ℕ → Bool) where
-  filter-same : (n : ℕ) → ((v : ℕ) → v < n → p v ≡ q v) → filter p (range n) ≡ filter q (range n)
-  unfolding filter range
-  filter-same zero h = refl
-  filter-same (suc n) h =
-      let r = filter-same n (λ v l. h v (omega arith)) in
-      rw (h n (omega arith), r)
-
-  count-below-same : (n : ℕ) → ((v : ℕ) → v < n → p v ≡ q v) → countBelow p n ≡ countBelow q n
-  unfolding countBelow
-  count-below-same n h = ap length (filter-same n h)
-
--- ---- one go, of any step that answers by the search and writes its route first
+-- the log of c entries that stands first in an area
+pub logged-first : (G : Problem) {c : ℕ} (area : List ℕ) → countOf G ≡ c → take c (first (vertices (logOf G)) area) ≡ vertices (logOf G)
+unfolding countOf
+logged-first G area e = rw (← e, ← length-vertices (logOf G)) (first-take (vertices (logOf G)) area)
 
 module _ {M : Map} {live : ℕ → Total} {s z : ℕ} {G : Problem} (D : Demand M live s z G)
-    (estimates : (v : ℕ) → v < M .vertices → estimateOf M z v ≡ leastBase M z v) (u : Step) (area : List ℕ)
+    (E : Effort (M .vertices) (timeOf M live s) (leastBase M z) G) (u : Step) (l : Lent)
     (answer-is : u .answer ≡ goAnswer (totalOf G) (countOf G) (length (routeOf G)))
-    (route-is : u .lent .route ≡ goRoute (totalOf G) (routeOf G) area) where
-  count-right : (T : ℕ) → totalOf G ≡ some T
-      → countOf G ≤ countBelow (λ v. noMore (timeOf M live s v ⊕ leastBase M z v) (some T)) (M .vertices)
-  count-right T q =
-      let e =
-      count-below-same
-      (λ v. noMore (timeOf M live s v ⊕ estimateOf M z v) (some T))
-      (λ v. noMore (timeOf M live s v ⊕ leastBase M z v) (some T))
-      (M .vertices)
-      (λ v lv. ap (λ (x : Total). noMore (timeOf M live s v ⊕ x) (some T)) (estimates v lv)) in
-      omega (arith, D .count T q, e)
-
-  found-right : (T c k : ℕ) → u .answer ≡ Gone T c k → RouteRight M live s z T c k (u .lent .route)
+    (route-is : u .lent .route ≡ goRoute (totalOf G) (routeOf G) (l .route))
+    (log-is : u .lent .log ≡ first (vertices (logOf G)) (l .log)) where
+  found-right : (T c k : ℕ) → u .answer ≡ Gone T c k → RouteRight M live s z T c k (u .lent)
   found-right T c k e =
-      let p = gone-is (totalOf G) (countOf G) (length (routeOf G)) (sym answer-is ∙ e) in
-      let r : take k (u .lent .route) ≡ routeOf G = rw (route-is, p .0, ← (p .2)) (first-take (routeOf G) area) in
+      let (total-is, count-is, roads-are) = gone-is (totalOf G) (countOf G) (length (routeOf G)) (sym answer-is ∙ e) in
+      let r : take k (u .lent .route) ≡ routeOf G = rw (route-is, total-is, ← roads-are) (first-take (routeOf G) (l .route)) in
       record {
-        leads = rw r (D .route T (p .0) .0);
-        total = rw r (D .route T (p .0) .1);
-        least = λ t w. rw (p .0) at (D .total .bound t (listed-path (liveNet M live) (w .arcs) (w .leads) (w .sums)));
-        count = rw (p .1) at (count-right T (p .0));
+        leads = rw r (D .route T total-is .0);
+        total = rw r (D .route T total-is .1);
+        least = λ t w. rw total-is at (D .total .bound t (listed-path (liveNet M live) (w .arcs) (w .leads) (w .sums)));
+        count = sym count-is ∙ E .count T total-is;
+        log = rw log-is (logged-first G (l .log) count-is ∙ E .log T total-is);
       }
 
-  lost-right : (c : ℕ) → u .answer ≡ Refused (NoPath c) → (t : ℕ) → LivePath M live s z t → ⊥
-  lost-right c e t w =
-      let p = lost-is (totalOf G) (countOf G) (length (routeOf G)) (sym answer-is ∙ e) in
-      rw p at (D .total .bound t (listed-path (liveNet M live) (w .arcs) (w .leads) (w .sums)))
+  lost-right : (c : ℕ) → u .answer ≡ Refused (NoPath c) → LostRight M live s z c (u .lent)
+  lost-right c e =
+      let (total-is, count-is) = lost-is (totalOf G) (countOf G) (length (routeOf G)) (sym answer-is ∙ e) in
+      record {
+        no-chain = λ t w. rw total-is at (D .total .bound t (listed-path (liveNet M live) (w .arcs) (w .leads) (w .sums)));
+        count = sym count-is ∙ E .lost-count total-is;
+        log = rw log-is (logged-first G (l .log) count-is ∙ E .lost-log total-is);
+      }
 
   told-right : ((t : ℕ) → LivePath M live s z t → ⊥) → (c : ℕ) × (u .answer ≡ Refused (NoPath c))
   told-right no-path = go (decideOption (totalOf G))
@@ -189,7 +183,7 @@ module _ {card : List ℕ} {s : State} (g : Good card s) where
       go : (x : Option Refusal) → askedOf card s (goCall j l) ≡ x → Trip (targetOf (s .header .target)) x
       go (some q) h = record {
         found = λ T c k a. absurd (gone-not-refused refl a);
-        lost = λ c a t w.
+        lost = λ c a.
             let asked = sym (asked-is g (goCall j l)) ∙ h in
             let earlier = before-15 (knownTo (mapOn card) (machineOf s)) j (length (l .route)) (length (l .log)) q asked in
             absurd (not-15 earlier (refused-is refl a));
@@ -200,13 +194,12 @@ module _ {card : List ℕ} {s : State} (g : Good card s) where
           let q = go-passed g j (length (l .route)) (length (l .log)) (after-9 g (goCall j l) h) in
           let lz = in-force g (q .target) in
           let D = go-demand g j z (q .start) lz in
-          let E : (v : ℕ) → v < mapOn card .vertices → estimateOf (mapOn card) z v ≡ leastBase (mapOn card) z v =
-          λ v lv. estimate-is g z v lz lv in
+          let E = go-figures g j z (q .start) lz in
           let u = goMade (mapOn card) s j l in
           record {
-            found = found-right D E u (l .route) refl refl;
-            lost = lost-right D E u (l .route) refl refl;
-            told = λ a w. told-right D E u (l .route) refl refl w;
+            found = found-right D E u l refl refl refl;
+            lost = lost-right D E u l refl refl refl;
+            told = λ a w. told-right D E u l refl refl refl w;
           }
 
 -- a go's answer and what stands first in its areas
@@ -252,7 +245,7 @@ log-fits {card} {s} g j z lj lz =
     omega (
       arith,
       length-reverse (history G),
-      length-le (go-well-formed (card-facts card (g .accepted) .valid) (good-slower g) byNumber lj lz) (history-reached G),
+      length-le (go-well-formed (card-facts card (g .accepted) .valid) (good-slower g) byTime lj lz) (history-reached G),
     )
 
 route-length : (x : Total) (r area : List ℕ) → ((t : ℕ) → x ≡ some t → length r ≤ length area) → length (goRoute x r area) ≡ length area

@@ -17,7 +17,7 @@ use Rattle.model.specs.Card.{ask}
 use Rattle.model.specs.State.{Lent, State, Step, leaving}
 use Rattle.model.specs.Machine.{Known, LivePath, Machine, Told, knownTo}
 use Rattle.model.specs.Aim.{aimMade, aimTold}
-use Rattle.model.specs.Go.{goMade, goTold, searchOf}
+use Rattle.model.specs.Go.{effort, effortLog, goMade, goTold, reachedEstimated, searchOf, withinTotal}
 
 -- ---- what is asked: the stops; route and log are lent with it
 
@@ -134,12 +134,35 @@ LegsRight M live a (b ∷ stops) [] area = ⊥
 LegsRight M live a (b ∷ stops) (x ∷ legs) area =
     LegRight M live a b x area × LegsRight M live b stops legs (drop (x .roads) area)
 
--- all legs, and the whole
-pub record JourneyRight (M : Map) (live : ℕ → Total) (stops : List ℕ) (legs : List Leg) (whole : ℕ) (area : List ℕ) : Type 0 where
-  pub legs-right : LegsRight M live (getD stops 0 0) (drop 1 stops) legs area
+-- document 02, A5, of a leg from a to b: its log, of the junctions that pass the test, stands first in the log area
+abbrev pub LegLogged : Map → (ℕ → Total) → (a b : ℕ) → (ℕ → Bool) → (area : List ℕ) → Type 0
+LegLogged M live a b p area = take (effort M p) area ≡ effortLog M live a b p
+
+-- leg k, from 0, of total T; and one without a chain
+abbrev pub FoundLogged : Map → (ℕ → Total) → (stops : List ℕ) → (k T : ℕ) → (area : List ℕ) → Type 0
+FoundLogged M live stops k T =
+    let a = getD stops k 0 in
+    let b = getD stops (suc k) 0 in
+    LegLogged M live a b (withinTotal M live a b T)
+
+abbrev pub LostLogged : Map → (ℕ → Total) → (stops : List ℕ) → (k : ℕ) → (area : List ℕ) → Type 0
+LostLogged M live stops k =
+    let a = getD stops k 0 in
+    let b = getD stops (suc k) 0 in
+    LegLogged M live a b (reachedEstimated M live a b)
+
+-- leg k of some
+abbrev pub legAt : List Leg → ℕ → Leg
+legAt legs k = getD legs k (record { total = 0; roads = 0 })
+
+-- all legs, the whole, and the log of the last leg
+pub record JourneyRight (M : Map) (live : ℕ → Total) (stops : List ℕ) (legs : List Leg) (whole : ℕ) (areas : Lent) : Type 0 where
+  pub legs-right : LegsRight M live (getD stops 0 0) (drop 1 stops) legs (areas .route)
   pub whole-is : whole ≡ wholeOf legs
   -- "The whole is at most that of every other chain of open roads that meets the stops in that order, at the live times in force."
   pub at-most : (t : ℕ) → Meeting (liveNet M live) stops t → whole ≤ t
+  -- the log area holds the last leg's log
+  pub log : (k : ℕ) → suc k ≡ length legs → FoundLogged M live stops k (legAt legs k .total) (areas .log)
 
 -- leg k, from 0, has no chain of open roads
 abbrev pub NoChain : Map → (ℕ → Total) → (stops : List ℕ) → (k : ℕ) → Type 0
@@ -151,10 +174,15 @@ pub record FirstLost (M : Map) (live : ℕ → Total) (stops : List ℕ) (k : �
   pub lost : NoChain M live stops k
   pub first : (i : ℕ) → i < k → NoChain M live stops i → ⊥
 
+-- a journey that leg k ended, and the log of that leg
+pub record StrandedRight (M : Map) (live : ℕ → Total) (stops : List ℕ) (k : ℕ) (areas : Lent) : Type 0 where
+  pub first-lost : FirstLost M live stops k
+  pub log : LostLogged M live stops k (areas .log)
+
 pub record StopsRight (M : Map) (m : Machine) (stops : List ℕ) (l : Lent) (u : Step) : Type 0 where
-  pub found : (legs : List Leg) (whole : ℕ) → u .answer ≡ Stopped legs whole → JourneyRight M (m .live) stops legs whole (u .lent .route)
+  pub found : (legs : List Leg) (whole : ℕ) → u .answer ≡ Stopped legs whole → JourneyRight M (m .live) stops legs whole (u .lent)
   -- 17 exactly with the first leg that has no chain
-  pub lost : (k : ℕ) → u .answer ≡ Refused (NoLeg k) → FirstLost M (m .live) stops k
+  pub lost : (k : ℕ) → u .answer ≡ Refused (NoLeg k) → StrandedRight M (m .live) stops k (u .lent)
   pub told : stopsRefusal (knownTo M m) stops (length (l .route)) (length (l .log)) ≡ none
       → (k : ℕ) → FirstLost M (m .live) stops k → u .answer ≡ Refused (NoLeg k)
 

@@ -15,26 +15,27 @@ use native.Mathlib.Omega.{arith}
 use Rattle.graph.specs.Total.{Total, _⊕_, none-some, ⊕-some}
 use Rattle.graph.specs.Least.{IsLeast}
 use Rattle.graph.specs.Route.{listed-least, listed-path, path-listed}
-use Rattle.graph.specs.Search.{Problem, routeOf, totalOf}
+use Rattle.graph.specs.Search.{Problem, logOf, routeOf, totalOf, vertices}
 use Rattle.graph.specs.Stops.{Below, whole-at-most, wholeFrom}
 use Rattle.graph.specs.Map.{Map, liveNet, timeOf, timeOf-least}
 use Rattle.graph.specs.Go.{Demand}
+use Rattle.graph.specs.Effort.{Effort}
 use Rattle.model.specs.Types.{Answer, Leg, LentLengths, NoJunction, NoLeg, Refusal, Refused, StopCount, Stopped}
 use Rattle.model.specs.Limits.{fewestStops, mostStops}
 use Rattle.model.specs.Card.{mapOn}
-use Rattle.model.specs.State.{Lent, State, Step, unless}
-use Rattle.model.specs.Machine.{Known, LivePath, Machine, knownTo}
+use Rattle.model.specs.State.{Lent, State, Step, first, unless}
+use Rattle.model.specs.Machine.{Known, LivePath, Machine, knownTo, leastBase}
 use Rattle.model.specs.Go.{foundTold, goRoute, liveOf, plainSearch, searchOf}
-use Rattle.model.specs.Stops.{FirstLost, Journey, JourneyRight, LegRight, LegsRight, NoChain, PlainJourney, StopsRight, allBelow}
-use Rattle.model.specs.Stops.{journey, legMade, past, plainJourney, plainLeg, stopsAnswer, stopsMade, stopsRefusal}
-use Rattle.model.specs.Stops.{stopsTold, wholeOf, withLeg}
+use Rattle.model.specs.Stops.{FirstLost, FoundLogged, Journey, JourneyRight, LegRight, LegsRight, LostLogged, NoChain, PlainJourney}
+use Rattle.model.specs.Stops.{StopsRight, StrandedRight, allBelow, journey, legAt, legMade, past, plainJourney, plainLeg}
+use Rattle.model.specs.Stops.{stopsAnswer, stopsMade, stopsRefusal, stopsTold, wholeOf, withLeg}
 use Rattle.model.specs.Calls.{askedOf, step, stopsCall}
 use Rattle.model.specs.Demand3.{Same}
 use Rattle.model.specs.Laws.{first-take}
 use Rattle.model.specs.Accept.{card-facts}
 use Rattle.model.specs.Good.{Good, StopsPassed, after-9, aim-good, below-further, leg-good, stops-passed}
-use Rattle.model.specs.GoProof.{SameLengths, asked-before, asked-is, go-demand, go-lengths, go-told, machineOf, refused-is}
-use Rattle.model.specs.GoProof.{route-short, search-is, told-next, total-is}
+use Rattle.model.specs.GoProof.{SameLengths, asked-before, asked-is, go-demand, go-figures, go-lengths, go-told, logged-first}
+use Rattle.model.specs.GoProof.{machineOf, refused-is, route-short, search-is, told-next, total-is}
 
 -- ---- the machine makes the same legs
 
@@ -157,14 +158,18 @@ module _ {card : List ℕ} where
 
 -- ---- how a journey ends: with its last leg, or at the first one that has no chain
 
-pub data Ended (M : Map) (live : ℕ → Total) (a : ℕ) (stops : List ℕ) (j : Journey) : Type 0 where
+-- j is the journey from a by the stops; `log` is the log area that it was lent
+pub data Ended (M : Map) (live : ℕ → Total) (a : ℕ) (stops log : List ℕ) (j : Journey) : Type 0 where
   arrived : j .complete ≡ true → LegsRight M live a stops (j .legs) (j .lent .route)
-      → wholeFrom (timeOf M live) a stops ≡ some (wholeOf (j .legs)) → Ended M live a stops j
-  left-off : j .complete ≡ false → FirstLost M live (a ∷ stops) (length (j .legs)) → Ended M live a stops j
+      → wholeFrom (timeOf M live) a stops ≡ some (wholeOf (j .legs))
+      → ((k : ℕ) → suc k ≡ length (j .legs) → FoundLogged M live (a ∷ stops) k (legAt (j .legs) k .total) (j .lent .log))
+      → (length (j .legs) ≡ 0 → j .lent .log ≡ log) → Ended M live a stops log j
+  left-off : j .complete ≡ false → FirstLost M live (a ∷ stops) (length (j .legs))
+      → LostLogged M live (a ∷ stops) (length (j .legs)) (j .lent .log) → Ended M live a stops log j
 
 -- one leg more at the beginning
-module _ {M : Map} {live : ℕ → Total} {a b : ℕ} {G : Problem} (D : Demand M live a b G) (timed : totalOf G ≡ timeOf M live a b)
-    (stops : List ℕ) where
+module _ {M : Map} {live : ℕ → Total} {a b : ℕ} {G : Problem} (D : Demand M live a b G)
+    (E : Effort (M .vertices) (timeOf M live a) (leastBase M b) G) (timed : totalOf G ≡ timeOf M live a b) (stops : List ℕ) where
   no-chain : totalOf G ≡ none → (t : ℕ) → LivePath M live a b t → ⊥
   no-chain e t w = rw e at (D .total .bound t (listed-path (liveNet M live) (w .arcs) (w .leads) (w .sums)))
 
@@ -188,20 +193,32 @@ module _ {M : Map} {live : ℕ → Total} {a b : ℕ} {G : Problem} (D : Demand 
       earlier zero h lost = lost t (path-listed (D .total .attained t e))
       earlier (suc i) h lost = f .first i (omega arith) lost
 
-  ended-leg : (x : Total) (u : Step) (area : List ℕ) (j : Journey) → totalOf G ≡ x → u .lent .route ≡ goRoute x (routeOf G) area
-      → Ended M live b stops j → Ended M live a (b ∷ stops) (withLeg x (length (routeOf G)) u j)
-  ended-leg none u area j e r on =
+  -- the last leg's log: its own, if no leg comes after it
+  log-later : (t : ℕ) (legs : List Leg) (own area log : List ℕ) → totalOf G ≡ some t → own ≡ first (vertices (logOf G)) area
+      → ((k : ℕ) → suc k ≡ length legs → FoundLogged M live (b ∷ stops) k (legAt legs k .total) log) → (length legs ≡ 0 → log ≡ own)
+      → (k : ℕ) → suc k ≡ suc (length legs)
+      → FoundLogged M live (a ∷ b ∷ stops) k (legAt (record { total = t; roads = length (routeOf G) } ∷ legs) k .total) log
+  log-later t legs own area log e own-is later stays zero h =
+      rw (stays (omega arith), own-is) (logged-first G area (E .count t e) ∙ E .log t e)
+  log-later t legs own area log e own-is later stays (suc k) h = later k (omega arith)
+
+  ended-leg : (x : Total) (u : Step) (l : Lent) (j : Journey) → totalOf G ≡ x → u .lent .route ≡ goRoute x (routeOf G) (l .route)
+      → u .lent .log ≡ first (vertices (logOf G)) (l .log) → Ended M live b stops (u .lent .log) j
+      → Ended M live a (b ∷ stops) (l .log) (withLeg x (length (routeOf G)) u j)
+  ended-leg none u l j e r g on =
       left-off refl (record { inside = omega arith; lost = no-chain e; first = λ i h. absurd (not-suc-le-zero h) })
-  ended-leg (some t) u area j e r (left-off c f) = left-off c (lost-later t (length (j .legs)) e f)
-  ended-leg (some t) u area j e r (arrived c legs whole) =
-      let roads : take (length (routeOf G)) (u .lent .route) ≡ routeOf G = rw r (first-take (routeOf G) area) in
+      (rw g (logged-first G (l .log) (E .lost-count e) ∙ E .lost-log e))
+  ended-leg (some t) u l j e r g (left-off c f k) = left-off c (lost-later t (length (j .legs)) e f) k
+  ended-leg (some t) u l j e r g (arrived c legs whole later stays) =
+      let roads : take (length (routeOf G)) (u .lent .route) ≡ routeOf G = rw r (first-take (routeOf G) (l .route)) in
       let rest = drop-append-seam (routeOf G) (j .lent .route) in
       arrived c (rw roads (leg-right t (j .lent .route) e, rw rest legs)) (ap₂ _⊕_ (sym timed ∙ e) whole)
+      (log-later t (j .legs) (u .lent .log) (l .log) (j .lent .log) e g later stays) (λ h. absurd (omega arith))
 
 module _ {card : List ℕ} where
   ended : (s : State) (a : ℕ) (stops : List ℕ) (l : Lent) → Good card s → a < mapOn card .vertices → Below (mapOn card .vertices) stops
-      → Ended (mapOn card) (liveOf (s .areas .live)) a stops (journey (mapOn card) s a stops l)
-  ended s a [] l g la below = arrived refl tt refl
+      → Ended (mapOn card) (liveOf (s .areas .live)) a stops (l .log) (journey (mapOn card) s a stops l)
+  ended s a [] l g la below = arrived refl tt refl (λ k h. absurd (omega arith)) (λ h. refl)
   ended s a (b ∷ stops) l g la below =
       let M = mapOn card in
       let lb = below b (List·Memᴰ·head refl) in
@@ -210,7 +227,7 @@ module _ {card : List ℕ} where
       let u = legMade M s a b l in
       let on = ended (u .state) b stops (past k (u .lent)) (leg-good g a b l lb) lb (λ v w. below v (List·Memᴰ·tail w)) in
       let j = journey M (u .state) b stops (past k (u .lent)) in
-      ended-leg (go-demand g a b la lb) (total-is g a b la lb) stops (totalOf G) u (l .route) j refl refl on
+      ended-leg (go-demand g a b la lb) (go-figures g a b la lb) (total-is g a b la lb) stops (totalOf G) u l j refl refl refl on
 
 -- ---- answers
 
@@ -260,27 +277,30 @@ each-leg leg a (b ∷ stops) t e (suc k) h =
     each-leg leg b stops (p .1) (p .3) k (omega (arith, h))
 
 module _ {M : Map} {live : ℕ → Total} (least : (a b : ℕ) → IsLeast (LivePath M live a b) (timeOf M live a b)) {a : ℕ} {stops : List ℕ}
-    {j : Journey} (below : Below (M .vertices) (a ∷ stops)) where
-  journey-right : Ended M live a stops j → (legs : List Leg) (whole : ℕ) → stopsAnswer (j .complete) (j .legs) ≡ Stopped legs whole
-      → JourneyRight M live (a ∷ stops) legs whole (j .lent .route)
-  journey-right (left-off c f) legs whole e = absurd (stopped-not-refused (answer-left-off (j .complete) (j .legs) c) e)
-  journey-right (arrived c r w) legs whole e =
+    {log : List ℕ} {j : Journey} (below : Below (M .vertices) (a ∷ stops)) where
+  journey-right : Ended M live a stops log j → (legs : List Leg) (whole : ℕ) → stopsAnswer (j .complete) (j .legs) ≡ Stopped legs whole
+      → JourneyRight M live (a ∷ stops) legs whole (j .lent)
+  journey-right (left-off c f k) legs whole e = absurd (stopped-not-refused (answer-left-off (j .complete) (j .legs) c) e)
+  journey-right (arrived c r w k stays) legs whole e =
       let (legs-are, whole-is) = stopped-is (answer-arrived (j .complete) (j .legs) c) e in
       record {
         legs-right = subst (λ (x : List Leg). LegsRight M live a stops x (j .lent .route)) legs-are r;
         whole-is = sym whole-is ∙ ap wholeOf legs-are;
         at-most = λ t m. rw (w ∙ ap some whole-is) at (whole-at-most (liveNet M live) (λ x y lx ly. least x y) a stops below t m);
+        log = rw legs-are at k;
       }
 
-  lost-first : Ended M live a stops j → (k : ℕ) → stopsAnswer (j .complete) (j .legs) ≡ Refused (NoLeg k) → FirstLost M live (a ∷ stops) k
-  lost-first (arrived c r w) k e = absurd (stopped-not-refused e (answer-arrived (j .complete) (j .legs) c))
-  lost-first (left-off c f) k e =
+  lost-first : Ended M live a stops log j → (k : ℕ) → stopsAnswer (j .complete) (j .legs) ≡ Refused (NoLeg k)
+      → StrandedRight M live (a ∷ stops) k (j .lent)
+  lost-first (arrived c r w k stays) i e = absurd (stopped-not-refused e (answer-arrived (j .complete) (j .legs) c))
+  lost-first (left-off c f logged) k e =
       let i-is = no-leg-is (answer-left-off (j .complete) (j .legs) c) e in
-      subst (λ (i : ℕ). FirstLost M live (a ∷ stops) i) i-is f
+      subst (λ (i : ℕ). StrandedRight M live (a ∷ stops) i (j .lent)) i-is (record { first-lost = f; log = logged })
 
-  first-told : Ended M live a stops j → (k : ℕ) → FirstLost M live (a ∷ stops) k → stopsAnswer (j .complete) (j .legs) ≡ Refused (NoLeg k)
-  first-told (left-off c f) k h = answer-left-off (j .complete) (j .legs) c ∙ ap (λ (i : ℕ). Refused (NoLeg i)) (first-one f h)
-  first-told (arrived c r w) k h =
+  first-told : Ended M live a stops log j → (k : ℕ) → FirstLost M live (a ∷ stops) k
+      → stopsAnswer (j .complete) (j .legs) ≡ Refused (NoLeg k)
+  first-told (left-off c f logged) k h = answer-left-off (j .complete) (j .legs) c ∙ ap (λ (i : ℕ). Refused (NoLeg i)) (first-one f h)
+  first-told (arrived c r w logged stays) k h =
       let (x, e) = each-leg (timeOf M live) a stops (wholeOf (j .legs)) w k (h .inside) in
       absurd (h .lost x (least (getD (a ∷ stops) k 0) (getD stops k 0) .attained x e))
 

@@ -1,25 +1,36 @@
--- How the cases are written. Of the definitions under test it cites the types, and functions only in `writes`, `prepares`, `answers` and
--- `played`. Definitions only.
+-- How the cases are written. Of the definitions under test it cites the types, and functions only in `writes`, `prepares`, `answers`,
+-- `figures` and `played`. Definitions only.
 use mathlib.Core.Path.{_≡_}
-use mathlib.Core.Bool.{Bool}
+use mathlib.Core.Bool.{Bool, cond}
 use mathlib.Core.Option.{Option, some}
 use mathlib.Core.List.{List, [], _++_, _∷_, map}
 use Prim.Native.Nat.{_%_, _*_, _+_, _-_, _/_, suc, zero, ℕ}
+use lib.Dec.{eqb}
 use lib.IntN.{negℤ, pos, ℤ}
 use lib.ListN.{drop, getD, length, replicate, take}
-use Rattle.graph.specs.Total.{Total}
+use Rattle.graph.specs.Total.{Total, isNumber, noMore}
 use Rattle.graph.specs.Least.{measured}
+use Rattle.graph.specs.Lists.{filter, range}
+use Rattle.graph.specs.Network.{direct}
+use Rattle.graph.specs.Level.{dist}
 use Rattle.graph.specs.Pairs.{down, up}
 use Rattle.graph.specs.Reach.{upTotal}
 use Rattle.graph.specs.Search.{back, backStep, before, below-or, bestBelow, better, consider, extend, firstVia, hasGoal, is, next}
 use Rattle.graph.specs.Search.{offerVia, offered, push, run, totalIn, wayIn}
+use Rattle.graph.specs.Sorted.{insert, sorted}
+use Rattle.graph.specs.LogOrder.{inOrder, smaller-or, sooner}
+use Rattle.graph.specs.Map.{Map}
+use Rattle.model.specs.Word.{ofWord}
 use Rattle.model.specs.Types.{Absent, Accepted, Answer, At, Estimated, Gone, Header, Leg, NoLeg, NoPath, Previewed, Refusal, Refused}
 use Rattle.model.specs.Types.{Stopped, Target}
 use Rattle.model.specs.Bytes.{wordAt}
-use Rattle.model.specs.Card.{Rows, Written, writeCard, writeRefusal}
+use Rattle.model.specs.Card.{Rows, Written, mapOf, writeCard, writeRefusal}
 use Rattle.model.specs.Areas.{Areas, areasOf}
 use Rattle.model.specs.State.{Lent, State, Step, prepare}
-use Rattle.model.specs.Calls.{Call, aimCall, estimateCall, goCall, previewCall, setCall, step, steps, stopsCall}
+use Rattle.model.specs.Machine.{targetOf}
+use Rattle.model.specs.Go.{effortLog, liveOf, reachedEstimated, withinTotal}
+use Rattle.model.specs.Calls.{Aim, Asked, Call, Estimate, Go, Preview, Set, Stops, aimCall, estimateCall, goCall, previewCall, setCall}
+use Rattle.model.specs.Calls.{step, steps, stopsCall}
 
 -- ---- words and cards
 
@@ -157,16 +168,18 @@ refused q calls n m k z b r p l d e t g h =
 
 -- ---- scripts
 
--- a call, its answer, what it makes of the state, and what the two lent areas then hold
+-- a call, its answer, what it makes of the state, what the two lent areas then hold, and the junctions that demand 3 counts for a go that
+-- searched
 pub record Turn : Type 0 where
   pub call : Call
   pub answer : Answer
   pub after : State → State
   pub holds : Lent
+  pub figure : List ℕ
 
 -- a call that is refused and alters nothing
 abbrev pub no : Refusal → Call → Turn
-no q c = record { call = c; answer = Refused q; after = λ s. s; holds = c .lent }
+no q c = record { call = c; answer = Refused q; after = λ s. s; holds = c .lent; figure = [] }
 
 -- another target, live times, down totals, estimates, elapsed
 abbrev becoming : State → Target → (live down estimates elapsed : List ℕ) → State
@@ -182,6 +195,7 @@ set i t live = record {
   answer = Accepted;
   after = λ s. becoming s (s .header .target) live (s .areas .aimed .down) (s .areas .aimed .estimates) (s .areas .trip .elapsed);
   holds = nothing;
+  figure = [];
 }
 
 -- an accepted aim, with the down totals after it; each estimate becomes unasked
@@ -191,6 +205,7 @@ aim j down = record {
   answer = Accepted;
   after = λ s. becoming s (At j) (s .areas .live) down (replicate (length down) □) (s .areas .trip .elapsed);
   holds = nothing;
+  figure = [];
 }
 
 -- an estimate and its answer, with the estimates after it
@@ -200,6 +215,7 @@ est j t estimates = record {
   answer = Estimated t;
   after = λ s. becoming s (s .header .target) (s .areas .live) (s .areas .aimed .down) estimates (s .areas .trip .elapsed);
   holds = nothing;
+  figure = [];
 }
 
 -- a change of so many seconds
@@ -216,6 +232,7 @@ preview i t j present new change estimates = record {
   answer = Previewed present new change;
   after = λ s. becoming s (s .header .target) (s .areas .live) (s .areas .aimed .down) estimates (s .areas .trip .elapsed);
   holds = nothing;
+  figure = [];
 }
 
 -- the words stand first, the rest is untouched
@@ -228,6 +245,7 @@ went a j l roads log estimates elapsed = record {
   answer = a;
   after = λ s. becoming s (s .header .target) (s .areas .live) (s .areas .aimed .down) estimates elapsed;
   holds = record { route = first roads (l .route); log = first log (l .log) };
+  figure = log;
 }
 
 -- a go and its total, roads and log, with the estimates and elapsed after it
@@ -249,6 +267,7 @@ called a z stops l roads log down estimates elapsed = record {
   answer = a;
   after = λ s. becoming s (At z) (s .areas .live) down estimates elapsed;
   holds = record { route = first roads (l .route); log = first log (l .log) };
+  figure = [];
 }
 
 -- A list of stops, its legs and the whole total; the roads of all legs, what stands first in the log area, which may be more than the last
@@ -270,6 +289,35 @@ pub record Script : Type 0 where
   pub leaving : List ℕ
   pub groups : List ℕ
   pub turns : List Turn
+
+-- Demand 3's figure for a go that was answered so, in the state before it: the junctions counted, in their order.
+abbrev figureOf : Map → State → (start : ℕ) → Answer → List ℕ
+figureOf M s j (Gone t c k) =
+    let live = liveOf (s .areas .live) in
+    let z = targetOf (s .header .target) in
+    effortLog M live j z (withinTotal M live j z t)
+figureOf M s j (Refused q) =
+    let live = liveOf (s .areas .live) in
+    let z = targetOf (s .header .target) in
+    cond (eqb (q .question) 15) (effortLog M live j z (reachedEstimated M live j z)) []
+figureOf M s j Accepted = []
+figureOf M s j (Estimated t) = []
+figureOf M s j (Previewed a b d) = []
+figureOf M s j (Stopped legs t) = []
+
+-- the same of any call; one that is no go has none
+abbrev figureAfter : Map → State → Asked → Answer → List ℕ
+figureAfter M s (Go j) a = figureOf M s j a
+figureAfter M s (Set i t) a = []
+figureAfter M s (Aim j) a = []
+figureAfter M s (Estimate j) a = []
+figureAfter M s (Preview i t j w) a = []
+figureAfter M s (Stops l) a = []
+
+-- of each turn, in the states that the turns say
+abbrev figuresOf : Map → State → List Turn → List (List ℕ)
+figuresOf M s [] = []
+figuresOf M s (t ∷ l) = figureAfter M s (t .call .asked) (t .answer) ∷ figuresOf M (t .after s) l
 
 -- what the definitions answer and leave: preparing, then each call
 unfoldable pub played : Script → List Step
@@ -305,5 +353,12 @@ after s (t ∷ l) = let s′ = t .after s in record { answer = t .answer; state 
 abbrev pub told : Script → List Step
 told c = record { answer = Accepted; state = prepared c; lent = nothing } ∷ after (prepared c) (c .turns)
 
-abbrev pub Holds : Script → Type 0
-Holds c = played c ≡ told c
+-- demand 3's figures of the turns
+unfoldable pub figures : Script → List (List ℕ)
+unfolding ofWord dist direct filter range noMore isNumber inOrder sorted insert sooner smaller-or
+figures c = figuresOf (mapOf (record { roads = row (c .roads); order = c .order })) (prepared c) (c .turns)
+
+-- The calls answer and leave what the turns say, and demand 3's figures are the logs that they say.
+pub record Holds (c : Script) : Type 0 where
+  pub plays : played c ≡ told c
+  pub counts : figures c ≡ map (λ (t : Turn). t .figure) (c .turns)

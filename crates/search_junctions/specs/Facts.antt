@@ -18,7 +18,7 @@ use Rattle.graph.specs.Map.{estimateOf, estimateOf-bound, liveNet, timeOf-bound
 use Rattle.graph.specs.Go.{go-time-least, go-well-formed, goOf}
 use Rattle.model.specs.Layout.{roadSize}
 use Rattle.model.specs.Limits.{mostTime, mostTotal}
-use Rattle.model.specs.Go.{byNumber, liveOf}
+use Rattle.model.specs.Go.{byTime, liveOf}
 use Rattle.model.specs.LimitLaws.{totals-fit}
 use Rattle.model.specs.Good.{settable-most, settable-slower}
 use Rattle.network.specs.Bodies.{head-in, map-facts, tail-in}
@@ -30,7 +30,7 @@ use Rattle.search_junctions.specs.Relaxing.{Reads}
 pub record Codes (g : Given) (s z : ℕ) : Type 0 where
   pub ok : Searchable (goGiven g s z)
   pub reads : Reads (goGiven g s z) (g .sizes) (g .roads) (g .live)
-  pub ties : (t : ℕ) → goGiven g s z .tie t ≡ 0
+  pub ties : (t : ℕ) → goGiven g s z .tie t ≡ t
   pub start-here : goGiven g s z .start s ≡ some 0
   pub start-elsewhere : (v : ℕ) → (v ≡ s → ⊥) → goGiven g s z .start v ≡ none
   pub pots : (v : ℕ) → goGiven g s z .pot v ≡ estimateOf (mapGiven g) z v
@@ -49,10 +49,10 @@ module _ {g : Given} {s z : ℕ} (r : Ready g s z) where
       let f = map-facts (r .prepared .sound) in
       let ls : s < mapGiven g .vertices = rw (r .n-is) (r .start) in
       let lz : z < mapGiven g .vertices = rw (r .n-is) (r .target) in
-      let wf = go-well-formed (f .valid) ready-slower byNumber ls lz in
+      let wf = go-well-formed (f .valid) ready-slower byTime ls lz in
       let q = mem-timeIn H v t e in
       let w = logged-least wf h (q .0) (q .1) in
-      let y = least-unique (go-time-least (f .valid) ready-slower byNumber ls lz (q .0 .vertex)) w in
+      let y = least-unique (go-time-least (f .valid) ready-slower byTime ls lz (q .0 .vertex)) w in
       let b = totals-fit (f .vertices-high) (timeOf-bound (f .valid) (liveOf (g .live)) ready-most s (q .0 .vertex) ls y) in
       omega (arith, b, q .3)
 
@@ -63,7 +63,7 @@ module _ {g : Given} {s z : ℕ} (r : Ready g s z) where
       let f = map-facts (r .prepared .sound) in
       let ls : s < M .vertices = rw (r .n-is) (r .start) in
       let lz : z < M .vertices = rw (r .n-is) (r .target) in
-      let wf = go-well-formed (f .valid) ready-slower byNumber ls lz in
+      let wf = go-well-formed (f .valid) ready-slower byTime ls lz in
       let low : (i : ℕ) → i < g .sizes .m → roadSize * i + roadSize ≤ length (g .roads) = λ i l. omega (arith, l, f .roads-are, r .m-is) in
       record {
         ok = record {

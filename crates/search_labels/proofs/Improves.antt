@@ -4,16 +4,27 @@ use mathlib.Core.List.{List}
 use Prim.Native.Nat.{_%_, _*_, _+_, _/_, _<_, _≤_, ℕ}
 use lib.ListN.{getD, length, length-set, set}
 use lib.Seq.{getD-set-other, getD-set-same}
+use native.Mathlib.Decide.{ℕ-discrete}
 use native.Mathlib.Omega.{arith}
 use Rattle.model.specs.Word.{noneWord}
-use Rattle.search_queue.specs.Order.{Alike, SameBut, byKey, mostNodes, settledKey}
-use Rattle.search_queue.specs.Tree.{Changed, Put, Tournament, wordOf}
-use Rattle.search_queue.specs.Laws.{tournament-kept, unchanged, word-key, word-number}
-use Rattle.search_labels.specs.Labelling.{Fits, Improved, Room, SameLabel, Taken, earlier, labelsIn}
+use Rattle.search_queue.specs.Order.{byKey, keyIn, mostNodes, settledKey, tieIn}
+use Rattle.search_queue.specs.Tree.{Changed, Put, wordOf}
+use Rattle.search_queue.specs.Laws.{tournament-kept, word-key, word-number}
+use Rattle.search_labels.specs.Labelling.{Fits, Improved, Room, SameLabel, Taken, behind, earlier, labelsIn, later, lost}
+use Rattle.search_labels.specs.Labelling.{settled, tied}
 
 -- the time y is the offer, and the key x the sum of the offer and the estimate
 pub takes-over : {w e i t q j x y : ℕ} → y ≡ w → x ≡ w + e → (e ≡ noneWord → ⊥) → (q ≡ settledKey → ⊥) → y < t → Improved w e i t q j y x i
 takes-over ey ex a b l = rw (ey, ex) (earlier a b (rw ey at l))
+
+-- where the time stays, so does the key
+key-stays : {w e i a b c t q j : ℕ} → Improved w e i a b c t q j → t ≡ a → q ≡ b
+key-stays (lost z) same = refl
+key-stays (settled z) same = refl
+key-stays (earlier x y l) same = absurd (omega arith)
+key-stays (later x y l) same = refl
+key-stays (tied x y l m) same = refl
+key-stays (behind x y l m) same = refl
 
 -- ---- the word of a label is written
 module _ {n v : ℕ} (lv : v < n) (room : List ℕ) (r : Room n room) (x : ℕ) where
@@ -27,22 +38,39 @@ module _ {n v : ℕ} (lv : v < n) (room : List ℕ) (r : Room n room) (x : ℕ) 
   label-apart : (q : ℕ) → (q ≡ 2 * n + v → ⊥) → getD relabelled q 0 ≡ getD room q 0
   label-apart q ne = getD-set-other room (2 * n + v) q x 0 ne
 
-  keys-stay : Alike n (byKey n room) (byKey n relabelled)
-  keys-stay = record {
-    keys-alike = λ u l. ap (λ (w : ℕ). w / mostNodes) (label-apart (n + u) (λ e. absurd (omega arith)));
-    ties-alike = λ u l. refl;
+  -- so no key changes, and no place of the tournament
+  keys-stay : (u : ℕ) → u < n → keyIn n relabelled u ≡ keyIn n room u
+  keys-stay u l = ap (λ (w : ℕ). w / mostNodes) (label-apart (n + u) (λ e. absurd (omega arith)))
+
+  places-stay : (p : ℕ) → p < 2 * n → getD relabelled p 0 ≡ getD room p 0
+  places-stay p l = label-apart p (λ e. absurd (omega arith))
+
+  -- nor a time but that of v
+  times-stay : (u : ℕ) → u < n → (u ≡ v → ⊥) → tieIn n relabelled u ≡ tieIn n room u
+  times-stay u l ne = ap (λ (w : ℕ). w / mostNodes) (label-apart (2 * n + u) (λ e. ne (omega arith)))
+
+  -- the tournament is right but at v, whose key may be put now
+  pub changed : Changed (byKey n relabelled) n v relabelled
+  changed = record {
+    old = byKey n room;
+    same = record { keys-same = λ u l ne. keys-stay u l; ties-same = times-stay };
+    right =
+        tournament-kept (record { keys-alike = λ u l. refl; ties-alike = λ u l. refl }) room relabelled places-stay (r .right);
   }
 
-  pub room-relabelled : Room n relabelled
-  room-relabelled = record {
+  -- it is right where the time of v stays
+  pub room-relabelled : x / mostNodes ≡ tieIn n room v → Room n relabelled
+  room-relabelled same = record {
     n-high = r .n-high;
     words = simp length-set (r .words);
-    right = tournament-kept keys-stay room relabelled (λ p high. label-apart p (λ e. absurd (omega arith))) (r .right);
+    right =
+        tournament-kept (record { keys-alike = keys-stay; ties-alike = λ u l. at u l (ℕ-discrete u v) }) room relabelled places-stay
+        (r .right);
   }
-
-  -- so the tournament is right but at v, whose key may change now
-  pub changed : Changed (byKey n relabelled) n v relabelled
-  changed = unchanged v (room-relabelled .right)
+    where
+      at : (u : ℕ) → u < n → Dec (u ≡ v) → tieIn n relabelled u ≡ tieIn n room u
+      at u l (yes e) = rw e (ap (λ (w : ℕ). w / mostNodes) label-own ∙ same)
+      at u l (no ne) = times-stay u l ne
 
 -- ---- the label of v takes an offer, and is (t, q, j) then; x is the word of its time and its arc
 module _ {n v t q j x : ℕ} (lv : v < n) (room : List ℕ) (r : Room n room) (fits : Fits t q j) (x-is : x ≡ wordOf t j) where
@@ -61,18 +89,17 @@ module _ {n v t q j x : ℕ} (lv : v < n) (room : List ℕ) (r : Room n room) (f
       let z = label-is ∙ x-is in
       rw (key-is, word-key t (fits .via-low) z, word-number t (fits .via-low) z) (rw (ea, eb, ec) at h)
 
-  -- its key stays
-  pub taken-kept : {w e i a b c : ℕ} → q ≡ b → a ≡ labelsIn n room .times v → b ≡ labelsIn n room .keys v
+  -- its time stays
+  pub taken-kept : {w e i a b c : ℕ} → t ≡ a → a ≡ labelsIn n room .times v → b ≡ labelsIn n room .keys v
       → c ≡ labelsIn n room .vias v → Improved w e i a b c t q j → Taken w e i n v room (set room (2 * n + v) x)
   taken-kept same ea eb ec h = record {
     improves =
-        read-again (set room (2 * n + v) x) (label-own lv room r x)
-        (ap (λ (w : ℕ). w / mostNodes) (label-apart lv room r x (n + v) (λ d. absurd (omega arith))) ∙ sym (same ∙ eb)) ea eb ec h;
+        read-again (set room (2 * n + v) x) (label-own lv room r x) (keys-stay lv room r x v lv ∙ sym (key-stays h same ∙ eb)) ea eb ec h;
     others = same-after;
-    room = room-relabelled lv room r x;
+    room = room-relabelled lv room r x (word-key t (fits .via-low) x-is ∙ same ∙ ea);
   }
 
-  -- its key changes
+  -- it changes
   pub taken-put : {w e i a b c : ℕ} {room′ : List ℕ} → length room′ ≡ length (set room (2 * n + v) x)
       → Put n v q (set room (2 * n + v) x) room′ → a ≡ labelsIn n room .times v → b ≡ labelsIn n room .keys v
       → c ≡ labelsIn n room .vias v → Improved w e i a b c t q j → Taken w e i n v room room′

@@ -26,7 +26,7 @@ labelsIn n room = record {
   vias = λ v. getD room (2 * n + v) 0 % mostNodes;
 }
 
--- the order of choice: document 01's, by keys
+-- the order of choice: by keys, then by times, then by numbers
 abbrev pub orderOf : (n : ℕ) (room : List ℕ) → Order
 orderOf = byKey
 

@@ -88,22 +88,22 @@ fn improved(old: Label, offer: Time, estimate: Time, i: u32) -> Label
     old
 }
 
-// Arc i offers v a time: v's label is improved in the room, and its place in the queue renewed where its key has changed.
+// Arc i offers v a time: v's label is improved in the room, and its place in the queue renewed where its time has changed.
 pub fn take(room: &mut [u64], n: u32, v: u32, offer: Time, estimate: Time, i: u32)
     requires { ⌜ (v < n) × (i < mostNodes) × Room n (now room) ⌝ }
     ensures { λ _. ⌜ Taken (offer .0) (estimate .0) i n v (now (room .entry)) (now (room .exit)) ⌝ }
 {
     let at = 2 * (n as usize) + v as usize;
     let word = room[at];
-    let key = key_of(room, n, v);
+    let time = upper_of(word);
     let old = Label {
-        time: upper_of(word),
-        key: key,
+        time: time,
+        key: key_of(room, n, v),
         via: lower_of(word),
     };
     let new = improved(old, offer, estimate, i);
     room[at] = word_of(new.time, new.via);
-    if new.key != key {
+    if new.time != time {
         put(room, n, v, new.key);
     }
 }

@@ -3,17 +3,18 @@ use mathlib.Core.Path.{_∙_, _≡_, ap, refl, subst, sym}
 use mathlib.Core.Logic.{_⊎_, inl, inr}
 use mathlib.Core.Bool.{false, true}
 use mathlib.Core.List.{List}
-use Prim.Native.Nat.{_*_, _+_, _-_, _/_, _<_, _≤_, ℕ}
+use Prim.Native.Nat.{_%_, _*_, _+_, _-_, _/_, _<_, _≤_, ℕ}
 use lib.ListN.{getD, length, length-set, set}
 use lib.Seq.{getD-set-other, getD-set-same}
 use native.Mathlib.Decide.{decLt, ℕ-discrete}
 use native.Mathlib.Omega.{arith}
 use Rattle.graph.specs.Total.{Tested, decide}
-use Rattle.search_queue.specs.Order.{Alike, Before, Order, SameBut, Waiting, byKey, mostNodes, settledKey}
-use Rattle.search_queue.specs.Tree.{Above, Changed, Holds, NodeIn, Put, before, better, here, nobody, somebody, wordOf}
-use Rattle.search_queue.specs.Laws.{tournament-kept, word-key}
+use Rattle.search_queue.specs.Order.{Alike, Before, Order, SameBut, Waiting, byKey, mostNodes, settledKey, tieIn}
+use Rattle.search_queue.specs.Tree.{Above, Changed, Holds, NodeIn, Put, Tells, before, better, here, nobody, somebody, wordOf}
+use Rattle.search_queue.specs.Laws.{tournament-kept, word-key, word-number}
 use Rattle.search_queue.proofs.Orders.{before-new, before-self, before-trans, same-put, waiting-new, waiting-old}
-use Rattle.search_queue.proofs.Words.{after-keys, before-false, before-keys, before-true, better-first, better-second}
+use Rattle.search_queue.proofs.Words.{after-keys, before-false, before-keys, before-true, better-first, better-same}
+use Rattle.search_queue.proofs.Words.{better-second}
 use Rattle.search_queue.proofs.Places.{Two, above-half, above-le, above-leaf, two-beside}
 
 -- ---- a place is decided by the two under it
@@ -39,7 +40,7 @@ module _ (o : Order) {n p a b : ℕ} (two : Two n p a b) where
     decided-first t (somebody i ei li ai wi best) (nobody e g) =
         somebody i ei li (two .under-first (n + i) ai) wi (under-two (λ u. Before o i u) best (λ u lu c w. absurd (g u lu c w)))
     decided-first t (somebody i ei li ai wi best) (somebody j ej lj aj wj best′) =
-        let k : Before o i j = before-true o (omega arith) (omega arith) ei ej t in
+        let k : Before o i j = before-true o (omega arith) (omega arith) ei ej wi t in
         somebody i ei li (two .under-first (n + i) ai) wi
         (under-two (λ u. Before o i u) best (λ u lu c w. before-trans o i j u k (best′ u lu c w)))
 
@@ -53,7 +54,7 @@ module _ (o : Order) {n p a b : ℕ} (two : Two n p a b) where
         let z = word-key (o .key i) lm ei in
         absurd (omega arith)
     decided-second t (somebody i ei li ai wi best) (somebody j ej lj aj wj best′) =
-        let k : Before o j i = before-false o (omega arith) (omega arith) ei ej t in
+        let k : Before o j i = before-false o (omega arith) (omega arith) ei ej wi t in
         somebody j ej lj (two .under-second (n + j) aj) wj
         (under-two (λ u. Before o j u) (λ u lu c w. before-trans o j i u k (best u lu c w)) best′)
 
@@ -102,6 +103,11 @@ module _ (o : Order) (n : ℕ) (tree : List ℕ) (at x q : ℕ) where
       go (yes e) = rw (e, getD-set-same tree at x 0 room) h
       go (no ne) = holds-kept ne (f ne)
 
+-- the word of a place, if it is a candidate's, tells a node
+holds-tells : {o : Order} {n p w : ℕ} → n ≤ mostNodes → Holds o n p w → Tells n w
+holds-tells high (nobody e f) = λ l. absurd (omega arith)
+holds-tells {o} high (somebody u e lu a wu best) = λ l. omega (arith, word-number (o .key u) (omega arith) e)
+
 -- ---- the way up
 
 -- All places but those properly above `at` hold what they should, and `at` holds w; nothing from place n on is altered. room₀ is the room
@@ -109,7 +115,7 @@ module _ (o : Order) (n : ℕ) (tree : List ℕ) (at x q : ℕ) where
 pub record Climb (o : Order) (n : ℕ) (room₀ room : List ℕ) (at w : ℕ) : Type 0 where
   pub low : 0 < at
   pub high : at < 2 * n
-  pub places : 2 * n ≤ length room
+  pub words : 3 * n ≤ length room
   pub long : length room ≡ length room₀
   pub kept : (q : ℕ) → n ≤ q → getD room q 0 ≡ getD room₀ q 0
   pub word : Holds o n at w
@@ -121,18 +127,18 @@ module _ {n v : ℕ} (key : ℕ) {room : List ℕ} {x : ℕ} (node : NodeIn n v 
   written = set room (n + v) x
 
   own-word : getD written (n + v) 0 ≡ x
-  own-word = getD-set-same room (n + v) x 0 (omega (arith, node .inside, node .places))
+  own-word = getD-set-same room (n + v) x 0 (omega (arith, node .inside, node .words))
 
   pub climb-start : Changed (byKey n room) n v room → Climb (byKey n written) n written written (n + v) x
   climb-start c = record {
     low = omega (arith, node .inside);
     high = omega (arith, node .inside);
-    places = simp length-set (node .places);
+    words = simp length-set (node .words);
     long = refl;
     kept = λ q l. refl;
     word = leaf;
     done = λ q low high f.
-        holds-written o n room (n + v) x q (omega (arith, node .inside, node .places)) leaf
+        holds-written o n room (n + v) x q (omega (arith, node .inside, node .words)) leaf
         (λ ne. holds-apart same (other q ne f) (c .right q low high));
   }
     where
@@ -140,7 +146,7 @@ module _ {n v : ℕ} (key : ℕ) {room : List ℕ} {x : ℕ} (node : NodeIn n v 
       o = byKey n written
 
       same : SameBut n v (c .old) o
-      same = same-put n room x (c .same)
+      same = same-put (node .inside) room x (c .same)
 
       leaf : Holds o n (n + v) x
       leaf =
@@ -163,7 +169,7 @@ module _ {n v : ℕ} (key : ℕ) {room : List ℕ} {x : ℕ} (node : NodeIn n v 
       same : Alike n (byKey n written) (byKey n room′)
       same = record {
         keys-alike = λ u l. ap (λ (x : ℕ). x / mostNodes) (c .kept (n + u) (omega arith));
-        ties-alike = λ u l. refl;
+        ties-alike = λ u l. ap (λ (x : ℕ). x / mostNodes) (c .kept (2 * n + u) (omega arith));
       }
 
 module _ {o : Order} {n : ℕ} {room₀ room : List ℕ} {at up beside w : ℕ} (nodes : n ≤ mostNodes) (more : 1 < at) (up-is : up ≡ at / 2)
@@ -172,20 +178,34 @@ module _ {o : Order} {n : ℕ} {room₀ room : List ℕ} {at up beside w : ℕ} 
   holds-beside : Holds o n beside (getD room beside 0)
   holds-beside = c .done beside (omega arith) (omega arith) (λ a l. (let z = above-le (above-half a l) in omega arith))
 
-  module _ {w′ : ℕ} (w-is : w′ ≡ better (o .tie) w (getD room beside 0)) where
+  -- so both words tell a node, if they are candidates'
+  pub climb-tells : Tells n w
+  climb-tells = holds-tells nodes (c .word)
+
+  pub beside-tells : Tells n (getD room beside 0)
+  beside-tells = holds-tells nodes holds-beside
+
+  -- the ties are those of room₀, which no place above alters
+  module _ {w′ : ℕ} (o-is : o ≡ byKey n room₀) (w-is : w′ ≡ better (tieIn n room) w (getD room beside 0)) where
+    ties-kept : (u : ℕ) → tieIn n room u ≡ o .tie u
+    ties-kept u = rw o-is (ap (λ (x : ℕ). x / mostNodes) (c .kept (2 * n + u) (omega arith)))
+
     holds-up : Holds o n up w′
-    holds-up = rw w-is (decided o (two-beside n at up beside more (c .high) up-is beside-is) nodes (c .word) holds-beside)
+    holds-up =
+        let y = getD room beside 0 in
+        let same = better-same (tieIn n room) w y (o .tie) (ties-kept (w % mostNodes)) (ties-kept (y % mostNodes)) in
+        rw (w-is, same) (decided o (two-beside n at up beside more (c .high) up-is beside-is) nodes (c .word) holds-beside)
 
     pub climb-turn : Climb o n room₀ (set room up w′) up w′
     climb-turn = record {
       low = omega arith;
       high = omega (arith, c .high);
-      places = simp length-set (c .places);
+      words = simp length-set (c .words);
       long = length-set room up w′ ∙ c .long;
       kept = λ q l. getD-set-other room up q w′ 0 (λ e. absurd (omega (arith, c .high))) ∙ c .kept q l;
       word = holds-up;
       done = λ q low high f.
-          holds-written o n room up w′ q (omega (arith, c .places, c .high)) holds-up
+          holds-written o n room up w′ q (omega (arith, c .words, c .high)) holds-up
           (λ ne. c .done q low high (λ a l. next q ne f (above-half a l)));
     }
       where

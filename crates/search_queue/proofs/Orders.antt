@@ -1,7 +1,7 @@
 -- The order of choice: that it is an order, and that it stays between nodes that did not change. Assumes nothing.
 use mathlib.Core.Path.{_∙_, _≡_, ap}
 use mathlib.Core.List.{List}
-use Prim.Native.Nat.{_+_, _/_, _<_, ℕ}
+use Prim.Native.Nat.{_*_, _+_, _/_, _<_, ℕ}
 use lib.ListN.{set}
 use lib.Seq.{getD-set-other}
 use native.Mathlib.Omega.{arith}
@@ -52,10 +52,11 @@ module _ {n v : ℕ} {o o′ : Order} (s : SameBut n v o o′) where
       }
 
 -- ---- the key of v is written
-pub same-put : (n : ℕ) {v : ℕ} (room : List ℕ) (w : ℕ) {o : Order} → SameBut n v o (byKey n room)
+pub same-put : {n v : ℕ} → v < n → (room : List ℕ) (w : ℕ) {o : Order} → SameBut n v o (byKey n room)
     → SameBut n v o (byKey n (set room (n + v) w))
-same-put n {v} room w s = record {
+same-put {n} {v} lv room w s = record {
   keys-same = λ u l ne.
       ap (λ (x : ℕ). x / mostNodes) (getD-set-other room (n + v) (n + u) w 0 (λ e. ne (omega arith))) ∙ s .keys-same u l ne;
-  ties-same = λ u l ne. s .ties-same u l ne;
+  ties-same = λ u l ne.
+      ap (λ (x : ℕ). x / mostNodes) (getD-set-other room (n + v) (2 * n + u) w 0 (λ e. absurd (omega arith))) ∙ s .ties-same u l ne;
 }

@@ -1,7 +1,7 @@
 -- The order in which candidates are chosen. Definitions only.
 use mathlib.Core.Path.{_≡_}
 use mathlib.Core.List.{List}
-use Prim.Native.Nat.{_+_, _/_, _<_, _≤_, ℕ}
+use Prim.Native.Nat.{_*_, _+_, _/_, _<_, _≤_, ℕ}
 use lib.ListN.{getD}
 
 -- the key of a node that never was a candidate: that of a blank word
@@ -24,14 +24,18 @@ blankWord = 18446744073709551615
 abbrev pub keyIn : (n : ℕ) (room : List ℕ) (v : ℕ) → ℕ
 keyIn n room v = getD room (n + v) 0 / mostNodes
 
+-- what decides between equal keys: the upper part of v's word behind the tournament, the search's time of v
+abbrev pub tieIn : (n : ℕ) (room : List ℕ) (v : ℕ) → ℕ
+tieIn n room v = getD room (2 * n + v) 0 / mostNodes
+
 -- What the choice goes by: the key of each node, and what decides between equal keys before the number does.
 pub record Order : Type 0 where
   pub key : ℕ → ℕ
   pub tie : ℕ → ℕ
 
--- document 01: the smallest key, on equal keys the smaller number, so that ties are all alike
+-- document 02, A5: the smallest key; "among equal keys the smaller time .. first, then the smaller .. number"
 abbrev pub byKey : (n : ℕ) (room : List ℕ) → Order
-byKey n room = record { key = keyIn n room; tie = λ v. 0 }
+byKey n room = record { key = keyIn n room; tie = tieIn n room }
 
 -- a comes before b, or is b
 pub record Before (o : Order) (a b : ℕ) : Type 0 where

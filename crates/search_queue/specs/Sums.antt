@@ -13,7 +13,8 @@ use Rattle.search_queue.specs.Tree.{Tournament}
 abbrev pub entryIn : (times : ℕ → ℕ) → Order → (v : ℕ) → Entry
 entryIn times o v = record { vertex = v; time = times v; key = o .key v }
 
--- Every candidate's kept sum is its key, its time plus its estimate (`Candidate` `key-is`), and nothing else is a candidate.
+-- Every candidate's kept sum is its key, its time plus its estimate (`Candidate` `key-is`), and nothing else is a candidate. What decides
+-- between equal keys is the search's rule, of the kept time (`ties`).
 pub record SumsKept (G : Problem) (H : List Entry) (times : ℕ → ℕ) (o : Order) : Type 0 where
   pub kept : (v : ℕ) → v < G .size → Waiting o v → Candidate G H (entryIn times o v)
   pub waits : (d : Entry) → Candidate G H d → Waiting o (d .vertex)

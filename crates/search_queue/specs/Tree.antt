@@ -1,8 +1,8 @@
 -- The tournament of the candidates, a tree over n nodes in the first 2 n places of a room: place 1 is the root, under place p are 2 p and
--- 2 p + 1, and node v has place n + v. A place holds a word: that of the first candidate under it, or a word that is no candidate's. What
--- stands behind these places is not the queue's. Definitions only.
+-- 2 p + 1, and node v has place n + v. A place holds a word: that of the first candidate under it, or a word that is no candidate's.
+-- Behind these places stands a word for each node, which decides between equal keys. Definitions only.
 use mathlib.Core.Path.{_≡_}
-use mathlib.Core.Bool.{Bool, cond}
+use mathlib.Core.Bool.{Bool, _||_, cond}
 use mathlib.Core.List.{List}
 use Prim.Native.Nat.{_%_, _*_, _+_, _/_, _<_, _≤_, ℕ}
 use lib.Dec.{leb}
@@ -14,19 +14,17 @@ use Rattle.search_queue.specs.Order.{Before, Order, SameBut, Waiting, by
 abbrev pub wordOf : (key v : ℕ) → ℕ
 wordOf key v = key * mostNodes + v
 
--- the word x comes before y, or is y: by the smaller key, then by the ties of the nodes, then by the smaller number
+-- the word x comes before y, or is y: by the smaller key, then by the ties of the nodes, then by the smaller number; of two words that are
+-- no candidates' the first will do
 unfoldable pub before : (tie : ℕ → ℕ) (x y : ℕ) → Bool
 before tie x y =
     below-or (x / mostNodes) (y / mostNodes)
-    (below-or (tie (x % mostNodes)) (tie (y % mostNodes)) (leb (x % mostNodes) (y % mostNodes)))
+    (leb settledKey (x / mostNodes)
+    || below-or (tie (x % mostNodes)) (tie (y % mostNodes)) (leb (x % mostNodes) (y % mostNodes)))
 
 -- of two words, the one that comes first
 unfoldable pub better : (tie : ℕ → ℕ) (x y : ℕ) → ℕ
 better tie x y = cond (before tie x y) x y
-
--- document 01's rule: ties are all alike
-abbrev pub noTies : ℕ → ℕ
-noTies v = 0
 
 -- place p is q, or is above q
 pub data Above (p : ℕ) : ℕ → Type 0 where
@@ -43,11 +41,15 @@ pub data Holds (o : Order) (n p : ℕ) : ℕ → Type 0 where
 abbrev pub Tournament : (o : Order) (n : ℕ) (room : List ℕ) → Type 0
 Tournament o n room = (p : ℕ) → 0 < p → p < 2 * n → Holds o n p (getD room p 0)
 
--- v is one of n nodes, and there is room for their tournament
+-- v is one of n nodes, and there is room for their tournament and a word for each
 pub record NodeIn (n v : ℕ) (room : List ℕ) : Type 0 where
   pub inside : v < n
   pub n-high : n ≤ mostNodes
-  pub places : 2 * n ≤ length room
+  pub words : 3 * n ≤ length room
+
+-- if the word w is a candidate's, it tells one of n nodes
+abbrev pub Tells : (n w : ℕ) → Type 0
+Tells n w = w / mostNodes < settledKey → w % mostNodes < n
 
 -- every place did so before something of v changed
 pub record Changed (o : Order) (n v : ℕ) (room : List ℕ) : Type 0 where
@@ -55,7 +57,7 @@ pub record Changed (o : Order) (n v : ℕ) (room : List ℕ) : Type 0 where
   pub same : SameBut n v old o
   pub right : Tournament old n room
 
--- the key of v is put: its own place has its word, no other node's place and nothing behind the tree is altered
+-- the key of v is put: its own place has its word; no other node's place and no word behind the tree is altered
 pub record Put (n v key : ℕ) (l l′ : List ℕ) : Type 0 where
   pub own : getD l′ (n + v) 0 ≡ wordOf key v
   pub others : (q : ℕ) → n ≤ q → (q ≡ n + v → ⊥) → getD l′ q 0 ≡ getD l q 0

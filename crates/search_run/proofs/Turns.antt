@@ -152,7 +152,7 @@ module _ {g : Given} {s z : ℕ} (r : Ready g s z) where
       G : Problem
       G = goGiven g s z
 
-      -- ties are not told apart, as document 01 has it
+      -- what decides between equal keys is the time (document 02, A5)
       sums : SumsKept G H (labelsIn n room .times) (orderOf n room)
       sums = sums-kept full (labelsIn n room) (λ u lu. sym (codes r .ties (labelsIn n room .times u))) labels
 

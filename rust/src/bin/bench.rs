@@ -634,11 +634,12 @@ none, in a least-degree one, and has a table of its own at the end, under its na
 ";
 
 /// The largest town's ratios as earlier landings left them, in the columns of `Report::landings`.
-const BEFORE: [[&str; 7]; 4] = [
+const BEFORE: [[&str; 7]; 5] = [
     ["8, before A1", "1.52", "2.65 (3.90)", "1.98 (2.84)", "1.57 (2.33)", "", ""],
     ["9, A1", "1.53", "0.892 (1.35)", "0.853 (1.30)", "0.833 (1.26)", "", ""],
     ["10, A2", "1.43", "0.889 (1.37)", "0.857 (1.25)", "0.775 (1.06)", "1.16 (1.20)", ""],
     ["11, A3", "1.47", "0.910 (1.48)", "0.790 (1.19)", "0.803 (1.16)", "1.14 (1.18)", "1.03 (0.819)"],
+    ["12, A4", "1.54", "0.857 (1.27)", "0.820 (1.20)", "0.818 (1.19)", "1.05 (1.08)", "0.957 (0.758)"],
 ];
 
 impl Display for Report {

@@ -1,5 +1,5 @@
--- The label is read, improved and written back; where its key has changed the queue has the new one (`taken-put`), else it stays as it is
--- (`taken-kept`).
+-- The label is read, improved and written back; where its time has changed the queue has its new key (`taken-put`), else the key stays as
+-- it is (`taken-kept`).
 use mathlib.Core.Path.{_∙_}
 use native.Mathlib.Omega.{arith}
 use lib.ListN.{length-set}
@@ -11,14 +11,14 @@ use Rattle.search_labels.proofs.take.Tie as tie
 
 -- ---- the label as it is read
 
-abbrev after-upper-of : tie.After-lower-of → tie.After-upper-of
-after-upper-of c = c .before
-
 abbrev after-key-of : tie.After-lower-of → tie.After-key-of
-after-key-of c = c .before .before
+after-key-of c = c .before
+
+abbrev after-upper-of : tie.After-lower-of → tie.After-upper-of
+after-upper-of c = after-key-of c .before .before
 
 abbrev start : tie.After-lower-of → tie.Start
-start c = after-key-of c .before .before .before .before
+start c = after-upper-of c .before .before .before
 
 improved-requires : tie.Need-improved-requires
 improved-requires c κs =
@@ -40,7 +40,7 @@ put-requires : tie.Need-put-requires
 put-requires c κs =
     let after-word-of = c .before .before .before in
     let (inside, _, room) = start (read after-word-of) .pre in (
-      record { inside = inside; n-high = room .n-high; places = simp length-set (omega (arith, room .words)) },
+      record { inside = inside; n-high = room .n-high; words = simp length-set (room .words) },
       fits after-word-of .key-low,
       changed inside _ room _,
     )

@@ -4,7 +4,7 @@ use mathlib.Core.Path.{refl}
 use lib.ListN.{length-set}
 use native.Mathlib.Omega.{arith}
 use Rattle.search_queue.specs.Order.{byKey}
-use Rattle.search_queue.proofs.Climb.{Climb, climb-end, climb-start, climb-turn}
+use Rattle.search_queue.proofs.Climb.{Climb, beside-tells, climb-end, climb-start, climb-tells, climb-turn}
 use borrow.Author.Needs.{needs}
 use Rattle.search_queue.proofs.put.Statement.{statement}
 use Rattle.search_queue.proofs.put.Tie as tie
@@ -21,13 +21,23 @@ loop-holds c =
     let (node, _, changed) = start .pre in
     climb-start (start .args .key) node (c .word-of .ensures) changed
 
+better-of-requires : tie.Need-better-of-requires Inv-loop μ-loop
+better-of-requires c κs =
+    let in-loop = c .before in
+    let at-loop = in-loop .before in
+    let start = at-loop .before .before .before in
+    let (node, _, _) = start .pre in
+    let more = in-loop .loop-test .taken in
+    let inv = at-loop .loop .inv in
+    (climb-tells (node .n-high) more refl refl inv, beside-tells (node .n-high) more refl refl inv, inv .words)
+
 loop-again : tie.Need-loop-again Inv-loop μ-loop
 loop-again c =
     let in-loop = c .before .before in
     let at-loop = in-loop .before in
     let start = at-loop .before .before .before in
     let (node, _, _) = start .pre in
-    climb-turn (node .n-high) (in-loop .loop-test .taken) refl refl (at-loop .loop .inv) (c .better-of .ensures)
+    climb-turn (node .n-high) (in-loop .loop-test .taken) refl refl (at-loop .loop .inv) refl (c .better-of .ensures)
 
 same-length : tie.Need-same-length Inv-loop μ-loop
 same-length c = simp length-set at (c .before .loop .inv .long)
@@ -56,7 +66,7 @@ put-spec =
     (λ c. search needs)
     (λ c. search needs)
     (λ c. search needs)
-    (λ c κs. search needs)
+    better-of-requires
     (λ c. search needs)
     (λ c. search needs)
     (λ c. search needs)

@@ -178,7 +178,7 @@ put-requires : tie.Need-put-requires Inv-loop μ-loop
 put-requires c κs =
     let in-loop = c .before .before .before .before in
     let right = in-loop .before .loop .inv .right in (
-      record { inside = turn in-loop .node-in; n-high = right .n-high; places = omega (arith, right .words) },
+      record { inside = turn in-loop .node-in; n-high = right .n-high; words = right .words },
       omega arith,
       unchanged _ (right .right),
     )
