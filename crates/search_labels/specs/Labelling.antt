@@ -2,15 +2,15 @@
 -- word of its time and the arc that gave it. Definitions only.
 use mathlib.Core.Path.{_≡_}
 use mathlib.Core.List.{List}
-use Prim.Native.Nat.{_%_, _*_, _+_, _/_, _<_, _≤_, ℕ}
+use Prim.Native.Nat.{_%_, _*_, _+_, _<_, _≤_, ℕ}
 use lib.ListN.{getD, length}
 use Rattle.model.specs.Word.{noneWord}
-use Rattle.search_queue.specs.Order.{Order, byKey, keyIn, mostNodes, settledKey}
+use Rattle.search_queue.specs.Order.{Order, byKey, keyIn, mostNodes, noKey, settledKey, tieIn}
 use Rattle.search_queue.specs.Tree.{Tournament}
 
--- the time of a node that has none: that of a blank word
+-- the time of a node that has none: a blank word's, as its key is
 abbrev pub noTime : ℕ
-noTime = 281474976710655
+noTime = noKey
 
 -- each node's time, its key, and the arc that gave the time
 pub record Labelling : Type 0 where
@@ -21,7 +21,7 @@ pub record Labelling : Type 0 where
 -- what a room of n nodes holds
 abbrev pub labelsIn : (n : ℕ) (room : List ℕ) → Labelling
 labelsIn n room = record {
-  times = λ v. getD room (2 * n + v) 0 / mostNodes;
+  times = tieIn n room;
   keys = keyIn n room;
   vias = λ v. getD room (2 * n + v) 0 % mostNodes;
 }
@@ -49,7 +49,7 @@ pub data Improved (w e i t q j : ℕ) : (time key via : ℕ) → Type 0 where
 -- a label's two words: its time and its arc, its key and a number
 pub record Fits (time key via : ℕ) : Type 0 where
   pub time-low : time ≤ noTime
-  pub key-low : key ≤ noTime
+  pub key-low : key ≤ noKey
   pub via-low : via < mostNodes
 
 -- the label of u is as it was

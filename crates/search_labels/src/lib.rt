@@ -7,8 +7,8 @@ ghost use Prim.Native.Nat.{_*_, _+_, _<_, _≤_};
 ghost use lib.ListN.{length};
 ghost use Rattle.model.specs.Word.{word};
 ghost use Rattle.network.specs.Width.{fit};
-ghost use Rattle.search_queue.specs.Order.{mostNodes};
-ghost use Rattle.search_labels.specs.Labelling.{Fits, Improved, Room, Taken, labelsIn, noTime};
+ghost use Rattle.search_queue.specs.Order.{mostNodes, noKey};
+ghost use Rattle.search_labels.specs.Labelling.{Fits, Improved, Room, Taken, labelsIn};
 use network::Time;
 use search_queue::SETTLED;
 use search_queue::key_of;
@@ -48,7 +48,7 @@ struct Label {
 
 // A candidate's key: its time plus its estimate. The sum may pass 32 bits.
 fn sum_of(time: Time, estimate: Time) -> u64
-    ensures { λ r. ⌜ (r ≡ time .0 + estimate .0) × (r ≤ noTime) ⌝ }
+    ensures { λ r. ⌜ (r ≡ time .0 + estimate .0) × (r ≤ noKey) ⌝ }
 {
     time.word() as u64 + estimate.word() as u64
 }

@@ -619,9 +619,8 @@ none, in a least-degree one, and has a table of its own at the end, under its na
 - **areas**: the same step in Rust over the unit's areas and nothing else (`rust/src/areas.rs`): records of four words in one
   slice, where a bisection finds those of a rank; the order read from the card. With the arguments, the answer and the questions of the unit's
   function: a header that goes in by value and comes back, so that a call waits for the one before; nine slices; question 9 on their
-  lengths. Of a `set`, which stores one word, that is nearly all; the methods under *Rust* are inlined and have none of it. The unit's has
-  79 instructions, its twin's path more than 90; what it takes longer, some 0.4 ns, is a conditional move of the target's word, for which
-  the next call waits, where the twin has a jump.
+  lengths. Of a `set`, which stores one word, that is nearly all; the methods under *Rust* are inlined and have none of it. Both
+  hand the header's words back as the header file says; from run to run one or the other is up to 3 % ahead.
 - **Dijkstra**: Dijkstra's algorithm with a binary heap, which finds the total alone.
 - **A\\***: A\\* with each junction's least base total to the target handed to it free. It logs what the unit logs.
 - **go**: 20 trips between any two junctions, each right after an aim, so with no estimate known; **again**: the same trips once more.
