@@ -569,7 +569,7 @@ fn grids() {
 
 /// Roads by number, in an order that ranks junction 0 highest.
 fn map(n: u32, roads: &[(u32, u32, Time)]) -> Map {
-    let road = |&(tail, head, base): &(u32, u32, Time)| Road { tail, head, base };
+    let road = |&(tail, head, base): &(u32, u32, Time)| Road::new(tail, head, base);
     Map { roads: roads.iter().map(road).collect(), order: (0..n).rev().collect() }
 }
 

@@ -288,7 +288,7 @@ fn map_with_pairs(pairs: usize) -> Map {
     let mut map = maps::star(362);
     map.order.reverse();
     let end = 362 + (pairs - 362 * 361 / 2) as u32;
-    let road = |tail| Road { tail, head: tail + 1, base: 1 };
+    let road = |tail| Road::new(tail, tail + 1, 1);
     map.roads.extend((362..end).map(road));
     map.order.extend(362..=end);
     map

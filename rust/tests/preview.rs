@@ -330,7 +330,7 @@ fn towns() {
 #[test]
 fn both_searches_run_to_their_end() {
     // From 0, road 0 leads to the target 1; road 1 to 2, and on to 3, from where roads lead to 1.
-    let road = |(tail, head, base)| Road { tail, head, base };
+    let road = |(tail, head, base)| Road::new(tail, head, base);
     let roads = [(0, 1, 1), (0, 2, 1), (2, 3, 1), (3, 1, 1)].map(road).to_vec();
     let map = Map { roads, order: vec![3, 0, 1, 2] };
     let filled = |trial: &Trial| -> Vec<u32> {
@@ -395,7 +395,7 @@ fn the_largest_changes() {
         let n = MOST_JUNCTIONS as u32;
         // A ring, and a road of 1 second from 1, where it starts, to 0, where it ends.
         let mut map = maps::ring(MOST_JUNCTIONS);
-        map.roads.push(Road { tail: 1, head: 0, base: 1 });
+        map.roads.push(Road::new(1, 0, 1));
         let mut both = Both::prepare(&map, order::pairs(&map)).unwrap();
         both.call(Call::Aim { junction: 0 });
         let longest = 4_095_000_000;

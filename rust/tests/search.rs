@@ -229,7 +229,7 @@ fn ties() {
 /// time smaller.
 #[test]
 fn equal_keys_by_time() {
-    let road = |(tail, head, base)| Road { tail, head, base };
+    let road = |(tail, head, base)| Road::new(tail, head, base);
     let roads = [(2, 1, 1), (0, 1, 2), (0, 2, 1), (1, 3, 1)].map(road).to_vec();
     let map = Map { roads, order: vec![0, 1, 2, 3] };
     let search = Journey::new(map.clone(), map.base(), 3).go(0, 0);
@@ -330,7 +330,7 @@ fn no_chain() {
 /// A start without an estimate: nothing is logged, and only the start and those above it are filled.
 #[test]
 fn no_estimate() {
-    let road = |(tail, head)| Road { tail, head, base: 5 };
+    let road = |(tail, head)| Road::new(tail, head, 5);
     let roads = [(0, 1), (1, 2), (3, 2)].map(road).to_vec();
     let map = Map { roads, order: vec![2, 1, 0, 3] };
     let mut journey = Journey::new(map.clone(), map.base(), 0);

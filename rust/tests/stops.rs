@@ -505,7 +505,7 @@ fn every_number_of_legs() {
     let mut met = Met::default();
     // All are reached from all, but for the last junction, which no road leads to.
     let mut map = maps::even_grid(&mut random, 4, 4);
-    map.roads.push(Road { tail: 16, head: 3, base: 2 });
+    map.roads.push(Road::new(16, 3, 2));
     map.order.insert(5, 16);
     let mut trial = Trial::new(map);
     let mut failed = 0;
