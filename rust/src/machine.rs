@@ -33,6 +33,11 @@ impl Machine<'_> {
         Machine { map, graph: Graph::new(map), live: map.base(), target: None }
     }
 
+    /// The same times and the same target on another map of these junctions and roads.
+    pub fn on<'b>(&self, map: &'b Map) -> Machine<'b> {
+        Machine { map, graph: self.graph.clone(), live: self.live.clone(), target: self.target }
+    }
+
     pub fn answer(&mut self, call: Call) -> Reply {
         let answer = match call {
             Call::Set { road, time } => self.set(road, time).map(|()| Accepted::Done),

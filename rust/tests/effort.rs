@@ -180,7 +180,7 @@ impl Trial {
                 self.fill(&fills);
                 return Ok(Accepted::Estimate(self.estimates[junction as usize]));
             }
-            Call::Go { start, .. } => {
+            Call::Go { class: 0, start, .. } => {
                 let [new, old] = self.searches(&self.live, start);
                 met.go.count(&self.chart, &self.live, self.target, &new, &old);
                 met.go.other_fills += self.shown(&new.fills, &old.fills) as usize;
@@ -192,7 +192,7 @@ impl Trial {
                 let total = new.total.ok_or(Refusal::NoPath(count))?;
                 return Ok(Accepted::Trip(Trip { total, count, roads }));
             }
-            Call::Preview { road, time, start, .. } => {
+            Call::Preview { class: 0, road, time, start, .. } => {
                 let mut replaced = self.live.clone();
                 replaced[road as usize] = time;
                 let [now, then] = [&self.live, &replaced].map(|live| self.searches(live, start));
@@ -207,7 +207,7 @@ impl Trial {
                 let change = present.zip(new).map(|(present, new)| new as i64 - present as i64);
                 return Ok(Accepted::Previewed(Previewed { present, new, change }));
             }
-            Call::Stops { stops, .. } => return self.journey(&stops, lent, met),
+            Call::Stops { class: 0, stops, .. } => return self.journey(&stops, lent, met),
         }
         Ok(Accepted::Done)
     }
@@ -428,7 +428,7 @@ fn every_trip() {
         for junction in 0..n as u32 {
             for start in 0..n as u32 {
                 trial.call(Call::Aim { junction }, &mut met);
-                trial.call(Call::Go { start, route: n, log: n }, &mut met);
+                trial.call(Call::Go { class: 0, start, route: n, log: n }, &mut met);
             }
         }
     }
@@ -459,13 +459,15 @@ fn any_call(random: &mut Random, map: &Map) -> Call {
         0..5 if map.m() > 0 => Call::Set { road, time },
         5..8 => Call::Aim { junction },
         8 => Call::Estimate { junction },
-        9..12 if map.m() > 0 => Call::Preview { road, time, start: junction, work: 2 * n },
+        9..12 if map.m() > 0 => {
+            Call::Preview { class: 0, road, time, start: junction, work: 2 * n }
+        }
         12..14 => {
             let count = 2 + random.below(4);
             let stops: Vec<u32> = (0..count).map(|_| random.below(n) as u32).collect();
-            Call::Stops { stops: StopList::of(&stops), route: count * n, log: n }
+            Call::Stops { class: 0, stops: StopList::of(&stops), route: count * n, log: n }
         }
-        _ => Call::Go { start: junction, route: n, log: n },
+        _ => Call::Go { class: 0, start: junction, route: n, log: n },
     }
 }
 
@@ -546,7 +548,7 @@ fn grids() {
                         trial.call(Call::Set { road, time: CLOSED }, &mut met);
                     }
                 }
-                trial.call(Call::Go { start, route: n, log: n }, &mut met);
+                trial.call(Call::Go { class: 0, start, route: n, log: n }, &mut met);
             }
         }
         let least = Searches {
@@ -588,8 +590,8 @@ fn a_tie_that_changes_the_route() {
     let (log, route) = (vec![0, 2, 1, 3], vec![2, 0, 3]);
     let (mut both, mut machine) = (aimed(&map, 3), Machine::new(&map));
     machine.answer(Call::Aim { junction: 3 });
-    let go = Call::Go { start: 0, route: 4, log: 4 };
-    let stops = Call::Stops { stops: StopList::of(&[0, 3]), route: 8, log: 4 };
+    let go = Call::Go { class: 0, start: 0, route: 4, log: 4 };
+    let stops = Call::Stops { class: 0, stops: StopList::of(&[0, 3]), route: 8, log: 4 };
     let stopped = Stopped::of(&[(3, 3)]);
     for (call, answer) in [
         (go, Accepted::Trip(Trip { total: 3, count: 4, roads: 3 })),
@@ -620,15 +622,15 @@ fn a_tie_that_changes_the_route() {
 #[test]
 fn a_tie_that_fills_an_estimate() {
     let map = map(5, &[(3, 1, 1), (1, 0, 1), (3, 2, 1), (2, 0, 1), (2, 4, 1)]);
-    let go = Call::Go { start: 3, route: 5, log: 5 };
+    let go = Call::Go { class: 0, start: 3, route: 5, log: 5 };
     let reply = aimed(&map, 0).call(go);
     assert_eq!(reply.answer, Ok(Accepted::Trip(Trip { total: 2, count: 4, roads: 2 })));
     assert_eq!((&reply.route[..], &reply.log[..]), (&[0, 1][..], &[3, 1, 2, 0][..]));
     for call in [
         go,
-        Call::Preview { road: 4, time: 2, start: 3, work: 10 },
-        Call::Preview { road: 1, time: CLOSED, start: 3, work: 10 },
-        Call::Stops { stops: StopList::of(&[3, 0]), route: 10, log: 5 },
+        Call::Preview { class: 0, road: 4, time: 2, start: 3, work: 10 },
+        Call::Preview { class: 0, road: 1, time: CLOSED, start: 3, work: 10 },
+        Call::Stops { class: 0, stops: StopList::of(&[3, 0]), route: 10, log: 5 },
     ] {
         let mut both = aimed(&map, 0);
         both.call(call);
@@ -654,10 +656,10 @@ fn without_a_chain() {
     for (start, log) in [(0, vec![0, 2, 1]), (4, vec![]), (1, vec![1]), (5, vec![])] {
         let answer = Err(Refusal::NoPath(log.len() as u32));
         let want = Reply { answer, route: vec![], log };
-        assert_eq!(both.call(Call::Go { start, route: 6, log: 6 }), want);
+        assert_eq!(both.call(Call::Go { class: 0, start, route: 6, log: 6 }), want);
         let want = Reply { answer: Err(Refusal::NoLeg(0)), ..want };
         let stops = StopList::of(&[start, 3]);
-        assert_eq!(both.call(Call::Stops { stops, route: 12, log: 6 }), want);
+        assert_eq!(both.call(Call::Stops { class: 0, stops, route: 12, log: 6 }), want);
     }
     let chart = Chart::new(map);
     let live = both.unit.live.to_vec();

@@ -230,7 +230,7 @@ fn stops(random: &mut Random, n: usize) -> Call {
         .collect();
     let less = if random.chance(10) { 1 + random.below(n + 1) } else { 0 };
     let route = (count * n + 2 * random.below(2)).saturating_sub(less);
-    Call::Stops { stops: StopList::of(&stops), route, log: n + random.below(3) }
+    Call::Stops { class: 0, stops: StopList::of(&stops), route, log: n + random.below(3) }
 }
 
 fn call(random: &mut Random, unit: &Unit) -> Call {
@@ -248,12 +248,12 @@ fn call(random: &mut Random, unit: &Unit) -> Call {
             let times = [base, base, CLOSED, CLOSED, random.within(1..=LONGEST), random.word()];
             let (time, start) = (random.pick(&times), random.pick(&[tail, any]));
             let work = 2 * n + random.pick(&[0, 0, 0, 0, 0, 0, 0, 1, n]);
-            Call::Preview { road, time, start, work }
+            Call::Preview { class: 0, road, time, start, work }
         }
         10.. => stops(random, n),
         _ => {
             let start = number(random, n);
-            Call::Go { start, route: n + random.below(3), log: n + random.below(3) }
+            Call::Go { class: 0, start, route: n + random.below(3), log: n + random.below(3) }
         }
     }
 }
@@ -288,7 +288,7 @@ struct Lists {
 impl Lists {
     /// What the questions refuse by the header, the lengths and the arguments.
     fn refusal(unit: &Unit, call: Call) -> Option<Refusal> {
-        let Call::Stops { stops, route, log } = call else { panic!("no list of stops") };
+        let Call::Stops { class: 0, stops, route, log } = call else { panic!("no list of stops") };
         let n = unit.header.n as usize;
         if !(2..=32).contains(&stops.len()) {
             Some(Refusal::StopCount)
@@ -314,7 +314,7 @@ impl Lists {
 
     /// An answer, and what the call left: as the questions have it, or as the legs one by one.
     fn check(&mut self, before: &Unit, after: &Unit, call: Call, lent: &LentAreas, answer: Answer) {
-        let Call::Stops { stops, .. } = call else { panic!("no list of stops") };
+        let Call::Stops { class: 0, stops, .. } = call else { panic!("no list of stops") };
         let (mut unit, mut areas) = (before.clone(), LentAreas::of(call));
         let want = match Lists::refusal(before, call) {
             Some(refusal) => {
@@ -357,7 +357,9 @@ impl Previews {
     /// What the questions refuse by the header, the lengths, the road's words on the card and the arguments.
     /// A target out of range, which no list of calls leaves, is refused by 9 behind them.
     fn refusal(unit: &Unit, call: Call) -> Option<Refusal> {
-        let Call::Preview { road, time, start, work } = call else { panic!("no preview") };
+        let Call::Preview { class: 0, road, time, start, work } = call else {
+            panic!("no preview")
+        };
         let Header { n, m, aimed, target, .. } = unit.header;
         let allowed = |[_, _, base]: [u32; 3]| (base..=LONGEST).contains(&time) || time == CLOSED;
         if work != 2 * n as usize {
@@ -608,11 +610,15 @@ fn all_roads_from_every_other_junction() {
                 *start = if junction % 2 == 0 { even } else { m as u32 - even };
             }
             for start in [1, 2] {
-                free_call(&mut unit, Call::Go { start, route: n, log: n }, &mut met);
-                let preview = Call::Preview { road: 0, time: CLOSED, start, work: 2 * n };
+                free_call(&mut unit, Call::Go { class: 0, start, route: n, log: n }, &mut met);
+                let preview = Call::Preview { class: 0, road: 0, time: CLOSED, start, work: 2 * n };
                 free_call(&mut unit, preview, &mut met);
                 let stops = StopList::of(&[start, 0, start]);
-                free_call(&mut unit, Call::Stops { stops, route: 3 * n, log: n }, &mut met);
+                free_call(
+                    &mut unit,
+                    Call::Stops { class: 0, stops, route: 3 * n, log: n },
+                    &mut met,
+                );
             }
         }
         assert!(met.groups.crossed > 1_000 && met.groups.stray > 10_000_000, "{met:?}");
@@ -639,12 +645,12 @@ fn no_entry_is_asked_twice() {
             unit.estimates.fill(UNASKED);
             free_call(&mut unit, Call::Estimate { junction: 0 }, &mut met);
             unit.estimates.fill(UNASKED);
-            free_call(&mut unit, Call::Go { start: 0, route: n, log: n }, &mut met);
+            free_call(&mut unit, Call::Go { class: 0, start: 0, route: n, log: n }, &mut met);
             unit.estimates.fill(UNASKED);
-            let preview = Call::Preview { road: 0, time: CLOSED, start: 0, work: 2 * n };
+            let preview = Call::Preview { class: 0, road: 0, time: CLOSED, start: 0, work: 2 * n };
             free_call(&mut unit, preview, &mut met);
             let stops = StopList::of(&[0, n as u32 - 1, 0]);
-            free_call(&mut unit, Call::Stops { stops, route: 3 * n, log: n }, &mut met);
+            free_call(&mut unit, Call::Stops { class: 0, stops, route: 3 * n, log: n }, &mut met);
         }
     });
 }
@@ -695,8 +701,8 @@ fn headers_of_any_size() {
             Call::Set { road: 0, time: CLOSED },
             Call::Aim { junction: 0 },
             Call::Estimate { junction: 0 },
-            Call::Go { start: 0, route: n, log: n },
-            Call::Preview { road: 0, time: CLOSED, start: 0, work: 2 * n },
+            Call::Go { class: 0, start: 0, route: n, log: n },
+            Call::Preview { class: 0, road: 0, time: CLOSED, start: 0, work: 2 * n },
             // With the length that the header calls for.
             Call::Preview {
                 road: 0,
@@ -704,8 +710,8 @@ fn headers_of_any_size() {
                 start: 0,
                 work: 2 * header.n.min(9_999) as usize,
             },
-            Call::Stops { stops: StopList::of(&[0, 7, 0]), route: 3 * n, log: n },
-            Call::Stops { stops: StopList::of(&[u32::MAX]), route: 0, log: 0 },
+            Call::Stops { class: 0, stops: StopList::of(&[0, 7, 0]), route: 3 * n, log: n },
+            Call::Stops { class: 0, stops: StopList::of(&[u32::MAX]), route: 0, log: 0 },
         ] {
             if fits {
                 free_call(&mut unit, call, &mut met);

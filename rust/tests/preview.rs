@@ -379,10 +379,10 @@ fn previews_of_map_p() {
         for &road in closed {
             both.call(Call::Set { road, time: CLOSED });
         }
-        let reply = both.call(Call::Preview { road, time, start: 0, work: 8 });
+        let reply = both.call(Call::Preview { class: 0, road, time, start: 0, work: 8 });
         let want = Previewed { present, new, change };
         assert_eq!(reply.answer, Ok(Accepted::Previewed(want)), "{closed:?}, {road} at {time}");
-        let reply = both.call(Call::Preview { road, time, start: 3, work: 8 });
+        let reply = both.call(Call::Preview { class: 0, road, time, start: 3, work: 8 });
         let want = Previewed { present: Some(0), new: Some(0), change: Some(0) };
         assert_eq!(reply.answer, Ok(Accepted::Previewed(want)), "start 3, target 3");
     }
@@ -400,7 +400,7 @@ fn the_largest_changes() {
         both.call(Call::Aim { junction: 0 });
         let longest = 4_095_000_000;
         let mut ask = |road, time, present, new, change| {
-            let call = Call::Preview { road, time, start: 1, work: 2 * MOST_JUNCTIONS };
+            let call = Call::Preview { class: 0, road, time, start: 1, work: 2 * MOST_JUNCTIONS };
             let answer = both.call(call).answer;
             assert_eq!(answer, Ok(Accepted::Previewed(Previewed { present, new, change })));
             both.call(Call::Set { road, time });
@@ -426,14 +426,14 @@ fn the_largest_town() {
         for _ in 0..20 {
             let (start, target) = (random.below(n) as u32, random.below(n) as u32);
             both.call(Call::Aim { junction: target });
-            let trip = both.call(Call::Go { start, route: n, log: n });
+            let trip = both.call(Call::Go { class: 0, start, route: n, log: n });
             for _ in 0..4 {
                 let road = match trip.route.is_empty() {
                     true => random.below(m) as u32,
                     false => random.pick(&trip.route),
                 };
                 let time = random.pick(&[CLOSED, LONGEST]);
-                let call = Call::Preview { road, time, start, work: 2 * n };
+                let call = Call::Preview { class: 0, road, time, start, work: 2 * n };
                 let mut lent = LentAreas::of(call);
                 let before = both.unit.clone();
                 let reply = both.call(call);

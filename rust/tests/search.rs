@@ -40,7 +40,8 @@ impl Journey {
     fn go(&mut self, start: u32, spare: usize) -> Search {
         let before = self.both.unit.estimates.to_vec();
         let (n, base) = (self.map.n(), self.map.base());
-        let reply = self.both.call(Call::Go { start, route: n + spare, log: n + spare / 2 });
+        let reply =
+            self.both.call(Call::Go { class: 0, start, route: n + spare, log: n + spare / 2 });
 
         let least = dijkstra::to(&self.graph, &base, self.target);
         let want = search(&self.graph, &self.live, start, self.target, |at| least[at as usize]);

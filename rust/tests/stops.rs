@@ -48,17 +48,17 @@ impl Paper {
             Call::Set { road: number, time: new } => vec![road(number), time(number, new)],
             Call::Aim { junction } => vec![below(junction)],
             Call::Estimate { junction } => vec![below(junction), aimed],
-            Call::Go { start, route, log } => {
+            Call::Go { class: 0, start, route, log } => {
                 vec![below(start), aimed, (route >= n && log >= n, Refusal::LentLengths)]
             }
-            Call::Preview { road: number, time: new, start, work } => vec![
+            Call::Preview { class: 0, road: number, time: new, start, work } => vec![
                 (work == 2 * n, Refusal::Lengths),
                 road(number),
                 time(number, new),
                 below(start),
                 aimed,
             ],
-            Call::Stops { stops, route, log } => vec![
+            Call::Stops { class: 0, stops, route, log } => vec![
                 (2 <= stops.len() && stops.len() <= 32, Refusal::StopCount),
                 (stops.iter().all(|&stop| below(stop).0), Refusal::NoJunction),
                 (route >= stops.len() * n && log >= n, Refusal::LentLengths),
@@ -79,7 +79,7 @@ impl Paper {
                 }
                 return Ok(Accepted::Estimate(estimates[junction as usize]));
             }
-            Call::Go { start, .. } => {
+            Call::Go { class: 0, start, .. } => {
                 let Searched { total, route, log, .. } = self.go(start);
                 lent.log[..log.len()].copy_from_slice(&log);
                 lent.route[..route.len()].copy_from_slice(&route);
@@ -87,7 +87,7 @@ impl Paper {
                 let total = total.ok_or(Refusal::NoPath(count))?;
                 return Ok(Accepted::Trip(Trip { total, count, roads: route.len() as u32 }));
             }
-            Call::Preview { road, time, start, .. } => {
+            Call::Preview { class: 0, road, time, start, .. } => {
                 let mut replaced = self.unit.live.to_vec();
                 replaced[road as usize] = time;
                 let [present, new] = [self.unit.live.to_vec(), replaced].map(|live| {
@@ -98,7 +98,7 @@ impl Paper {
                 let change = present.zip(new).map(|(present, new)| new as i64 - present as i64);
                 return Ok(Accepted::Previewed(Previewed { present, new, change }));
             }
-            Call::Stops { stops, .. } => return self.journey(&stops, lent),
+            Call::Stops { class: 0, stops, .. } => return self.journey(&stops, lent),
         }
         Ok(Accepted::Done)
     }
@@ -244,7 +244,7 @@ impl Met {
             Call::Estimate { .. } => 2,
             Call::Go { .. } => 3,
             Call::Preview { .. } => 4,
-            Call::Stops { stops, route, log } => {
+            Call::Stops { class: 0, stops, route, log } => {
                 match answer {
                     Ok(Accepted::Stopped(stopped)) => self.found(&stops, stopped, before),
                     Err(Refusal::NoLeg(leg)) => self.lost(&stops, leg, &paper.unit, before),
@@ -419,7 +419,7 @@ fn list(random: &mut Random, n: usize) -> Call {
         2..10 => n + 1 + more,
         _ => n,
     };
-    Call::Stops { stops: StopList::of(&stops), route, log }
+    Call::Stops { class: 0, stops: StopList::of(&stops), route, log }
 }
 
 /// A time for a road: mostly an allowed one.
@@ -446,8 +446,8 @@ fn any_call(random: &mut Random, map: &Map) -> Call {
         0..3 => Call::Set { road, time },
         3..5 => Call::Aim { junction },
         5..7 => Call::Estimate { junction },
-        7..10 => Call::Go { start: junction, route: n + 2 - 3 * less, log: n + 1 - less },
-        10..12 => Call::Preview { road, time, start: junction, work: 2 * n - less },
+        7..10 => Call::Go { class: 0, start: junction, route: n + 2 - 3 * less, log: n + 1 - less },
+        10..12 => Call::Preview { class: 0, road, time, start: junction, work: 2 * n - less },
         _ => list(random, n),
     }
 }
@@ -547,12 +547,12 @@ fn refusals_in_order() {
             let mut trial = Trial::new(map.clone());
             if aimed {
                 trial.call(&mut random, Call::Aim { junction: 0 }, &mut met).unwrap();
-                let go = Call::Go { start: n as u32 - 1, route: n, log: n };
+                let go = Call::Go { class: 0, start: n as u32 - 1, route: n, log: n };
                 trial.call(&mut random, go, &mut met).ok();
             }
             let mut refuse = |stops: &[u32], route: usize, log: usize, question| {
                 let before = trial.unit.clone();
-                let call = Call::Stops { stops: StopList::of(stops), route, log };
+                let call = Call::Stops { class: 0, stops: StopList::of(stops), route, log };
                 let answer = trial.call(&mut random, call, &mut met);
                 assert_eq!(answer, Err(question), "{call:?}");
                 assert!(trial.unit == before, "{call:?}, refused, alters the unit");
@@ -584,7 +584,8 @@ fn refusals_in_order() {
                 }
             }
             // With one entry more each, it is made.
-            let call = Call::Stops { stops: StopList::of(&[0; 32]), route: 32 * n, log: n };
+            let call =
+                Call::Stops { class: 0, stops: StopList::of(&[0; 32]), route: 32 * n, log: n };
             assert_eq!(
                 trial.call(&mut random, call, &mut met),
                 Ok(Accepted::Stopped(Stopped::of(&[(0, 0); 31])))
@@ -598,8 +599,12 @@ fn refusals_in_order() {
 /// The lists on map P, with the router beside them.
 #[test]
 fn stops_of_map_p() {
-    let call =
-        |stops: &[u32]| Call::Stops { stops: StopList::of(stops), route: 4 * stops.len(), log: 4 };
+    let call = |stops: &[u32]| Call::Stops {
+        class: 0,
+        stops: StopList::of(stops),
+        route: 4 * stops.len(),
+        log: 4,
+    };
     let mut both = Both::prepare(&maps::map_p(), 5).unwrap();
     let reply = both.call(call(&[0, 3, 0]));
     assert_eq!(reply.answer, Ok(Accepted::Stopped(Stopped::of(&[(20, 2), (20, 1)]))));
@@ -718,7 +723,8 @@ fn the_largest_whole() {
         let map = maps::ring(n);
         let mut both = Both::prepare(&map, order::pairs(&map)).unwrap();
         let stops: Vec<u32> = (0..MOST_STOPS).rev().map(|stop| stop as u32).collect();
-        let call = Call::Stops { stops: StopList::of(&stops), route: MOST_STOPS * n, log: n };
+        let call =
+            Call::Stops { class: 0, stops: StopList::of(&stops), route: MOST_STOPS * n, log: n };
         let reply = both.call(call);
         let want = Stopped::of(&[(4_095_000_000, 4_095); MOST_LEGS]);
         assert_eq!(reply.answer, Ok(Accepted::Stopped(want)));
@@ -748,7 +754,8 @@ fn the_largest_town() {
             }
             for count in [2, 3, 9, 17, MOST_STOPS] {
                 let stops = stops(&mut random, n, count, 0);
-                let call = Call::Stops { stops: StopList::of(&stops), route: count * n, log: n };
+                let call =
+                    Call::Stops { class: 0, stops: StopList::of(&stops), route: count * n, log: n };
                 let mut single = both.unit.clone();
                 let reply = both.call(call);
                 // The same leg by leg through the calls of document 01.
