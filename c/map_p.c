@@ -1,7 +1,7 @@
 /*
  * Map P of document 01 through route_unit.h: prints cases P1 to P10, and of document 02 the roads by tail, A1, previews, A2, lists of
- * stops, A3, with a byte for each road vehicle classes, A6, and on another map of its size equal keys, A5; and ends with 0 only if all are
- * as the documents have them.
+ * stops, A3, with a byte for each road vehicle classes, A6, and on another map of its size equal keys, A5; and ends with 0 only if all
+ * are as the documents have them.
  */
 #include "route_unit.h"
 
@@ -222,8 +222,9 @@ static bool barred(void) {
     static const uint32_t roads_01[] = {0, 1}, roads_23[] = {2, 3}, log_3[] = {0, 1, 3}, log_4[] = {0, 1, 2, 3}, ends[] = {0, 3};
     static const Journey round = {0, 0, 1, 25, {25, 0}, {2, 0}, 2, {2, 3}, 4, {0, 1, 2, 3}, 3};
     static const Journey straight = {0, 0, 1, 20, {20, 0}, {2, 0}, 2, {0, 1}, 3, {0, 1, 3}, 3};
-    return gone_as(0, 0, 0, 25, 2, roads_23, 4, log_4) && live[1] == 10 && gone_as(1, 0, 0, 20, 2, roads_01, 3, log_3) &&
-        gone_as(7, 0, 0, 20, 2, roads_01, 3, log_3) && gone_as(0, 0, 0, 25, 2, roads_23, 4, log_4) && estimated(0, 20) &&
+    return prepared_at(3) && gone_as(0, 0, 0, 25, 2, roads_23, 4, log_4) && live[1] == 10 &&
+        gone_as(1, 0, 0, 20, 2, roads_01, 3, log_3) && gone_as(7, 0, 0, 20, 2, roads_01, 3, log_3) &&
+        gone_as(0, 0, 0, 25, 2, roads_23, 4, log_4) && estimated(0, 20) &&
         previewed_as(0, 2 * N, 1, 60, 0, 0, 25, 25, 1, 0) && previewed_as(1, 2 * N, 1, 60, 0, 0, 20, 25, 1, 5) &&
         called_as(0, ends, 2, 2 * N, N, &round) && called_as(1, ends, 2, 2 * N, N, &straight) && live[1] == 10;
 }
@@ -233,7 +234,7 @@ static bool no_class(void) {
     static const uint32_t ends[] = {N, N};
     static const Journey wrong_number = {.question = 16, .target = 3}, refused = {.question = 18, .target = 3};
     static const Journey lengths = {.question = 9, .target = 3};
-    bool asked = gone_as(8, N, 18, 0, 0, NULL, 0, NULL) && gone_as(UNIT_CLOSED, 0, 18, 0, 0, NULL, 0, NULL) &&
+    bool asked = prepared_at(3) && gone_as(8, N, 18, 0, 0, NULL, 0, NULL) && gone_as(UNIT_CLOSED, 0, 18, 0, 0, NULL, 0, NULL) &&
         previewed_as(8, 2 * N, M, 9, N, 18, 0, 0, 0, 0) && previewed_as(8, 2 * N - 1, M, 9, N, 9, 0, 0, 0, 0) &&
         called_as(8, ends, 1, 0, 0, &wrong_number) && called_as(8, ends, 2, 0, 0, &refused);
     card_len = LONGER - 1;
@@ -246,7 +247,7 @@ static bool no_class(void) {
     forged = forged && called_as(8, ends, 1, 0, 0, &lengths);
     card_len = LONGER;
     header.card = LONGER;
-    return asked && shorter && forged && prepared_at(3);
+    return asked && shorter && forged;
 }
 
 static bool p2(void) {
@@ -276,9 +277,10 @@ static bool p9(void) {
 }
 
 /*
- * The program's example as one script: aim 3, est 0, go 0, set 1 closed, go 0, set 1 9. Between them a go with too short a log, one of a
- * class that is none, and previews: a shorter, a missing and a refused one. Behind them lists of stops: there and back, one stop alone, and there and back with
- * road 4 closed. Then a kind that is none, which ends the script: the aim behind it is not made, and its answer's words are as they were.
+ * The program's example as one script: aim 3, est 0, go 0, set 1 closed, go 0, set 1 9. Between them a go with too short a log, one of
+ * a class that is none, and previews: a shorter, a missing and a refused one. Behind them lists of stops: there and back, one stop
+ * alone, and there and back with road 4 closed. Then a kind that is none, which ends the script: the aim behind it is not made, and its
+ * answer's words are as they were.
  */
 static bool replayed(void) {
     enum { CALLS = 15, SCRIPT = 70 };

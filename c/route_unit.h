@@ -16,13 +16,13 @@
  * preview and a list of stops. On the deepest map that is tried, a line of 4,096 junctions in rank order, 2 MiB are enough for
  * every function.
  *
- * Classes. A card may have a third section, a byte for each road, of which bit c from the lowest, 0 to 7, lets vehicle class c in; without
- * it every class passes. A go, a preview and a list of stops take a class: a road barred to it counts as closed for that call, and for no
- * other. Estimates are over all roads, and no live time is altered.
+ * Classes. A card may have a third section, a byte for each road, of which bit c from the lowest, 0 to 7, lets vehicle class c in;
+ * without it every class passes. A go, a preview and a list of stops take a class: a road barred to it counts as closed for that call,
+ * and for no other. Estimates are over all roads, and no live time is altered.
  *
- * Lengths. With n junctions and m roads: card 28 + 12 m + 4 n bytes, or 40 + 13 m + 4 n with a byte for each road; ranks, down, estimates, elapsed n words; live, leaving m
- * words; groups n + 1 words; pairs a multiple of 4 words, four for each pair there is to be room for, at most 262,144; route and
- * log at least n words, route of a list of s stops at least s n; work 2 n words.
+ * Lengths. With n junctions and m roads: card 28 + 12 m + 4 n bytes, or 40 + 13 m + 4 n with a byte for each road; ranks, down,
+ * estimates, elapsed n words; live, leaving m words; groups n + 1 words; pairs a multiple of 4 words, four for each pair there is to be
+ * room for, at most 262,144; route and log at least n words, route of a list of s stops at least s n; work 2 n words.
  *
  * Refusals, by the number of the question that is answered with no, in order:
  *    1  card: at least 4 bytes; and, once 2 has passed its first word, 28 for a table of 2 sections or 40 for one of 3?
@@ -40,10 +40,11 @@
  *   12  aim, estimate, go, preview: is the junction below n? stops: is each of them?
  *   13  estimate, go, preview: is there a target?
  *   14  go: have route and log at least n words? stops: has route at least n words for each stop, and log at least n?
- *   15  go: does a chain of open roads of the class exist? If not: with the count; log, elapsed and estimates as the search leaves them.
+ *   15  go: does a chain of open roads of the class exist? If not: with the count; log, elapsed and estimates as the search leaves
+ *       them.
  *   16  stops: are there 2 to 32? Asked right after 9.
- *   17  stops: has each leg a chain of open roads of the class? If not: with the first leg, from 0, that has none; header and areas as its aim and
- *       its go, which finds none, leave them.
+ *   17  stops: has each leg a chain of open roads of the class? If not: with the first leg, from 0, that has none; header and areas as
+ *       its aim and its go, which finds none, leave them.
  *   18  go, preview, stops: is the class below 8? Asked right after 9, of stops after 16.
  * All but 8, 15 and 17 leave every area as it was, lent ones too, and a call that is refused, but for 17, leaves the header as it was.
  */
@@ -123,8 +124,8 @@ typedef char UnitStops_is_424_bytes[sizeof(UnitStops) == 424 && offsetof(UnitSto
 uint32_t card_read(const uint8_t *card, size_t card_len, uint32_t *first, uint32_t *second);
 
 /*
- * Writes the card of a map into area: roads has tail, head and base time of each road in turn, order the junctions from
- * lowest rank to highest, area 28 + 4 roads_len + 4 order_len bytes. It knows maps without classes alone. Returns 0; or a refusal by 4 to 7, with area
+ * Writes the card of a map into area: roads has tail, head and base time of each road in turn, order the junctions from lowest rank to
+ * highest, area 28 + 4 roads_len + 4 order_len bytes. It knows maps without classes alone. Returns 0; or a refusal by 4 to 7, with area
  * as it was. *place gets the place of 5 and 6, else 0.
  */
 uint32_t card_write(const uint32_t *roads, size_t roads_len, const uint32_t *order, size_t order_len,
@@ -167,8 +168,8 @@ UnitAnswer unit_estimate(UnitHeader header, const uint8_t *card, size_t card_len
 
 /*
  * The quickest way of a vehicle class over open roads that let it in, at their live times, from a start to the target: questions 9, 18,
- * 12, 13, 14, 15. Roads and logged junctions stand first in route and log; the rest of both is as it was, with 15 all of route. Writes estimates
- * and elapsed too.
+ * 12, 13, 14, 15. Roads and logged junctions stand first in route and log; the rest of both is as it was, with 15 all of route. Writes
+ * estimates and elapsed too.
  */
 UnitAnswer unit_go(UnitHeader header, const uint8_t *card, size_t card_len, const uint32_t *ranks, size_t ranks_len,
     const uint32_t *pairs, size_t pairs_len, const uint32_t *live, size_t live_len, const uint32_t *down, size_t down_len,
@@ -178,9 +179,10 @@ UnitAnswer unit_go(UnitHeader header, const uint8_t *card, size_t card_len, cons
 
 /*
  * What if that road took longer, or less, or were closed or open: the total of a go of the class from the start now, and with that time
- * set. Questions 9 (work has just 2 n words), 18, 10, 11 (by the road's base time, as set asks it), 12, 13; that there is no chain is an answer:
- * UNIT_NONE in the place of that total, with compared and change 0. Sets nothing. Writes estimates, those that a go from the start
- * fills now and those that it fills with that time set; and work, whose words before do not matter and after an acceptance are any.
+ * set. Questions 9 (work has just 2 n words), 18, 10, 11 (by the road's base time, as set asks it), 12, 13; that there is no chain is
+ * an answer: UNIT_NONE in the place of that total, with compared and change 0. Sets nothing. Writes estimates, those that a go from the
+ * start fills now and those that it fills with that time set; and work, whose words before do not matter and after an acceptance are
+ * any.
  */
 UnitAnswer unit_preview(UnitHeader header, const uint8_t *card, size_t card_len, const uint32_t *ranks, size_t ranks_len,
     const uint32_t *pairs, size_t pairs_len, const uint32_t *live, size_t live_len, const uint32_t *down, size_t down_len,
@@ -190,9 +192,9 @@ UnitAnswer unit_preview(UnitHeader header, const uint8_t *card, size_t card_len,
 
 /*
  * Calls at the stops in their order, repeats allowed: questions 9, 16, 18, 12, 14, 17. Each leg, from a stop to the next, is an aim at
- * its end and a go of the class from its start; areas and header are left so, up to the last leg or to the one that 17 names. The legs' roads follow
- * one another in route, the rest of which is as it was; with 17 those of the legs before. Each leg's log stands first in log, so after
- * that of the last one made there may be more of an earlier one. Writes down, estimates, elapsed, route and log.
+ * its end and a go of the class from its start; areas and header are left so, up to the last leg or to the one that 17 names. The legs'
+ * roads follow one another in route, the rest of which is as it was; with 17 those of the legs before. Each leg's log stands first in
+ * log, so after that of the last one made there may be more of an earlier one. Writes down, estimates, elapsed, route and log.
  */
 UnitStops unit_stops(UnitHeader header, const uint8_t *card, size_t card_len, const uint32_t *ranks, size_t ranks_len,
     const uint32_t *pairs, size_t pairs_len, const uint32_t *live, size_t live_len, uint32_t *down, size_t down_len,
@@ -202,16 +204,16 @@ UnitStops unit_stops(UnitHeader header, const uint8_t *card, size_t card_len, co
     const uint32_t *stops, size_t stops_len);
 
 /*
- * Prepares a card and makes a list of calls. A call in script is its kind and as many words as that call has: 0, road, time for set;
- * 1, junction for aim; 2, junction for estimate; 3, class, start, entries of route, entries of log for go; 4, class, road, time, start for
- * preview; 5, class, their number, entries of route, entries of log and then the stops for a list of stops. A go and a list of stops are lent the first so
- * many entries of route and log, or all of them where there are fewer; what lies behind them is as it was. A preview is lent all of
- * work. The script ends with its last word, at any other kind, or at a call that is cut short: no call from there on is made. An
- * answer is UNIT_ANSWER_WORDS words of out: the refusal or 0; estimate, total or the leg of 17; count; number of roads; of a preview 0,
- * its two totals, and its change as a two's complement of 64 bits; of a list of stops 0, the whole total, 0 and the number of legs; then
- * of each of UNIT_MOST_LEGS legs its total and its number of roads, 0 where there is none. No more calls are made than out has room for
- * answers; the rest of out is as it was. What is handed back is preparing's answer, with the header after the last call. After a refused
- * preparing the calls are made all the same, on its header of zeros.
+ * Prepares a card and makes a list of calls. A call in script is its kind and as many words as that call has: 0, road, time for set; 1,
+ * junction for aim; 2, junction for estimate; 3, class, start, entries of route, entries of log for go; 4, class, road, time, start for
+ * preview; 5, class, their number, entries of route, entries of log and then the stops for a list of stops. A go and a list of stops
+ * are lent the first so many entries of route and log, or all of them where there are fewer; what lies behind them is as it was. A
+ * preview is lent all of work. The script ends with its last word, at any other kind, or at a call that is cut short: no call from
+ * there on is made. An answer is UNIT_ANSWER_WORDS words of out: the refusal or 0; estimate, total or the leg of 17; count; number of
+ * roads; of a preview 0, its two totals, and its change as a two's complement of 64 bits; of a list of stops 0, the whole total, 0 and
+ * the number of legs; then of each of UNIT_MOST_LEGS legs its total and its number of roads, 0 where there is none. No more calls are
+ * made than out has room for answers; the rest of out is as it was. What is handed back is preparing's answer, with the header after
+ * the last call. After a refused preparing the calls are made all the same, on its header of zeros.
  */
 UnitAnswer unit_replay(const uint8_t *card, size_t card_len, uint32_t *ranks, size_t ranks_len,
     uint32_t *pairs, size_t pairs_len, uint32_t *live, size_t live_len, uint32_t *down, size_t down_len,

@@ -32,15 +32,17 @@ struct Bodies<'a> {
     access: Option<&'a [u8]>,
 }
 
+/// The map of a card: the words of its roads, three for each, those of its order, and a byte for each road.
+pub type Rows = (Vec<u32>, Vec<u32>, Vec<u8>);
+
 /// Questions 1 to 6: the numbers of junctions and of roads, or the first refusal.
 pub fn read(card: &[u8]) -> Result<(u32, u32), Refusal> {
     let bodies = bodies(card)?;
     Ok((bodies.order.len() as u32, bodies.roads.len() as u32))
 }
 
-/// The map of a card: the words of its first two bodies, three for each road and one for each place; and a byte
-/// for each road.
-pub fn map(card: &[u8]) -> Result<(Vec<u32>, Vec<u32>, Vec<u8>), Refusal> {
+/// Its map, or the first refusal. Without a third section every class passes.
+pub fn map(card: &[u8]) -> Result<Rows, Refusal> {
     let Bodies { roads, order, access } = bodies(card)?;
     let row = |words: &[[u8; 4]]| words.iter().map(|&word| u32::from_le_bytes(word)).collect();
     let access = access.map_or_else(|| vec![EVERY_CLASS; roads.len()], |access| access.to_vec());

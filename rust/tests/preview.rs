@@ -54,7 +54,7 @@ impl Trial {
             6 => drop(self.unit.estimate(junction)),
             _ => {
                 let class = random.below(CLASSES as usize) as u32;
-                drop(self.unit.go(class, junction, &mut vec![0; n], &mut vec![0; n]));
+                let _ = self.unit.go(class, junction, &mut vec![0; n], &mut vec![0; n]);
             }
         }
     }
