@@ -276,7 +276,6 @@ pub route-short : {card : List ℕ} {s : State} → Good card s → (j z t : ℕ
 route-short g j z t lj lz e = omega (arith, go-demand g j z lj lz .short t e, log-fits g j z lj lz)
 
 module _ {card : List ℕ} {s : State} (g : Good card s) where
-
   -- a go's two areas keep their lengths
   pub go-lengths : (c j : ℕ) (l : Lent) → j < mapOn card .vertices → isAt (s .header .target) ≡ true
       → mapOn card .vertices ≤ length (l .route) → mapOn card .vertices ≤ length (l .log)
