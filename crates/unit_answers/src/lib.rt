@@ -10,7 +10,10 @@ use network::Junction;
 use network::Refusal;
 use network::Time;
 
-// One of document 01's four calls with its arguments.
+// The class of the program's go (document 02, A6).
+pub const PROGRAM_CLASS: u32 = 0;
+
+// One of document 01's four calls with its arguments, a go being of the program's class.
 pub enum Call {
     Set(u32, Time),
     Aim(Junction),
