@@ -589,7 +589,7 @@ pub fn call(
             groups,
             j,
         ),
-        Call::Go(start) => header.go(
+        Call::Go(class, start) => header.go(
             card,
             ranks,
             pairs,
@@ -601,7 +601,7 @@ pub fn call(
             groups,
             route,
             log,
-            unit_answers::PROGRAM_CLASS,
+            class,
             start,
         ),
     }

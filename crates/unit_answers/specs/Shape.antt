@@ -1,6 +1,5 @@
 -- The code's calls and answers as the model's. Definitions only.
 use mathlib.Core.Option.{Option, none, some}
-use Prim.Native.Nat.{ℕ}
 use lib.IntN.{ℤ}
 use Rattle.graph.specs.Total as graph
 use Rattle.model.specs.Types as model
@@ -30,13 +29,9 @@ answerIn (Estimated t) = model.Estimated (t .0)
 answerIn (Gone t c k) = model.Gone t c k
 answerIn (Previewed a b c) = model.Previewed (totalIn a) (totalIn b) (changeIn c)
 
--- document 02, A6: "the program's `go` class 0"
-abbrev pub programClass : ℕ
-programClass = 0
-
 -- what is asked
 abbrev pub callIn : Call → calls.Asked
 callIn (Set i t) = calls.Set i (t .0)
 callIn (Aim j) = calls.Aim (j .0)
 callIn (Estimate j) = calls.Estimate (j .0)
-callIn (Go j) = calls.Go programClass (j .0)
+callIn (Go c j) = calls.Go c (j .0)

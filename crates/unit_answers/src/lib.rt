@@ -10,15 +10,12 @@ use network::Junction;
 use network::Refusal;
 use network::Time;
 
-// The class of the program's go (document 02, A6).
-pub const PROGRAM_CLASS: u32 = 0;
-
-// One of document 01's four calls with its arguments, a go being of the program's class.
+// One of document 01's four calls with its arguments; a go has a class and a start (document 02, A6).
 pub enum Call {
     Set(u32, Time),
     Aim(Junction),
     Estimate(Junction),
-    Go(Junction),
+    Go(u32, Junction),
 }
 
 // A total, or none.
