@@ -4,11 +4,11 @@ use mathlib.Core.List.{List}
 use Prim.Native.Nat.{ℕ}
 use borrow.Author.Needs.{needs}
 use lib.ListN.{length}
-use native.Mathlib.Omega.{arith}
 use Rattle.model.specs.Types.{Header}
 use Rattle.model.specs.Areas.{Areas, Each, areasOf, lengths}
 use Rattle.model.specs.State.{Lent, noneLent}
 use Rattle.model.specs.Calls.{Asked, Preview}
+use Rattle.model.specs.ClassLaws.{times-length}
 use Rattle.network.specs.Refusals.{verdictIn}
 use Rattle.unit.specs.Shape.{headerIn}
 use Rattle.unit.proofs.Trips.{TripPassed, trip-passed, trip-refused, tripVerdict, within}
@@ -31,7 +31,7 @@ areas s =
     (a .groups .now)
 
 abbrev asked : tie.Start → Asked
-asked s = let a = s .args in Preview (a .road) (a .time .0) (a .start .0) (length (a .work .now))
+asked s = let a = s .args in Preview (a .class) (a .road) (a .time .0) (a .start .0) (length (a .work .now))
 
 -- ---- what the questions said, whatever else is lent
 
@@ -61,32 +61,29 @@ returns c =
       work-left = work-refused;
     }
 
-roads-of-requires : tie.Need-roads-of-requires
-roads-of-requires c κs = omega (arith, passed (c .before .before) noneLent .sizes .size)
-
-order-of-requires : tie.Need-order-of-requires
-order-of-requires c κs = let after-aimed-at = c .before in omega (arith, passed (after-aimed-at .before .before) noneLent .sizes .size)
-
 totals-requires : tie.Need-totals-requires
 totals-requires c κs =
-    let after-order-of = c .before .before in
+    let after-access-of = c .before .before in
+    let after-order-of = after-access-of .before in
     let after-roads-of = after-order-of .before in
     let after-aimed-at = after-roads-of .before in
     let p = passed (after-aimed-at .before .before) noneLent in record {
-      within = within p (after-aimed-at .aimed-at .ensures) (after-roads-of .roads-of .ensures) (after-order-of .order-of .ensures) refl;
+      within = within p (after-aimed-at .aimed-at .ensures) (after-roads-of .roads-of .ensures) (after-order-of .order-of .ensures)
+          (times-length _ _ _) refl;
       work-is = preview-facts p .work-is;
     }
 
 returns-2 : tie.Need-returns-2
 returns-2 c =
     let after-totals = c .before .before .before .before .before .before in
-    let after-order-of = after-totals .before .before .before in
+    let after-access-of = after-totals .before .before .before in
+    let after-order-of = after-access-of .before in
     let after-roads-of = after-order-of .before in
     let after-aimed-at = after-roads-of .before in
     record {
       call = λ k. preview-handed (passed (after-aimed-at .before .before) k) (after-aimed-at .aimed-at .ensures)
-          (after-roads-of .roads-of .ensures) (after-order-of .order-of .ensures) (after-totals .totals .ensures)
-          (c .before .previewed .ensures) (c .answered2 .ensures);
+          (after-roads-of .roads-of .ensures) (after-order-of .order-of .ensures) (after-access-of .access-of .ensures)
+          (after-totals .totals .ensures) (c .before .previewed .ensures) (c .answered2 .ensures);
       work-left = work-made (search needs) (c .before .previewed .ensures) (c .answered2 .ensures);
     }
 
@@ -100,8 +97,9 @@ preview-spec =
     (λ c κs. search needs)
     (λ c. search needs)
     (λ c κs. search needs)
-    roads-of-requires
-    order-of-requires
+    (λ c κs. search needs)
+    (λ c κs. search needs)
+    (λ c κs. search needs)
     totals-requires
     (λ c κs. search needs)
     (λ c κs. search needs)

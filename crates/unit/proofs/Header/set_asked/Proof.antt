@@ -3,7 +3,6 @@ use mathlib.Core.Path.{_∙_, _≡_, sym}
 use mathlib.Core.Bool.{true}
 use borrow.Author.Tests.{not-false, not-true}
 use borrow.Author.Needs.{needs}
-use native.Mathlib.Omega.{arith}
 use Rattle.unit_questions.specs.Lending.{lengthsIn}
 use Rattle.unit.specs.Shape.{headerIn}
 use Rattle.unit.proofs.Fitting.{Fits, fits-facts, road-there}
@@ -37,9 +36,6 @@ returns-2 c =
     set-10 (a .card .now) (headerIn (a .self)) (lengthsIn (a .l)) (a .road) (a .time .0) (else1 .before .fits2 .ensures)
     (fits else1) (c .if2 .taken)
 
-roads-of-requires : tie.Need-roads-of-requires
-roads-of-requires c κs = omega (arith, sizes (c .before) .size)
-
 base-of-requires : tie.Need-base-of-requires
 base-of-requires c κs = let else2 = c .before in road-there (sizes (else2 .before)) (c .roads-of .ensures) (else2 .if2 .left)
 
@@ -61,7 +57,7 @@ set-asked-spec =
     (λ c κs. search needs)
     returns
     returns-2
-    roads-of-requires
+    (λ c κs. search needs)
     base-of-requires
     (λ c κs. search needs)
     (λ c κs. search needs)
