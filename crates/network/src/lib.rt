@@ -290,7 +290,8 @@ pub fn ask(passes: bool, q: Refusal, rest: Verdict) -> Verdict
     if passes { rest } else { Verdict::Failed(q) }
 }
 
-fn wide(x: u8) -> u32
+// A byte as a word.
+pub fn wide(x: u8) -> u32
     ensures { λ r. ⌜ (r ≡ x) × (r < 256) ⌝ }
 {
     x as u32
