@@ -1,5 +1,5 @@
 -- The questions of the entries of a table, one entry for each turn. Assumes nothing.
-use mathlib.Core.Path.{_∙_, _≡_, ap, ap₂, refl, sym}
+use mathlib.Core.Path.{_∙_, _≡_, ap, ap₂, sym}
 use mathlib.Core.Logic.{_≢_}
 use mathlib.Core.Bool.{Bool, _&&_, false, true}
 use mathlib.Core.List.{List, [], _∷_}
@@ -44,7 +44,11 @@ pub record KindsPass (card : List ℕ) (count i : ℕ) : Type 0 where
 pub kinds-start : {card : List ℕ} {count : ℕ} → count ≡ sections card → tableSize (sections card) ≤ length card → KindsPass card count 0
 kinds-start {card} {count} e h =
     let z : count ≡ count - 0 = omega arith in
-    record { whole = record { counted = e; long = h }; below = omega arith; left = ap (λ (k : ℕ). kindsOk roadsKind (sectionsFrom card 0 k)) z }
+    record {
+      whole = record { counted = e; long = h };
+      below = omega arith;
+      left = ap (λ (k : ℕ). kindsOk roadsKind (sectionsFrom card 0 k)) z;
+    }
 
 module _ {card : List ℕ} {count i : ℕ} (p : KindsPass card count i) where
   all-kinds : kindsOk roadsKind (sectionsFrom card 0 (sections card)) ≡ kindsOk (roadsKind + i) (sectionsFrom card i (count - i))
