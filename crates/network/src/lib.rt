@@ -9,7 +9,6 @@ ghost use Rattle.graph.specs.Total.{_⊕_};
 ghost use Rattle.model.specs.Types as model;
 ghost use Rattle.model.specs.Word.{closedWord, noneWord, ofWord, unasked, word};
 ghost use Rattle.model.specs.Bytes.{bytesOf, wordAt};
-ghost use Rattle.model.specs.Limits.{classes};
 ghost use Rattle.model.specs.Classes.{accessOf, admits, halved};
 ghost use Rattle.network.specs.Width.{fit};
 ghost use Rattle.model.specs.Card.{ask};
@@ -32,6 +31,8 @@ pub const MOST_STOPS: usize = 32;
 
 // Vehicle classes, and the sections that a card may have (document 02, A6).
 pub const CLASSES: u32 = 8;
+
+const EVERY_CLASS: u32 = 255;
 
 pub const FEWEST_SECTIONS: u32 = 2;
 
@@ -343,23 +344,32 @@ pub fn junction_of(order: &[u8], r: Rank) -> Junction
     Junction(word_at(order, 4 * k))
 }
 
-// The byte without its lowest bits, as many as the class says.
-fn halved(byte: u8, class: u32) -> u8
-    requires { ⌜ class < classes ⌝ }
+// The byte of road i; a road without one lets every class in.
+fn byte_of(access: &[u8], i: usize) -> u32
+    ensures { λ r. ⌜ (r ≡ accessOf (now (access .entry)) i) × (r < 256) ⌝ }
+{
+    if access.len() <= i {
+        return EVERY_CLASS;
+    }
+    wide(access[i])
+}
+
+// The byte without its lowest bits, as many as the class says: a number that is no class leaves none.
+fn halved(byte: u32, class: u32) -> u32
+    requires { ⌜ byte < 256 ⌝ }
     ensures { λ r. ⌜ r ≡ halved class byte ⌝ }
 {
+    if CLASSES <= class {
+        return 0;
+    }
     byte >> class
 }
 
-// Does road i let this class in? A road without a byte lets every class in.
+// Does road i let this class in?
 pub fn admits(access: &[u8], class: u32, i: usize) -> bool
-    requires { ⌜ class < classes ⌝ }
     ensures { λ r. ⌜ r ≡ admits (accessOf (now (access .entry)) i) class ⌝ }
 {
-    if access.len() <= i {
-        return true;
-    }
-    halved(access[i], class) % 2 == 1
+    halved(byte_of(access, i), class) % 2 == 1
 }
 
 // The rank of a junction, by the area of ranks.

@@ -3,7 +3,9 @@ use mathlib.Core.Path.{_∙_, _≡_, ap, ap₂, sym}
 use mathlib.Core.Bool.{Bool, false, true}
 use mathlib.Core.Option.{Option, none, some}
 use mathlib.Core.List.{List}
-use Prim.Native.Nat.{ℕ}
+use Prim.Native.Nat.{_%_, ℕ}
+use lib.ListN.{length}
+use native.Mathlib.Nat.{mod-eq-of-lt}
 use native.Mathlib.Omega.{arith}
 use Rattle.model.specs.Types.{Answered, AreaLengths, Read, Refusal, Unreadable}
 use Rattle.model.specs.Card.{cardRefusal, mapOn, readCard, reading}
@@ -11,6 +13,7 @@ use Rattle.model.specs.Areas.{Areas, Each, lengths, lengthsFit}
 use Rattle.model.specs.State.{areasRefusal, noneLent, prepare}
 use Rattle.model.specs.Contracts.{PrepareContract, after}
 use Rattle.model.specs.Laws.{read-is}
+use Rattle.model.specs.Accept.{card-facts}
 use Rattle.unit_preparing.specs.Preparing.{Accepts, refusedBy}
 
 -- ---- questions 1 to 7
@@ -37,9 +40,17 @@ module _ (card : List ℕ) (a : Areas) where
     unfolding areasRefusal
     asked-7 h = rw (read-facts .0, fits, h)
 
-    pub asked-passes : b ≡ true → Accepts card (record { n = n; m = m; pairs = 0 }) a
+    -- an accepted card's length is a word
+    pub asked-passes : b ≡ true → Accepts card (record { n = n; m = m; pairs = 0; card = length card % 4294967296 }) a
     unfolding areasRefusal
-    asked-passes h = let (accepted, n-is, m-is) = read-facts in record { passes = rw (accepted, fits, h); n-is = n-is; m-is = m-is }
+    asked-passes h =
+        let (accepted, n-is, m-is) = read-facts in
+        record {
+          passes = rw (accepted, fits, h);
+          n-is = n-is;
+          m-is = m-is;
+          card-is = mod-eq-of-lt (card-facts card accepted .size);
+        }
 
 -- ---- what is handed back
 
