@@ -416,7 +416,7 @@ def sizes_line(given):
 def lengths_line(given):
     n, m, pairs, bytes_, length, *lengths = given
     right = model.all_lengths_right(lengths, length, n, m, pairs, bytes_)
-    text = f"question9 ({applied('headerOf', n, m, pairs, bytes_)} Absent) {number(length)} ({applied('areasOf', *lengths)})"
+    text = f"{applied('question9', n, m, pairs, bytes_, length)} ({applied('areasOf', *lengths)})"
     return f"{text} ⇒ {str(right).lower()}", "accepted" if right else 9
 
 
