@@ -334,8 +334,8 @@ figuresOf C s (t ∷ l) = figureAfter C s (t .call .asked) (t .answer) ∷ figur
 
 -- what the definitions answer and leave: preparing, then each call
 unfoldable pub played : Script → List Step
-unfolding wordAt bodyAt prepare step admits measured upTotal offerVia offered below-or before better consider bestBelow next hasGoal push extend run is
-    firstVia backStep back totalIn wayIn up down
+unfolding wordAt bodyAt prepare step admits measured upTotal offerVia offered below-or before better consider bestBelow next hasGoal push
+    extend run is firstVia backStep back totalIn wayIn up down
 played c =
     let k = cardWith (c .roads) (c .order) (c .access) in
     let n = length (c .order) in
