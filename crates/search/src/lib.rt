@@ -112,8 +112,7 @@ fn search_small(
     log: &mut [u32],
 ) -> Searched
     requires { ⌜ Lends (given trip roads order ranks pairs live down) (now leaving) (now groups) (trip .start .0) (trip .target .0)
-        (written estimates elapsed route log)
-        × (trip .sizes .n ≤ 1024) ⌝ }
+        (written estimates elapsed route log) × (trip .sizes .n ≤ 1024) ⌝ }
     ensures { λ r. ⌜ Searches (given trip (roads .entry) (order .entry) (ranks .entry) (pairs .entry) (live .entry)
         (down .entry)) (now (leaving .entry)) (now (groups .entry)) (trip .start .0) (trip .target .0)
         (written (estimates .entry) (elapsed .entry) (route .entry) (log .entry))
@@ -339,8 +338,7 @@ fn total_small(
     elapsed: &mut [TimeWord],
 ) -> Time
     requires { ⌜ Within (given trip roads order ranks pairs live down) (now leaving) (now groups) (trip .start .0) (trip .target .0)
-        (length (now estimates)) (length (now elapsed))
-        × (trip .sizes .n ≤ 1024) ⌝ }
+        (length (now estimates)) (length (now elapsed)) × (trip .sizes .n ≤ 1024) ⌝ }
     ensures { λ r. ⌜ FindsTotal (given trip (roads .entry) (order .entry) (ranks .entry) (pairs .entry) (live .entry) (down .entry))
         (now (leaving .entry)) (now (groups .entry)) (trip .start .0) (trip .target .0)
         (now (estimates .entry)) (now (estimates .exit)) (r .0) ⌝ }
