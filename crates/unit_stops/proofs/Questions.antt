@@ -11,11 +11,12 @@ use lib.Seq.{drop-cons}
 use native.Mathlib.Nat.{le-trans, mul-le-mul-left, mul-le-mul-right}
 use native.Mathlib.Numerals.{add-one}
 use Rattle.graph.specs.Total.{Total, and-true}
-use Rattle.model.specs.Types.{Header, Lengths, LentLengths, NoJunction, Refusal, StopCount}
-use Rattle.model.specs.Limits.{fewestStops, mostJunctions, mostRoads, mostStops}
+use Rattle.model.specs.Types.{Header, Lengths, LentLengths, NoClass, NoJunction, Refusal, StopCount}
+use Rattle.model.specs.Limits.{classes, fewestStops, mostJunctions, mostRoads, mostStops}
+use Rattle.model.specs.Layout.{named}
 use Rattle.model.specs.Card.{ask}
 use Rattle.model.specs.Areas.{Each}
-use Rattle.model.specs.State.{inRange, question9}
+use Rattle.model.specs.State.{question9, usable}
 use Rattle.model.specs.Stops.{allBelow, stopsRefusal}
 use Rattle.model.specs.Calls.{Stops}
 use Rattle.unit_questions.specs.Lending.{fitsBy}
@@ -39,32 +40,35 @@ module _ (n : ℕ) (stops : List ℕ) {i : ℕ} (rest : allBelow n (drop i stops
 
 -- ---- the questions, one after the other
 
--- fits, count and below are what 9, 16 and 12 were told
-module _ (base : ℕ → Total) (h : Header) (card : ℕ) (l : Each ℕ) (stops : List ℕ) (r k : ℕ) {fits : Bool}
+-- fits, count, driven, below and room are what 9, 16, 18, 12 and 14 were told
+module _ (base : ℕ → Total) (h : Header) (card : List ℕ) (l : Each ℕ) (c : ℕ) (stops : List ℕ) (r k : ℕ) {fits : Bool}
     (told : fits ≡ fitsBy h card l) where
   abbrev stops-asks : Option Refusal
-  stops-asks = asks base h card l (Stops stops) r k
+  stops-asks = asks base h card l (Stops c stops) r k
 
   pub stops-9 : fits ≡ false → some Lengths ≡ stops-asks
   stops-9 f = rw (sym told ∙ f)
 
-  pub stops-16 : {count : Bool} → fits ≡ true → count ≡ (leb fewestStops (length stops) && leb (length stops) mostStops) → count ≡ false
-      → some StopCount ≡ stops-asks
-  unfolding stopsRefusal
-  stops-16 f counted c = rw (sym told ∙ f, sym counted ∙ c)
+  module _ {count : Bool} (f : fits ≡ true) (counted : count ≡ (leb fewestStops (length stops) && leb (length stops) mostStops)) where
+    pub stops-16 : count ≡ false → some StopCount ≡ stops-asks
+    unfolding stopsRefusal
+    stops-16 n = rw (sym told ∙ f, sym counted ∙ n)
 
-  pub stops-12 : {count below : Bool} → fits ≡ true
-      → count ≡ (leb fewestStops (length stops) && leb (length stops) mostStops) → count ≡ true
-      → below ≡ allBelow (h .n) stops → below ≡ false → some NoJunction ≡ stops-asks
-  unfolding stopsRefusal
-  stops-12 f counted c all b = rw (sym told ∙ f, sym counted ∙ c, sym all ∙ b)
+    module _ {driven : Bool} (n : count ≡ true) (drives : driven ≡ ltb c classes) where
+      pub stops-18 : driven ≡ false → some NoClass ≡ stops-asks
+      unfolding stopsRefusal
+      stops-18 d = rw (sym told ∙ f, sym counted ∙ n, sym drives ∙ d)
 
-  pub stops-14 : {x : Option Refusal} {count below room : Bool} → fits ≡ true
-      → count ≡ (leb fewestStops (length stops) && leb (length stops) mostStops) → count ≡ true
-      → below ≡ allBelow (h .n) stops → below ≡ true
-      → x ≡ ask room LentLengths none → room ≡ (leb (length stops * h .n) r && leb (h .n) k) → x ≡ stops-asks
-  unfolding stopsRefusal
-  stops-14 f counted c all b asked-is room-is = asked-is ∙ rw (sym told ∙ f, sym counted ∙ c, sym all ∙ b, room-is)
+      module _ {below : Bool} (d : driven ≡ true) (all : below ≡ allBelow (h .n) stops) where
+        pub stops-12 : below ≡ false → some NoJunction ≡ stops-asks
+        unfolding stopsRefusal
+        stops-12 b = rw (sym told ∙ f, sym counted ∙ n, sym drives ∙ d, sym all ∙ b)
+
+        pub stops-14 : {x : Option Refusal} {room : Bool} → below ≡ true → x ≡ ask room LentLengths none
+            → room ≡ (leb (length stops * h .n) r && leb (h .n) k) → x ≡ stops-asks
+        unfolding stopsRefusal
+        stops-14 b asked-is room-is =
+            asked-is ∙ rw (sym told ∙ f, sym counted ∙ n, sym drives ∙ d, sym all ∙ b, room-is)
 
 -- ---- products and sums
 
@@ -78,10 +82,11 @@ pub sum-within : (a b : ℕ) → b ≤ largest - a → a + b ≡ sumIn a b
 sum-within a b h = rw (le-ltb (largest - a) b h)
 
 -- 14's product is formed of a header in range and of few stops
-pub product-asked : (h : Header) (card : ℕ) (l : Each ℕ) (s : ℕ) → fitsBy h card l ≡ true
+pub product-asked : (h : Header) (card : List ℕ) (l : Each ℕ) (s : ℕ) → fitsBy h card l ≡ true
     → (leb fewestStops s && leb s mostStops) ≡ true → (h .n ≤ mostJunctions) × (s ≤ mostStops)
 product-asked h card l s f c =
-    let (ranged, _) = and-true (inRange h) (question9 (h .n) (h .m) (h .pairs) card l) f in
+    let (used, _) = and-true (usable card h) (question9 (h .n) (h .m) (h .pairs) (h .card) (length card) l) f in
+    let (ranged, _) = and-true (leb (h .n) mostJunctions && leb (h .m) mostRoads) (named card (h .n) (h .m)) used in
     let (n-in, _) = and-true (leb (h .n) mostJunctions) (leb (h .m) mostRoads) ranged in
     let (_, few) = and-true (leb fewestStops s) (leb s mostStops) c in
     (leb-true (h .n) mostJunctions n-in, leb-true s mostStops few)

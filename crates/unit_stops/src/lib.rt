@@ -1,4 +1,4 @@
-// A list of stops (document 02, A3): leg by leg an aim and a go.
+// A list of stops of a class (document 02, A3 and A6): leg by leg an aim and a go.
 ghost use mathlib.Core.Path.{_≡_};
 ghost use mathlib.Core.Bool.{_&&_};
 ghost use Prim.Native.Nat.{_*_, _+_, _≤_, min, ℕ};
@@ -79,17 +79,18 @@ fn lent_fit(n: u32, stops: usize, route: usize, log: usize) -> bool
     (stops * n <= route) & (n <= log)
 }
 
-// Questions 9, 16, 12 and 14.
+// Questions 9, 16, 18, 12 and 14.
 fn stops_asked(
     header: Header,
-    card: usize,
+    card: &[u8],
     l: Lengths,
     route: usize,
     log: usize,
+    class: u32,
     stops: &[u32],
 ) -> Verdict
-    ensures { λ r. ⌜ ((base : ℕ → Total) → verdictIn r ≡ asks base (headerIn header) card (lengthsIn l) (Stops (now (stops .entry)))
-        route log) ⌝ }
+    ensures { λ r. ⌜ ((base : ℕ → Total) → verdictIn r ≡ asks base (headerIn header) (now (card .entry)) (lengthsIn l)
+        (Stops class (now (stops .entry))) route log) ⌝ }
 {
     let sizes = header.sizes;
     if !unit_questions::fits(sizes, card, l) {
@@ -97,6 +98,9 @@ fn stops_asked(
     }
     if !count_fits(stops.len()) {
         return Verdict::Failed(Refusal::STOP_COUNT);
+    }
+    if !unit_questions::class_fits(class) {
+        return Verdict::Failed(Refusal::NO_CLASS);
     }
     if !all_below(sizes.n, stops) {
         return Verdict::Failed(Refusal::NO_JUNCTION);
@@ -110,7 +114,7 @@ fn stops_asked(
 
 // ---- legs
 
-// One leg: an aim at its end, and a go from its start.
+// One leg: an aim at its end, and a go of the class from its start.
 fn leg(
     header: Header,
     card: &[u8],
@@ -124,11 +128,12 @@ fn leg(
     groups: &[u32],
     route: &mut [u32],
     log: &mut [u32],
+    class: u32,
     from: Junction,
     to: Junction,
 ) -> Answered
     ensures { λ r. ⌜ LegMade (now (card .entry)) (headerIn header) (areas ranks pairs live down estimates elapsed leaving groups)
-        (lent route log) (from .0) (to .0) (answeredIn r) ⌝ }
+        (lent route log) class (from .0) (to .0) (answeredIn r) ⌝ }
 {
     let aimed = header.aim(
         card,
@@ -155,6 +160,7 @@ fn leg(
         groups,
         route,
         log,
+        class,
         from,
     )
 }
@@ -206,11 +212,12 @@ fn journey(
     groups: &[u32],
     route: &mut [u32],
     log: &mut [u32],
+    class: u32,
     stops: &[u32],
 ) -> Stopped
     requires { ⌜ RoomFor (now stops) ⌝ }
     ensures { λ r. ⌜ Journeys (now (card .entry)) (headerIn header) (areas ranks pairs live down estimates elapsed leaving groups)
-        (lent route log) (now (stops .entry)) r ⌝ }
+        (lent route log) class (now (stops .entry)) r ⌝ }
 {
     let mut totals = [0u64; MOST_LEGS];
     let mut roads = [0u32; MOST_LEGS];
@@ -236,6 +243,7 @@ fn journey(
             groups,
             &mut route[at..],
             log,
+            class,
             from,
             to,
         );
@@ -265,7 +273,8 @@ fn journey(
 // ---- the call
 
 // Calls at the stops in their order: for each leg its total and number of roads, and the whole total; the legs' roads follow one another in
-// the route area. Each leg is an aim and a go: areas and target are left as after the last, or, by 17, after the first that has no path.
+// the route area. Each leg is an aim and a go of the class: areas and target are left as after the last, or, by 17, after the first without
+// a path.
 pub fn stops(
     header: Header,
     card: &[u8],
@@ -279,10 +288,11 @@ pub fn stops(
     groups: &[u32],
     route: &mut [u32],
     log: &mut [u32],
+    class: u32,
     stops: &[u32],
 ) -> Stopped
     ensures { λ r. ⌜ MeetsStops (now (card .entry)) header (areas ranks pairs live down estimates elapsed leaving groups)
-        (lent route log) (now (stops .entry)) r ⌝ }
+        (lent route log) class (now (stops .entry)) r ⌝ }
 {
     let l = unit_questions::lengths_of(
         ranks,
@@ -294,7 +304,7 @@ pub fn stops(
         leaving,
         groups,
     );
-    match stops_asked(header, card.len(), l, route.len(), log.len(), stops) {
+    match stops_asked(header, card, l, route.len(), log.len(), class, stops) {
         Verdict::Failed(q) => refused(header, q),
         Verdict::Passed => journey(
             header,
@@ -309,6 +319,7 @@ pub fn stops(
             groups,
             route,
             log,
+            class,
             stops,
         ),
     }
