@@ -2,10 +2,10 @@
 // preview (document 02, A2): the total alone, twice.
 ghost use Prim.Native.Nat.{_≤_};
 ghost use lib.ListN.{length};
-ghost use Rattle.search_junctions.specs.Views.{seen};
+ghost use Rattle.search_junctions.specs.Views.{met};
 ghost use Rattle.search_junctions.specs.State.{given};
 ghost use Rattle.search_run.specs.Runs.{BlankRoom, Lends, Within, written};
-ghost use Rattle.search.specs.Searches.{FindsBoth, FindsTotal, LendsBoth, LendsIn, Searches};
+ghost use Rattle.search.specs.Searches.{FindsBoth, FindsTotal, LendsBoth, LendsIn, Searches, seenBy};
 use network::MOST_JUNCTIONS;
 use network::Time;
 use network::TimeWord;
@@ -39,6 +39,7 @@ fn search_in(
     order: &[u8],
     ranks: &[u32],
     pairs: &[u32],
+    access: &[u8],
     live: &[TimeWord],
     down: &[TimeWord],
     leaving: &[u32],
@@ -49,10 +50,11 @@ fn search_in(
     log: &mut [u32],
     room: &mut [u64],
 ) -> Searched
-    requires { ⌜ LendsIn (given trip roads order ranks pairs live down) (now leaving) (now groups) (trip .start .0) (trip .target .0)
+    requires { ⌜ LendsIn (given trip roads order ranks pairs access live down) (now leaving) (now groups) (trip .start .0) (trip .target .0)
         (written estimates elapsed route log) (now room) ⌝ }
-    ensures { λ r. ⌜ Searches (given trip (roads .entry) (order .entry) (ranks .entry) (pairs .entry) (live .entry)
-        (down .entry)) (now (leaving .entry)) (now (groups .entry)) (trip .start .0) (trip .target .0)
+    ensures { λ r. ⌜ Searches
+        (given trip (roads .entry) (order .entry) (ranks .entry) (pairs .entry) (access .entry) (live .entry) (down .entry))
+        (now (leaving .entry)) (now (groups .entry)) (trip .start .0) (trip .target .0)
         (written (estimates .entry) (elapsed .entry) (route .entry) (log .entry))
         (written (estimates .exit) (elapsed .exit) (route .exit) (log .exit)) (r .total .0) (r .count) (r .roads) ⌝ }
 {
@@ -67,6 +69,7 @@ fn search_in(
         order,
         ranks,
         pairs,
+        access,
         live,
         down,
         leaving,
@@ -100,6 +103,7 @@ pub fn search(
     order: &[u8],
     ranks: &[u32],
     pairs: &[u32],
+    access: &[u8],
     live: &[TimeWord],
     down: &[TimeWord],
     leaving: &[u32],
@@ -109,10 +113,11 @@ pub fn search(
     route: &mut [u32],
     log: &mut [u32],
 ) -> Searched
-    requires { ⌜ Lends (given trip roads order ranks pairs live down) (now leaving) (now groups) (trip .start .0) (trip .target .0)
+    requires { ⌜ Lends (given trip roads order ranks pairs access live down) (now leaving) (now groups) (trip .start .0) (trip .target .0)
         (written estimates elapsed route log) ⌝ }
-    ensures { λ r. ⌜ Searches (given trip (roads .entry) (order .entry) (ranks .entry) (pairs .entry) (live .entry)
-        (down .entry)) (now (leaving .entry)) (now (groups .entry)) (trip .start .0) (trip .target .0)
+    ensures { λ r. ⌜ Searches
+        (given trip (roads .entry) (order .entry) (ranks .entry) (pairs .entry) (access .entry) (live .entry) (down .entry))
+        (now (leaving .entry)) (now (groups .entry)) (trip .start .0) (trip .target .0)
         (written (estimates .entry) (elapsed .entry) (route .entry) (log .entry))
         (written (estimates .exit) (elapsed .exit) (route .exit) (log .exit)) (r .total .0) (r .count) (r .roads) ⌝ }
 {
@@ -125,6 +130,7 @@ pub fn search(
             order,
             ranks,
             pairs,
+            access,
             live,
             down,
             leaving,
@@ -144,6 +150,7 @@ pub fn search(
             order,
             ranks,
             pairs,
+            access,
             live,
             down,
             leaving,
@@ -162,6 +169,7 @@ pub fn search(
         order,
         ranks,
         pairs,
+        access,
         live,
         down,
         leaving,
@@ -183,6 +191,7 @@ fn total_in(
     order: &[u8],
     ranks: &[u32],
     pairs: &[u32],
+    access: &[u8],
     live: &[TimeWord],
     down: &[TimeWord],
     leaving: &[u32],
@@ -192,10 +201,11 @@ fn total_in(
     log: &mut [u32],
     room: &mut [u64],
 ) -> Time
-    requires { ⌜ Within (given trip roads order ranks pairs live down) (now leaving) (now groups) (trip .start .0) (trip .target .0)
+    requires { ⌜ Within (given trip roads order ranks pairs access live down) (now leaving) (now groups) (trip .start .0) (trip .target .0)
         (length (now estimates)) (length (now elapsed))
         × (trip .sizes .n ≤ length (now log)) × BlankRoom (trip .sizes .n) (now room) ⌝ }
-    ensures { λ r. ⌜ FindsTotal (given trip (roads .entry) (order .entry) (ranks .entry) (pairs .entry) (live .entry) (down .entry))
+    ensures { λ r. ⌜ FindsTotal
+        (given trip (roads .entry) (order .entry) (ranks .entry) (pairs .entry) (access .entry) (live .entry) (down .entry))
         (now (leaving .entry)) (now (groups .entry)) (trip .start .0) (trip .target .0)
         (now (estimates .entry)) (now (estimates .exit)) (r .0) ⌝ }
 {
@@ -209,6 +219,7 @@ fn total_in(
         order,
         ranks,
         pairs,
+        access,
         live,
         down,
         leaving,
@@ -228,6 +239,7 @@ fn least_total(
     order: &[u8],
     ranks: &[u32],
     pairs: &[u32],
+    access: &[u8],
     live: &[TimeWord],
     down: &[TimeWord],
     leaving: &[u32],
@@ -235,9 +247,10 @@ fn least_total(
     estimates: &mut [TimeWord],
     elapsed: &mut [TimeWord],
 ) -> Time
-    requires { ⌜ Within (given trip roads order ranks pairs live down) (now leaving) (now groups) (trip .start .0) (trip .target .0)
+    requires { ⌜ Within (given trip roads order ranks pairs access live down) (now leaving) (now groups) (trip .start .0) (trip .target .0)
         (length (now estimates)) (length (now elapsed)) ⌝ }
-    ensures { λ r. ⌜ FindsTotal (given trip (roads .entry) (order .entry) (ranks .entry) (pairs .entry) (live .entry) (down .entry))
+    ensures { λ r. ⌜ FindsTotal
+        (given trip (roads .entry) (order .entry) (ranks .entry) (pairs .entry) (access .entry) (live .entry) (down .entry))
         (now (leaving .entry)) (now (groups .entry)) (trip .start .0) (trip .target .0)
         (now (estimates .entry)) (now (estimates .exit)) (r .0) ⌝ }
 {
@@ -251,6 +264,7 @@ fn least_total(
             order,
             ranks,
             pairs,
+            access,
             live,
             down,
             leaving,
@@ -270,6 +284,7 @@ fn least_total(
             order,
             ranks,
             pairs,
+            access,
             live,
             down,
             leaving,
@@ -288,6 +303,7 @@ fn least_total(
         order,
         ranks,
         pairs,
+        access,
         live,
         down,
         leaving,
@@ -314,6 +330,7 @@ pub fn totals(
     order: &[u8],
     ranks: &[u32],
     pairs: &[u32],
+    access: &[u8],
     live: &[TimeWord],
     down: &[TimeWord],
     leaving: &[u32],
@@ -321,10 +338,12 @@ pub fn totals(
     estimates: &mut [TimeWord],
     work: &mut [TimeWord],
 ) -> TwoTotals
-    requires { ⌜ LendsBoth (given trip roads order ranks pairs live down) (now leaving) (now groups) (trip .start .0) (trip .target .0)
-        (now estimates) (now work) ⌝ }
-    ensures { λ r. ⌜ FindsBoth (given trip (roads .entry) (order .entry) (ranks .entry) (pairs .entry) (live .entry) (down .entry))
-        (seen view (now (live .entry))) (now (leaving .entry)) (now (groups .entry)) (trip .start .0) (trip .target .0)
+    requires { ⌜ LendsBoth (given trip roads order ranks pairs access live down) (now leaving) (now groups)
+        (trip .start .0) (trip .target .0) (now estimates) (now work) ⌝ }
+    ensures { λ r. ⌜ FindsBoth
+        (given trip (roads .entry) (order .entry) (ranks .entry) (pairs .entry) (access .entry) (live .entry) (down .entry))
+        (met (seenBy trip view) (now (access .entry)) (now (live .entry)))
+        (now (leaving .entry)) (now (groups .entry)) (trip .start .0) (trip .target .0)
         (now (estimates .entry)) (now (estimates .exit)) (r .present .0) (r .new .0) ⌝ }
 {
     let sizes = trip.sizes;
@@ -337,6 +356,7 @@ pub fn totals(
         order,
         ranks,
         pairs,
+        access,
         live,
         down,
         leaving,
@@ -348,6 +368,7 @@ pub fn totals(
         sizes: sizes,
         start: start,
         target: target,
+        class: trip.class,
         view: view,
     };
     let new = least_total(
@@ -356,6 +377,7 @@ pub fn totals(
         order,
         ranks,
         pairs,
+        access,
         live,
         down,
         leaving,

@@ -55,8 +55,8 @@ pub fn advance(
     log: &mut [u32],
     room: &mut [u64],
 ) -> Progress
-    requires { ⌜ LendsRoom (given trip roads order ranks pairs access live down) (now leaving) (now groups) (trip .start .0) (trip .target .0)
-        (written estimates elapsed room log) ⌝ }
+    requires { ⌜ LendsRoom (given trip roads order ranks pairs access live down) (now leaving) (now groups)
+        (trip .start .0) (trip .target .0) (written estimates elapsed room log) ⌝ }
     ensures { λ r. ⌜ Advances
         (given trip (roads .entry) (order .entry) (ranks .entry) (pairs .entry) (access .entry) (live .entry) (down .entry))
         (now (leaving .entry)) (now (groups .entry)) (trip .start .0) (trip .target .0) budget
