@@ -126,9 +126,9 @@ module _ (u : unit.Header) (a : Areas) (now then : List ℕ) (j : ℕ) (k : Lent
       ∙ made-is M
 
 -- the times with that one set, as a class meets them, are those that a set leaves
-then-settable : {card : List ℕ} {h : Header} {a : Areas} {i t : ℕ} → Good card (before h a) → (k : Lent) (v : ℕ)
+then-settable : {card : List ℕ} {h : Header} {a : Areas} → Good card (before h a) → (k : Lent) (v i t : ℕ)
     → setRefusal (knownOf (baseOn card) h) i t ≡ none → Settable (mapOn card) (metBy (accessIn card) v (set (a .live) i t))
-then-settable {i = i} {t} g k v allowed = met-good (set-good g i t k (set-same i t (λ b. g) ∙ allowed)) v .times
+then-settable g k v i t allowed = met-good (set-good g i t k (set-same i t (λ b. g) ∙ allowed)) v .times
 
 -- a preview of class v whose searches answered so
 pub preview-handed : {card : List ℕ} {u : unit.Header} {a : Areas} {v i t j w : ℕ} {k : Lent}
@@ -165,7 +165,7 @@ preview-handed {card} {u} {a} {v} {i} {t} {j} {w} {k} p target-is roads-are orde
         ≡ previewMade (cardMap card) (before (headerIn u) a) v i t j k
     exactly g =
         let searched = on-card card u Searched target-is access-is roads-are order-is d in
-        let both = searched .exact (as-left u g v (p .starts .aimed)) (then-settable g k v (preview-facts p .allowed)) in
+        let both = searched .exact (as-left u g v (p .starts .aimed)) (then-settable g k v i t (preview-facts p .allowed)) in
         found-is u a now then j k both
 
 -- ---- its work area

@@ -23,6 +23,7 @@ use Rattle.model.specs.Machine.{isAt, targetOf}
 use Rattle.model.specs.Calls.{Asked, Writes, calling, refusalBy}
 use Rattle.model.specs.Contracts.{CallContract, after, baseOn, before, refusing}
 use Rattle.model.specs.Laws.{andThen-none, ask-none}
+use Rattle.model.specs.ClassLaws.{times-length}
 use Rattle.model.specs.Good.{Good, met-good, metTimes}
 use Rattle.network.specs.Refusals.{refusalIn, verdictIn}
 use Rattle.network.specs.declared.Refusal as code
@@ -131,6 +132,9 @@ module _ {card : List ℕ} {u : unit.Header} {a : Areas} {c : Asked} {k : Lent} 
 -- the times as a class meets them, by the bytes of the card
 abbrev pub metBy : (access : List ℕ) → (class : ℕ) → (live : List ℕ) → List ℕ
 metBy access v live = classTimes (accessOf access) v live
+
+pub met-length : (access : List ℕ) (v : ℕ) (live : List ℕ) → length (metBy access v live) ≡ length live
+met-length access v live = times-length (accessOf access) v live
 
 abbrev pub givenIn : unit.Header → Areas → (times roads order : List ℕ) → Given
 givenIn u a times roads order = givenOf (u .sizes) roads order (a .built .ranks) (a .built .pairs) times (a .aimed .down)

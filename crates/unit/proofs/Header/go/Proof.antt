@@ -8,11 +8,10 @@ use Rattle.model.specs.Areas.{Areas, Each, areasOf, lengths}
 use Rattle.model.specs.State.{Lent}
 use Rattle.model.specs.Calls.{Go}
 use Rattle.model.specs.Contracts.{baseOn}
-use Rattle.model.specs.ClassLaws.{times-length}
 use Rattle.network.specs.Refusals.{verdictIn}
 use Rattle.unit_questions.specs.Lending.{lentOf}
 use Rattle.unit.specs.Shape.{headerIn}
-use Rattle.unit.proofs.Trips.{TripPassed, trip-passed, trip-refused, tripVerdict, within}
+use Rattle.unit.proofs.Trips.{TripPassed, met-length, trip-passed, trip-refused, tripVerdict, within}
 use Rattle.unit.proofs.Going.{go-handed, go-room, go-trips}
 use Rattle.unit.proofs.Header.go.Statement.{statement}
 use Rattle.unit.proofs.Header.go.Tie as tie
@@ -44,7 +43,8 @@ said : (c : tie.After-go-asked) → let s = start c in
 said c =
     let s = start c in
     c .go-asked .ensures (baseOn (card s))
-    ∙ ap (λ (l : Each ℕ). tripVerdict (card s) (header s) l (Go (s .args .class) (s .args .start .0)) (lent s)) (c .before .lengths-of .ensures)
+    ∙ ap (λ (l : Each ℕ). tripVerdict (card s) (header s) l (Go (s .args .class) (s .args .start .0)) (lent s))
+    (c .before .lengths-of .ensures)
 
 -- none refuses
 passed : (c : tie.After-enum-told) → let s = start (c .before .before) in
@@ -66,10 +66,11 @@ search-requires c κs =
     let after-roads-of = after-order-of .before in
     let after-aimed-at = after-roads-of .before in
     let after-enum-told = after-aimed-at .before .before in
+    let a = start (after-enum-told .before .before) .args in
     let p = passed after-enum-told in
     let room = go-room p in record {
       within = within p (after-aimed-at .aimed-at .ensures) (after-roads-of .roads-of .ensures) (after-order-of .order-of .ensures)
-          (times-length _ _ _) (p .sizes .lengths .elapsed);
+          (met-length (after-access-of .access-of .result .now) (a .class) (a .live .now)) (p .sizes .lengths .elapsed);
       ways-long = room .route-room;
       log-long = room .log-room;
     }

@@ -21,7 +21,7 @@ returns c base =
     let after-is-aimed = after-lent-fit .before in
     let after-class-fits = after-is-aimed .before .before in
     let after-fits2 = after-class-fits .before in
-    let start = after-fits2 .before in
+    let start = after-fits2 .before .before in
     let a = start .args in
     go-asks base (headerIn (a .self)) (a .card .now) (lengthsIn (a .l)) (a .class) (a .start .0) (a .route) (a .log)
     (asked Lengths (c .ask6 .ensures) (after-fits2 .fits2 .ensures)

@@ -8,10 +8,9 @@ use Rattle.model.specs.Types.{Header}
 use Rattle.model.specs.Areas.{Areas, Each, areasOf, lengths}
 use Rattle.model.specs.State.{Lent, noneLent}
 use Rattle.model.specs.Calls.{Asked, Preview}
-use Rattle.model.specs.ClassLaws.{times-length}
 use Rattle.network.specs.Refusals.{verdictIn}
 use Rattle.unit.specs.Shape.{headerIn}
-use Rattle.unit.proofs.Trips.{TripPassed, trip-passed, trip-refused, tripVerdict, within}
+use Rattle.unit.proofs.Trips.{TripPassed, met-length, trip-passed, trip-refused, tripVerdict, within}
 use Rattle.unit.proofs.Previewing.{preview-facts, preview-handed, preview-trips, work-made, work-refused}
 use Rattle.unit.proofs.Header.preview.Statement.{statement}
 use Rattle.unit.proofs.Header.preview.Tie as tie
@@ -67,9 +66,11 @@ totals-requires c κs =
     let after-order-of = after-access-of .before in
     let after-roads-of = after-order-of .before in
     let after-aimed-at = after-roads-of .before in
-    let p = passed (after-aimed-at .before .before) noneLent in record {
+    let after-enum-told = after-aimed-at .before .before in
+    let a = start (after-enum-told .before .before) .args in
+    let p = passed after-enum-told noneLent in record {
       within = within p (after-aimed-at .aimed-at .ensures) (after-roads-of .roads-of .ensures) (after-order-of .order-of .ensures)
-          (times-length _ _ _) refl;
+          (met-length (after-access-of .access-of .result .now) (a .class) (a .live .now)) refl;
       work-is = preview-facts p .work-is;
     }
 
@@ -80,11 +81,12 @@ returns-2 c =
     let after-order-of = after-access-of .before in
     let after-roads-of = after-order-of .before in
     let after-aimed-at = after-roads-of .before in
+    let (_, (_, (_, (_, (_, (_, (_, (_, (_, (_, (_, (_, (work-kept, _))))))))))))) = after-totals .totals .kept in
     record {
       call = λ k. preview-handed (passed (after-aimed-at .before .before) k) (after-aimed-at .aimed-at .ensures)
           (after-roads-of .roads-of .ensures) (after-order-of .order-of .ensures) (after-access-of .access-of .ensures)
           (after-totals .totals .ensures) (c .before .previewed .ensures) (c .answered2 .ensures);
-      work-left = work-made (search needs) (c .before .previewed .ensures) (c .answered2 .ensures);
+      work-left = work-made work-kept (c .before .previewed .ensures) (c .answered2 .ensures);
     }
 
 pub preview-spec : {M : Type 1} → statement M
