@@ -103,15 +103,7 @@ fn lending(call: Call, route: usize, log: usize) -> Scripted
 
 // The call that a kind and four words spell, beside areas of so many entries. A go and a list of stops are lent as many of them as the last
 // two words say, all of an area that has fewer; any other call is lent all, and leaves them.
-fn spell(
-    kind: u32,
-    one: u32,
-    two: u32,
-    three: u32,
-    four: u32,
-    route: usize,
-    log: usize,
-) -> Scripted
+fn spell(kind: u32, one: u32, two: u32, three: u32, four: u32, route: usize, log: usize) -> Scripted
     ensures { λ r. ⌜ ((w : ℕ) (stops : List ℕ)
         → scriptedIn r w stops ≡ spelled kind one two three four stops (record { route = route; log = log; work = w })) ⌝ }
 {
