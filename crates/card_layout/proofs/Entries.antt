@@ -81,7 +81,8 @@ module _ (card : List ℕ) (i : ℕ) {b : Bool} (e : b ≡ hasEntry card i) wher
       → record { kind = k; start = s; size = l } ≡ entryOf card i
   entry-read {k} {s} {l} t ek es el = same ek es el ∙ entry-is t
     where
-      same : {a b c : ℕ} → k ≡ a → s ≡ b → l ≡ c → _≡_ {A = Section} (record { kind = k; start = s; size = l }) (record { kind = a; start = b; size = c })
+      same : {a b c : ℕ} → k ≡ a → s ≡ b → l ≡ c
+          → _≡_ {A = Section} (record { kind = k; start = s; size = l }) (record { kind = a; start = b; size = c })
       same p q r = rw (p, q, r)
 
 -- ---- bodies

@@ -165,7 +165,7 @@ pub fn named(card: &[u8], n: u32, m: u32) -> bool
 
 const WRITTEN: u32 = 2;
 
-const WRITTEN_TABLE: usize = 28;
+pub const WRITTEN_TABLE: usize = 28;
 
 // The bytes of such a card with n junctions and m roads.
 pub fn card_size(n: u32, m: u32) -> usize
