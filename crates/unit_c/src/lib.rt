@@ -527,12 +527,12 @@ pub extern "C" fn unit_stops(
 // ---- a script
 
 // Prepares a card on the eight areas and makes the calls of a script: a kind, and as many words as that call has. 0 road time is a set,
-// 1 junction an aim, 2 junction an estimate, 3 class start r l a go, which is lent the first r entries of the route and l of the log, all if
-// there are fewer, 4 class road time start a preview, which is lent the work area, 5 class s r l and then s stops a list of stops, lent as a
-// go. Any other kind ends the script, and so does a call that is cut short. `out` gets 66 words for each answer: the question that refuses,
-// or 0; estimate, total or the leg of 17; count; number of roads; of a preview 0, present total, new total, change as two's complement; of a
-// list of stops 0, whole total, 0, number of legs; then total and number of roads of each of 31 legs, 0 where there is none. As many calls
-// are made as `out` has room for. What is handed back is preparing's answer with the last header.
+// 1 junction an aim, 2 junction an estimate, 3 class start r l a go, which is lent the first r entries of the route and l of the log, all
+// if there are fewer, 4 class road time start a preview, which is lent the work area, 5 class s r l and then s stops a list of stops, lent
+// as a go. Any other kind ends the script, and so does a call that is cut short. `out` gets 66 words for each answer: the question that
+// refuses, or 0; estimate, total or the leg of 17; count; number of roads; of a preview 0, present total, new total, change as two's
+// complement; of a list of stops 0, whole total, 0, number of legs; then total and number of roads of each of 31 legs, 0 where there is
+// none. As many calls are made as `out` has room for. What is handed back is preparing's answer with the last header.
 #[no_mangle]
 pub extern "C" fn unit_replay(
     card: &[u8],

@@ -310,7 +310,8 @@ module _ {card script work₀ work : List ℕ} {room at k : ℕ} {out₀ out : L
 
 -- ---- the machine's answers
 
-machine-answers : (C : CardMap) (m : Machine) (l : List Call) (r : List Step) → Demand3 C m l r → answersOf r ≡ machineAnswers C m (map plain l)
+machine-answers : (C : CardMap) (m : Machine) (l : List Call) (r : List Step) → Demand3 C m l r
+    → answersOf r ≡ machineAnswers C m (map plain l)
 machine-answers C m [] [] d = refl
 machine-answers C m [] (u ∷ r) d = absurd d
 machine-answers C m (c ∷ l) [] d = absurd d

@@ -4,7 +4,7 @@ ghost use mathlib.Core.Bool.{_&&_};
 ghost use Prim.Native.Nat.{_*_, _+_, _≤_, min, ℕ};
 ghost use lib.Dec.{leb};
 ghost use Rattle.graph.specs.Total.{Total};
-ghost use Rattle.model.specs.Limits.{fewestStops, mostJunctions, mostStops};
+ghost use Rattle.model.specs.Limits.{fewestStops, mostStops};
 ghost use Rattle.model.specs.Stops.{allBelow};
 ghost use Rattle.model.specs.Calls.{Stops};
 ghost use Rattle.network.specs.Refusals.{verdictIn};
@@ -70,13 +70,15 @@ fn count_fits(stops: usize) -> bool
     (FEWEST_STOPS <= stops) & (stops <= MOST_STOPS)
 }
 
-// Question 14, of a list of so many stops; only asked of one that 16 lets pass, and of a header in range.
+// Question 14, of a list of so many stops.
 fn lent_fit(n: u32, stops: usize, route: usize, log: usize) -> bool
-    requires { ⌜ (n ≤ mostJunctions) × (stops ≤ mostStops) ⌝ }
     ensures { λ r. ⌜ r ≡ (leb (stops * n) route && leb n log) ⌝ }
 {
     let n = n as usize;
-    (stops * n <= route) & (n <= log)
+    if n == 0 {
+        return true;
+    }
+    (stops <= route / n) & (n <= log)
 }
 
 // Questions 9, 16, 18, 12 and 14.
@@ -93,23 +95,16 @@ fn stops_asked(
         (Stops class (now (stops .entry))) route log) ⌝ }
 {
     let sizes = header.sizes;
-    if !unit_questions::fits(sizes, card, l) {
-        return Verdict::Failed(Refusal::LENGTHS);
-    }
-    if !count_fits(stops.len()) {
-        return Verdict::Failed(Refusal::STOP_COUNT);
-    }
-    if !unit_questions::class_fits(class) {
-        return Verdict::Failed(Refusal::NO_CLASS);
-    }
-    if !all_below(sizes.n, stops) {
-        return Verdict::Failed(Refusal::NO_JUNCTION);
-    }
-    network::ask(
-        lent_fit(sizes.n, stops.len(), route, log),
-        Refusal::LENT_LENGTHS,
-        Verdict::Passed,
-    )
+    let fits = unit_questions::fits(sizes, card, l);
+    let counted = count_fits(stops.len());
+    let driven = unit_questions::class_fits(class);
+    let below = all_below(sizes.n, stops);
+    let roomy = lent_fit(sizes.n, stops.len(), route, log);
+    let lent = network::ask(roomy, Refusal::LENT_LENGTHS, Verdict::Passed);
+    let known = network::ask(below, Refusal::NO_JUNCTION, lent);
+    let classed = network::ask(driven, Refusal::NO_CLASS, known);
+    let listed = network::ask(counted, Refusal::STOP_COUNT, classed);
+    network::ask(fits, Refusal::LENGTHS, listed)
 }
 
 // ---- legs

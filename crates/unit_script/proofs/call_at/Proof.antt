@@ -13,8 +13,8 @@ returns c w =
     let start = after-word-at .before .before in
     let a = start .args in
     call-there (a .script .now) (a .at) (record { route = a .route; log = a .log; work = w }) (after-word-at .word-at .ensures)
-    (after-word-at2 .word-at2 .ensures) (after-word-at3 .word-at3 .ensures) (after-word-at4 .word-at4 .ensures) (c .before .word-at5 .ensures)
-    (c .spell .ensures w _)
+    (after-word-at2 .word-at2 .ensures) (after-word-at3 .word-at3 .ensures) (after-word-at4 .word-at4 .ensures)
+    (c .before .word-at5 .ensures) (c .spell .ensures w _)
 
 pub call-at-spec : {M : Type 1} → statement M
 call-at-spec =

@@ -58,8 +58,8 @@ returns-5 c w stops =
     let start = start (else4 lent .before) in
     let a = start .args in
     c .lending4 .ensures w stops
-    ∙ spells-go (a .one) (a .two) (a .three) (a .four) stops (beside start w) (after-at-most lent .at-most .ensures) (lent .at-most2 .ensures)
-    (then5 .if5 .taken)
+    ∙ spells-go (a .one) (a .two) (a .three) (a .four) stops (beside start w) (after-at-most lent .at-most .ensures)
+    (lent .at-most2 .ensures) (then5 .if5 .taken)
 
 returns-6 : tie.Need-returns-6
 returns-6 c w stops =
@@ -68,8 +68,8 @@ returns-6 c w stops =
     let else2 = else3 .before in
     let start = start else3 in
     let a = start .args in
-    spells-stops (a .one) (a .two) (a .three) (a .four) stops (beside start w) (after-at-most lent .at-most .ensures) (lent .at-most2 .ensures)
-    (else2 .before .if1 .left) (else2 .if2 .left) (else3 .if3 .left) (else4 lent .if4 .left) (c .if5 .left)
+    spells-stops (a .one) (a .two) (a .three) (a .four) stops (beside start w) (after-at-most lent .at-most .ensures)
+    (lent .at-most2 .ensures) (else2 .before .if1 .left) (else2 .if2 .left) (else3 .if3 .left) (else4 lent .if4 .left) (c .if5 .left)
 
 pub spell-spec : {M : Type 1} → statement M
 spell-spec =

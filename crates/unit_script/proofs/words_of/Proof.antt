@@ -1,5 +1,5 @@
--- Each of the six kinds has its words, a list of stops as many more as its third word says (`stops-words`); a kind that is none of them has none
--- (`none-of`).
+-- Each of the six kinds has its words, a list of stops as many more as its third word says (`stops-words`); a kind that is none of them
+-- has none (`none-of`).
 use Rattle.unit_script.proofs.Words.{none-of, stops-words}
 use borrow.Author.Needs.{needs}
 use Rattle.unit_script.proofs.words_of.Statement.{statement}
