@@ -1,11 +1,10 @@
 -- The ways through preparing: questions 1 to 7, and what is handed back. Assumes nothing.
-use mathlib.Core.Path.{_∙_, _≡_, ap, ap₂, sym}
+use mathlib.Core.Path.{_∙_, _≡_, ap, ap₂, refl, sym}
 use mathlib.Core.Bool.{Bool, false, true}
 use mathlib.Core.Option.{Option, none, some}
 use mathlib.Core.List.{List}
-use Prim.Native.Nat.{_%_, ℕ}
+use Prim.Native.Nat.{_<_, ℕ}
 use lib.ListN.{length}
-use native.Mathlib.Nat.{mod-eq-of-lt}
 use native.Mathlib.Omega.{arith}
 use Rattle.model.specs.Types.{Answered, AreaLengths, Read, Refusal, Unreadable}
 use Rattle.model.specs.Card.{cardRefusal, mapOn, readCard, reading}
@@ -21,6 +20,11 @@ use Rattle.unit_preparing.specs.Preparing.{Accepts, refusedBy}
 unread : (n m : ℕ) (x : Option Refusal) (q : Refusal) → Unreadable q ≡ reading n m x → x ≡ some q
 unread n m none q e = absurd (let z : _≡_ {A = ℕ} 0 1 = cc in omega arith)
 unread n m (some p) q e = let z : q ≡ p = cc in ap some (sym z)
+
+-- the length of a card that is read is a word
+pub word-long : (card : List ℕ) {n m : ℕ} → Read n m ≡ readCard card → length card < 4294967296
+word-long card {n} {m} e =
+    card-facts card (read-is (mapOn card .vertices) (mapOn card .base .arcs) n m (cardRefusal card) e .0) .size
 
 module _ (card : List ℕ) (a : Areas) where
   pub asked-unread : {q : Refusal} → Unreadable q ≡ readCard card → areasRefusal card a ≡ some q
@@ -40,8 +44,7 @@ module _ (card : List ℕ) (a : Areas) where
     unfolding areasRefusal
     asked-7 h = rw (read-facts .0, fits, h)
 
-    -- an accepted card's length is a word
-    pub asked-passes : b ≡ true → Accepts card (record { n = n; m = m; pairs = 0; card = length card % 4294967296 }) a
+    pub asked-passes : b ≡ true → Accepts card (record { n = n; m = m; pairs = 0; card = length card }) a
     unfolding areasRefusal
     asked-passes h =
         let (accepted, n-is, m-is) = read-facts in
@@ -49,7 +52,7 @@ module _ (card : List ℕ) (a : Areas) where
           passes = rw (accepted, fits, h);
           n-is = n-is;
           m-is = m-is;
-          card-is = mod-eq-of-lt (card-facts card accepted .size);
+          card-is = refl;
         }
 
 -- ---- what is handed back

@@ -31,11 +31,12 @@ fn ask(card: &[u8], l: Lengths) -> Asked
     match card::read(card) {
         Reading::Unreadable(q) => Asked::No(q),
         Reading::Read(n, m) => {
+            let size = card.len() as u32;
             let s = Sizes {
                 n: n,
                 m: m,
                 pairs: 0,
-                card: card.len() as u32,
+                card: size,
             };
             if unit_questions::lengths_fit(s, l) {
                 Asked::Yes(s)
