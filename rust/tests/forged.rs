@@ -699,7 +699,7 @@ fn noise_in_every_area() {
         let enough = accepted > calls / 4 && no_junction > calls / 20 && no_path > calls / 100;
         let kept = [met.kept_by_estimates, met.kept_by_goes, met.kept_by_previews];
         assert!(enough && kept.iter().all(|&kept| kept > 4 * calls), "{met:?}");
-        met.groups.at_least(calls / 200);
+        met.groups.at_least(calls / 400);
         let Previews { refusals, changes, absent } = met.previews;
         let refused = [9, 10, 11, 12, 13, 18].map(|number| refusals[number]);
         assert!(
