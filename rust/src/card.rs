@@ -49,7 +49,8 @@ pub fn map(card: &[u8]) -> Result<Rows, Refusal> {
     Ok((row(roads.as_flattened()), row(order), access))
 }
 
-/// The bodies, all questions answered with yes.
+/// The bodies, all questions answered with yes. Inlined, since `read`, which is measured, is a sixth quicker then.
+#[inline(always)]
 fn bodies(card: &[u8]) -> Result<Bodies<'_>, Refusal> {
     let entries = entries(card)?;
     ask(follow_one_another(&entries, card.len()), Refusal::Starts)?;
