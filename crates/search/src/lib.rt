@@ -528,8 +528,8 @@ pub fn totals(
     estimates: &mut [TimeWord],
     work: &mut [TimeWord],
 ) -> TwoTotals
-    requires { ⌜ LendsBoth (given trip roads order ranks pairs access live down) (now leaving) (now groups) (trip .start .0) (trip .target .0)
-        (now estimates) (now work) ⌝ }
+    requires { ⌜ LendsBoth (given trip roads order ranks pairs access live down) (now leaving) (now groups)
+        (trip .start .0) (trip .target .0) (now estimates) (now work) ⌝ }
     ensures { λ r. ⌜ FindsBoth (givenTo trip roads order ranks pairs access live down)
         (met (seenBy trip view) (now (access .entry)) (now (live .entry))) (now (leaving .entry)) (now (groups .entry))
         (trip .start .0) (trip .target .0) (now (estimates .entry)) (now (estimates .exit)) (r .present .0) (r .new .0) ⌝ }
