@@ -50,8 +50,9 @@ class-lives bytes live c lc short = fun-ext (λ i. at i (decLt i (length live)))
     at : (i : ℕ) → Dec (i < length live) → liveOf (classTimes (accessOf bytes) c live) i ≡ classLive (accessOf bytes) c (liveOf live) i
     at i (yes l) = rw (times-at (accessOf bytes) c live i l) (of-cond (admits (accessOf bytes i) c) (getD live i 0))
     at i (no l) =
+        let times = classTimes (accessOf bytes) c live in
         let k = times-length (accessOf bytes) c live in
-        let p : getD (classTimes (accessOf bytes) c live) i 0 ≡ 0 = List·getD-eq-default (classTimes (accessOf bytes) c live) 0 (omega (arith, k)) in
+        let p : getD times i 0 ≡ 0 = List·getD-eq-default times 0 (omega (arith, k)) in
         let q : getD live i 0 ≡ 0 = List·getD-eq-default live 0 (omega arith) in
         let b : accessOf bytes i ≡ everyClass = List·getD-eq-default bytes everyClass (omega arith) in
         rw (p, q, b, all-pass c lc)

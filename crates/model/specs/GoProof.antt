@@ -288,6 +288,7 @@ module _ {card : List ℕ} {s : State} (g : Good card s) where
       let k = log-fits (met-good g c) j z lj lz in
       let v = length-vertices (logOf G) in
       record {
-        route = route-length (totalOf G) (routeOf G) (l .route) (λ t e. (let d = route-short (met-good g c) j z t lj lz e in omega (arith, d, lr)));
+        route = route-length (totalOf G) (routeOf G) (l .route)
+            (λ t e. (let d = route-short (met-good g c) j z t lj lz e in omega (arith, d, lr)));
         log = first-length (vertices (logOf G)) (l .log) (omega (arith, v, k, ll));
       }

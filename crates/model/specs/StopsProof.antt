@@ -76,7 +76,8 @@ metLive card c s = classLive (accessOf (accessIn card)) c (liveOf (s .areas .liv
 module _ {card : List ℕ} {c : ℕ} (lc : c < classes) where
   -- of one leg: the unit's total is the machine's, and so is its route
   leg-total : {s : State} → Good card s → (a b : ℕ) → a < mapOn card .vertices → b < mapOn card .vertices
-      → totalOf (searchOf (mapOn card) (classTimes (accessOf (accessIn card)) c (s .areas .live)) a b) ≡ timeOf (mapOn card) (metLive card c s) a b
+      → totalOf (searchOf (mapOn card) (classTimes (accessOf (accessIn card)) c (s .areas .live)) a b)
+      ≡ timeOf (mapOn card) (metLive card c s) a b
   leg-total g a b la lb =
       total-is (met-good g c) a b la lb ∙ ap (λ (live : ℕ → Total). timeOf (mapOn card) live a b) (met-lives g c lc)
 
@@ -280,7 +281,8 @@ not-17 k c stops r l p h e =
     asked-other 17 (leb fewestStops (length stops) && leb (length stops) mostStops) StopCount _ (λ q. omega (arith, q))
     (asked-other 17 (ltb c classes) NoClass _ (λ q. omega (arith, q))
     (asked-other 17 (allBelow (k .n) stops) NoJunction _ (λ q. omega (arith, q))
-    (asked-other 17 (leb (length stops * k .n) r && leb (k .n) l) LentLengths none (λ q. omega (arith, q)) (λ p e. absurd (none-some refl e)))))
+    (asked-other 17 (leb (length stops * k .n) r && leb (k .n) l) LentLengths none (λ q. omega (arith, q))
+    (λ p e. absurd (none-some refl e)))))
     p h (ap (λ (r : Refusal). r .question) e)
 
 -- ---- what is right about a journey, by how it ended

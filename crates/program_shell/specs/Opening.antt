@@ -55,8 +55,8 @@ opening file a = unlessOver (length file) (onCard (cardRefusal file) file a)
 abbrev pub roomIn : (bytes size most : ℕ) → ℕ
 roomIn bytes size most = min (bytes / size) most
 
--- by the bodies that the table of contents names, whatever else the card is; on one that reading accepts, these are its numbers of junctions
--- and roads, to 200 and 800 (law: `Cards.rooms`)
+-- by the bodies that the table of contents names, whatever else the card is; on one that reading accepts, these are its numbers of
+-- junctions and roads, to 200 and 800 (law: `Cards.rooms`)
 abbrev pub junctionRoom : (file : List ℕ) → ℕ
 junctionRoom file = roomIn (length (orderIn file)) placeSize junctionLimit
 

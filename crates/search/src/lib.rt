@@ -3,7 +3,7 @@
 ghost use Prim.Native.Nat.{_≤_};
 ghost use lib.ListN.{length};
 ghost use Rattle.search_junctions.specs.Views.{met};
-ghost use Rattle.search_junctions.specs.State.{given};
+ghost use Rattle.search_junctions.specs.State.{given, givenTo};
 ghost use Rattle.search_run.specs.Runs.{BlankRoom, Lends, Within, written};
 ghost use Rattle.search.specs.Searches.{FindsBoth, FindsTotal, LendsBoth, LendsIn, Searches, seenBy};
 use network::MOST_JUNCTIONS;
@@ -15,13 +15,15 @@ use search_queue::BLANK;
 use search_run::advance;
 use search_run::way_back;
 
-// A search has a room of its own, three words for each of n junctions (search_labels). Of three rooms it takes the smallest that is large
+// A search has a room of its own, three words for each of n junctions (search_labels). Of four rooms it takes the smallest that is large
 // enough: a fresh room is filled with blank words, and that takes time.
 const SMALL: usize = 256;
 
 const MIDDLE: usize = 1024;
 
-const LARGE: usize = MOST_JUNCTIONS as usize;
+const LARGE: usize = 2560;
+
+const LARGEST: usize = MOST_JUNCTIONS as usize;
 
 const WORDS: usize = 3;
 
@@ -52,10 +54,8 @@ fn search_in(
 ) -> Searched
     requires { ⌜ LendsIn (given trip roads order ranks pairs access live down) (now leaving) (now groups) (trip .start .0) (trip .target .0)
         (written estimates elapsed route log) (now room) ⌝ }
-    ensures { λ r. ⌜ Searches
-        (given trip (roads .entry) (order .entry) (ranks .entry) (pairs .entry) (access .entry) (live .entry) (down .entry))
-        (now (leaving .entry)) (now (groups .entry)) (trip .start .0) (trip .target .0)
-        (written (estimates .entry) (elapsed .entry) (route .entry) (log .entry))
+    ensures { λ r. ⌜ Searches (givenTo trip roads order ranks pairs access live down) (now (leaving .entry)) (now (groups .entry))
+        (trip .start .0) (trip .target .0) (written (estimates .entry) (elapsed .entry) (route .entry) (log .entry))
         (written (estimates .exit) (elapsed .exit) (route .exit) (log .exit)) (r .total .0) (r .count) (r .roads) ⌝ }
 {
     let sizes = trip.sizes;
@@ -96,8 +96,8 @@ fn search_in(
     }
 }
 
-// The search of a go from the start to the target that was aimed at last.
-pub fn search(
+// The search of a go on a smaller map.
+fn search_small(
     trip: Trip,
     roads: &[u8],
     order: &[u8],
@@ -114,11 +114,9 @@ pub fn search(
     log: &mut [u32],
 ) -> Searched
     requires { ⌜ Lends (given trip roads order ranks pairs access live down) (now leaving) (now groups) (trip .start .0) (trip .target .0)
-        (written estimates elapsed route log) ⌝ }
-    ensures { λ r. ⌜ Searches
-        (given trip (roads .entry) (order .entry) (ranks .entry) (pairs .entry) (access .entry) (live .entry) (down .entry))
-        (now (leaving .entry)) (now (groups .entry)) (trip .start .0) (trip .target .0)
-        (written (estimates .entry) (elapsed .entry) (route .entry) (log .entry))
+        (written estimates elapsed route log) × (trip .sizes .n ≤ 1024) ⌝ }
+    ensures { λ r. ⌜ Searches (givenTo trip roads order ranks pairs access live down) (now (leaving .entry)) (now (groups .entry))
+        (trip .start .0) (trip .target .0) (written (estimates .entry) (elapsed .entry) (route .entry) (log .entry))
         (written (estimates .exit) (elapsed .exit) (route .exit) (log .exit)) (r .total .0) (r .count) (r .roads) ⌝ }
 {
     let n = trip.sizes.n as usize;
@@ -142,8 +140,52 @@ pub fn search(
             &mut room,
         );
     }
-    if n <= MIDDLE {
-        let mut room = [BLANK; WORDS * MIDDLE];
+    let mut room = [BLANK; WORDS * MIDDLE];
+    search_in(
+        trip,
+        roads,
+        order,
+        ranks,
+        pairs,
+        access,
+        live,
+        down,
+        leaving,
+        groups,
+        estimates,
+        elapsed,
+        route,
+        log,
+        &mut room,
+    )
+}
+
+// And on a larger one.
+fn search_large(
+    trip: Trip,
+    roads: &[u8],
+    order: &[u8],
+    ranks: &[u32],
+    pairs: &[u32],
+    access: &[u8],
+    live: &[TimeWord],
+    down: &[TimeWord],
+    leaving: &[u32],
+    groups: &[u32],
+    estimates: &mut [TimeWord],
+    elapsed: &mut [TimeWord],
+    route: &mut [u32],
+    log: &mut [u32],
+) -> Searched
+    requires { ⌜ Lends (given trip roads order ranks pairs access live down) (now leaving) (now groups) (trip .start .0) (trip .target .0)
+        (written estimates elapsed route log) ⌝ }
+    ensures { λ r. ⌜ Searches (givenTo trip roads order ranks pairs access live down) (now (leaving .entry)) (now (groups .entry))
+        (trip .start .0) (trip .target .0) (written (estimates .entry) (elapsed .entry) (route .entry) (log .entry))
+        (written (estimates .exit) (elapsed .exit) (route .exit) (log .exit)) (r .total .0) (r .count) (r .roads) ⌝ }
+{
+    let n = trip.sizes.n as usize;
+    if n <= LARGE {
+        let mut room = [BLANK; WORDS * LARGE];
         return search_in(
             trip,
             roads,
@@ -162,7 +204,7 @@ pub fn search(
             &mut room,
         );
     }
-    let mut room = [BLANK; WORDS * LARGE];
+    let mut room = [BLANK; WORDS * LARGEST];
     search_in(
         trip,
         roads,
@@ -179,6 +221,65 @@ pub fn search(
         route,
         log,
         &mut room,
+    )
+}
+
+// The search of a go from the start to the target that was aimed at last.
+pub fn search(
+    trip: Trip,
+    roads: &[u8],
+    order: &[u8],
+    ranks: &[u32],
+    pairs: &[u32],
+    access: &[u8],
+    live: &[TimeWord],
+    down: &[TimeWord],
+    leaving: &[u32],
+    groups: &[u32],
+    estimates: &mut [TimeWord],
+    elapsed: &mut [TimeWord],
+    route: &mut [u32],
+    log: &mut [u32],
+) -> Searched
+    requires { ⌜ Lends (given trip roads order ranks pairs access live down) (now leaving) (now groups) (trip .start .0) (trip .target .0)
+        (written estimates elapsed route log) ⌝ }
+    ensures { λ r. ⌜ Searches (givenTo trip roads order ranks pairs access live down) (now (leaving .entry)) (now (groups .entry))
+        (trip .start .0) (trip .target .0) (written (estimates .entry) (elapsed .entry) (route .entry) (log .entry))
+        (written (estimates .exit) (elapsed .exit) (route .exit) (log .exit)) (r .total .0) (r .count) (r .roads) ⌝ }
+{
+    if trip.sizes.n as usize <= MIDDLE {
+        return search_small(
+            trip,
+            roads,
+            order,
+            ranks,
+            pairs,
+            access,
+            live,
+            down,
+            leaving,
+            groups,
+            estimates,
+            elapsed,
+            route,
+            log,
+        );
+    }
+    search_large(
+        trip,
+        roads,
+        order,
+        ranks,
+        pairs,
+        access,
+        live,
+        down,
+        leaving,
+        groups,
+        estimates,
+        elapsed,
+        route,
+        log,
     )
 }
 
@@ -204,10 +305,8 @@ fn total_in(
     requires { ⌜ Within (given trip roads order ranks pairs access live down) (now leaving) (now groups) (trip .start .0) (trip .target .0)
         (length (now estimates)) (length (now elapsed))
         × (trip .sizes .n ≤ length (now log)) × BlankRoom (trip .sizes .n) (now room) ⌝ }
-    ensures { λ r. ⌜ FindsTotal
-        (given trip (roads .entry) (order .entry) (ranks .entry) (pairs .entry) (access .entry) (live .entry) (down .entry))
-        (now (leaving .entry)) (now (groups .entry)) (trip .start .0) (trip .target .0)
-        (now (estimates .entry)) (now (estimates .exit)) (r .0) ⌝ }
+    ensures { λ r. ⌜ FindsTotal (givenTo trip roads order ranks pairs access live down) (now (leaving .entry)) (now (groups .entry))
+        (trip .start .0) (trip .target .0) (now (estimates .entry)) (now (estimates .exit)) (r .0) ⌝ }
 {
     let target = trip.target;
     // no junction is logged twice
@@ -232,8 +331,8 @@ fn total_in(
     Time::of_word(elapsed[target.0 as usize])
 }
 
-// The total of a search, whose log and route are not kept.
-fn least_total(
+// The total of a search on a smaller map, whose log and route are not kept.
+fn total_small(
     trip: Trip,
     roads: &[u8],
     order: &[u8],
@@ -248,11 +347,9 @@ fn least_total(
     elapsed: &mut [TimeWord],
 ) -> Time
     requires { ⌜ Within (given trip roads order ranks pairs access live down) (now leaving) (now groups) (trip .start .0) (trip .target .0)
-        (length (now estimates)) (length (now elapsed)) ⌝ }
-    ensures { λ r. ⌜ FindsTotal
-        (given trip (roads .entry) (order .entry) (ranks .entry) (pairs .entry) (access .entry) (live .entry) (down .entry))
-        (now (leaving .entry)) (now (groups .entry)) (trip .start .0) (trip .target .0)
-        (now (estimates .entry)) (now (estimates .exit)) (r .0) ⌝ }
+        (length (now estimates)) (length (now elapsed)) × (trip .sizes .n ≤ 1024) ⌝ }
+    ensures { λ r. ⌜ FindsTotal (givenTo trip roads order ranks pairs access live down) (now (leaving .entry)) (now (groups .entry))
+        (trip .start .0) (trip .target .0) (now (estimates .entry)) (now (estimates .exit)) (r .0) ⌝ }
 {
     let n = trip.sizes.n as usize;
     if n <= SMALL {
@@ -275,9 +372,50 @@ fn least_total(
             &mut room,
         );
     }
-    if n <= MIDDLE {
-        let mut log = [0u32; MIDDLE];
-        let mut room = [BLANK; WORDS * MIDDLE];
+    let mut log = [0u32; MIDDLE];
+    let mut room = [BLANK; WORDS * MIDDLE];
+    total_in(
+        trip,
+        roads,
+        order,
+        ranks,
+        pairs,
+        access,
+        live,
+        down,
+        leaving,
+        groups,
+        estimates,
+        elapsed,
+        &mut log,
+        &mut room,
+    )
+}
+
+// And on a larger one.
+fn total_large(
+    trip: Trip,
+    roads: &[u8],
+    order: &[u8],
+    ranks: &[u32],
+    pairs: &[u32],
+    access: &[u8],
+    live: &[TimeWord],
+    down: &[TimeWord],
+    leaving: &[u32],
+    groups: &[u32],
+    estimates: &mut [TimeWord],
+    elapsed: &mut [TimeWord],
+) -> Time
+    requires { ⌜ Within (given trip roads order ranks pairs access live down) (now leaving) (now groups) (trip .start .0) (trip .target .0)
+        (length (now estimates)) (length (now elapsed)) ⌝ }
+    ensures { λ r. ⌜ FindsTotal (givenTo trip roads order ranks pairs access live down) (now (leaving .entry)) (now (groups .entry))
+        (trip .start .0) (trip .target .0) (now (estimates .entry)) (now (estimates .exit)) (r .0) ⌝ }
+{
+    let n = trip.sizes.n as usize;
+    if n <= LARGE {
+        let mut log = [0u32; LARGE];
+        let mut room = [BLANK; WORDS * LARGE];
         return total_in(
             trip,
             roads,
@@ -295,8 +433,8 @@ fn least_total(
             &mut room,
         );
     }
-    let mut log = [0u32; LARGE];
-    let mut room = [BLANK; WORDS * LARGE];
+    let mut log = [0u32; LARGEST];
+    let mut room = [BLANK; WORDS * LARGEST];
     total_in(
         trip,
         roads,
@@ -312,6 +450,58 @@ fn least_total(
         elapsed,
         &mut log,
         &mut room,
+    )
+}
+
+// The total of a search.
+fn least_total(
+    trip: Trip,
+    roads: &[u8],
+    order: &[u8],
+    ranks: &[u32],
+    pairs: &[u32],
+    access: &[u8],
+    live: &[TimeWord],
+    down: &[TimeWord],
+    leaving: &[u32],
+    groups: &[u32],
+    estimates: &mut [TimeWord],
+    elapsed: &mut [TimeWord],
+) -> Time
+    requires { ⌜ Within (given trip roads order ranks pairs access live down) (now leaving) (now groups) (trip .start .0) (trip .target .0)
+        (length (now estimates)) (length (now elapsed)) ⌝ }
+    ensures { λ r. ⌜ FindsTotal (givenTo trip roads order ranks pairs access live down) (now (leaving .entry)) (now (groups .entry))
+        (trip .start .0) (trip .target .0) (now (estimates .entry)) (now (estimates .exit)) (r .0) ⌝ }
+{
+    if trip.sizes.n as usize <= MIDDLE {
+        return total_small(
+            trip,
+            roads,
+            order,
+            ranks,
+            pairs,
+            access,
+            live,
+            down,
+            leaving,
+            groups,
+            estimates,
+            elapsed,
+        );
+    }
+    total_large(
+        trip,
+        roads,
+        order,
+        ranks,
+        pairs,
+        access,
+        live,
+        down,
+        leaving,
+        groups,
+        estimates,
+        elapsed,
     )
 }
 
@@ -340,11 +530,9 @@ pub fn totals(
 ) -> TwoTotals
     requires { ⌜ LendsBoth (given trip roads order ranks pairs access live down) (now leaving) (now groups)
         (trip .start .0) (trip .target .0) (now estimates) (now work) ⌝ }
-    ensures { λ r. ⌜ FindsBoth
-        (given trip (roads .entry) (order .entry) (ranks .entry) (pairs .entry) (access .entry) (live .entry) (down .entry))
-        (met (seenBy trip view) (now (access .entry)) (now (live .entry)))
-        (now (leaving .entry)) (now (groups .entry)) (trip .start .0) (trip .target .0)
-        (now (estimates .entry)) (now (estimates .exit)) (r .present .0) (r .new .0) ⌝ }
+    ensures { λ r. ⌜ FindsBoth (givenTo trip roads order ranks pairs access live down)
+        (met (seenBy trip view) (now (access .entry)) (now (live .entry))) (now (leaving .entry)) (now (groups .entry))
+        (trip .start .0) (trip .target .0) (now (estimates .entry)) (now (estimates .exit)) (r .present .0) (r .new .0) ⌝ }
 {
     let sizes = trip.sizes;
     let start = trip.start;

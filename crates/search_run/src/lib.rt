@@ -7,7 +7,7 @@ ghost use lib.ListN.{length};
 ghost use Rattle.model.specs.Layout.{roadSize};
 ghost use Rattle.model.specs.State.{first};
 ghost use Rattle.search_labels.specs.Ways.{arcsBack, wayOf};
-ghost use Rattle.search_junctions.specs.State.{given};
+ghost use Rattle.search_junctions.specs.State.{given, givenTo};
 ghost use Rattle.search_labels.specs.Labelling.{labelsIn};
 ghost use Rattle.search_run.specs.Runs.{Advances, LendsRoom, backIn, written};
 use areas::fill;
@@ -57,10 +57,8 @@ pub fn advance(
 ) -> Progress
     requires { ⌜ LendsRoom (given trip roads order ranks pairs access live down) (now leaving) (now groups)
         (trip .start .0) (trip .target .0) (written estimates elapsed room log) ⌝ }
-    ensures { λ r. ⌜ Advances
-        (given trip (roads .entry) (order .entry) (ranks .entry) (pairs .entry) (access .entry) (live .entry) (down .entry))
-        (now (leaving .entry)) (now (groups .entry)) (trip .start .0) (trip .target .0) budget
-        (written (estimates .entry) (elapsed .entry) (room .entry) (log .entry))
+    ensures { λ r. ⌜ Advances (givenTo trip roads order ranks pairs access live down) (now (leaving .entry)) (now (groups .entry))
+        (trip .start .0) (trip .target .0) budget (written (estimates .entry) (elapsed .entry) (room .entry) (log .entry))
         (written (estimates .exit) (elapsed .exit) (room .exit) (log .exit)) (r .count) (r .complete) ⌝ }
 {
     let n = trip.sizes.n;

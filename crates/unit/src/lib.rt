@@ -405,8 +405,8 @@ impl Header {
         self.estimate_part(card, l, ranks, pairs, down, estimates, j)
     }
 
-    // The way of a class from a start to the target at the live times: total, count and roads, or 15 with the count. A road that is barred to
-    // the class counts as closed (document 02, A6).
+    // The way of a class from a start to the target at the live times: total, count and roads, or 15 with the count. A road that is barred
+    // to the class counts as closed (document 02, A6).
     pub fn go(
         self,
         card: &[u8],
@@ -468,8 +468,8 @@ impl Header {
         }
     }
 
-    // What if that road took so long? The total of a class's go from a start now and with that time set, and the change (document 02, A2). The
-    // work area serves the two searches; what it holds before and after does not matter.
+    // What if that road took so long? The total of a class's go from a start now and with that time set, and the change (document 02, A2).
+    // The work area serves the two searches; what it holds before and after does not matter.
     pub fn preview(
         self,
         card: &[u8],

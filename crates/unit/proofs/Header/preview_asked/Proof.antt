@@ -1,4 +1,5 @@
--- 9 of the work area and of the rest, 18, then a set's questions, then those of the way: the code asks in the definition's order (`preview-asks`).
+-- 9 of the work area and of the rest, 18, then a set's questions, then those of the way: the code asks in the definition's order
+-- (`preview-asks`).
 use borrow.Author.Needs.{needs}
 use Rattle.unit_questions.specs.Lending.{lengthsIn}
 use Rattle.unit.specs.Shape.{headerIn}
