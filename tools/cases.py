@@ -254,16 +254,21 @@ READINGS = {
     "fewer than 4 bytes, and fewer than the table that the first word asks for": [
         words(), cut(3, SMALL), cut(4, SMALL), cut(27, SMALL), cut(28, CLASSED), cut(39, CLASSED)],
     "the first word before the table's length": [cut(4, put((0, 0))), cut(4, put((0, 4))), cut(27, put((0, 1)))],
-    "the first word": [put((0, 3)), put((0, 2 + 2 ** 24)), cut(28, put((0, 0)))],
+    "the first word": [put((0, 1)), put((0, 3)), put((0, 2 + 2 ** 24)), put((0, 4), old=CLASSED), cut(28, put((0, 0)))],
     "the kinds": [put((1, 2)), put((4, 1)), put((1, 2), (4, 1)), put((4, 3), (2, 0))],
     "the third kind": [put((7, 0), old=CLASSED), put((7, 2), old=CLASSED), put((7, 4), old=CLASSED), put((4, 3), (7, 2), old=CLASSED)],
-    "the third start, and the end": [put((8, 59), old=CLASSED), put((8, 61), old=CLASSED), put((9, 2), old=CLASSED), cut(60, CLASSED), cut(40, CLASSED)],
-    "the third length": [card_with([(0, 1, 5)], [1, 0], [255, 255]), card_with([], [0], [255]), put((9, 0), old=cut(60, CLASSED))],
-    "the first start": [put((2, 24)), put((2, 32))],
+    "the third start, and the end": [
+        put((8, 59), old=CLASSED), put((8, 61), old=CLASSED), put((9, 2), old=CLASSED), cut(60, CLASSED), cut(40, CLASSED)],
+    "the third length": [
+        card_with([(0, 1, 5)], [1, 0], [255, 255]), card_with([], [0], [255]), card_with([(0, 1, 5)], [1, 0], [255] * 4),
+        card_with([(0, 1, 5)], [1, 0], [255] * 12), put((9, 0), old=cut(60, CLASSED))],
+    "the first start, of two sections and of three": [
+        put((2, 24)), put((2, 32)), put((2, 40)), put((2, 28), old=CLASSED), put((2, 44), old=CLASSED), put((0, 2), old=CLASSED)],
     "the second start": [put((5, 36)), put((5, 44))],
     "the end": [put((6, 4)), put((6, 12)), put((3, 24)), LONGER, cut(47, SMALL), cut(28, SMALL)],
-    "sums that wrap, to the second start and to the end": [
-        put((3, 2 ** 32 - 16), (5, 12), (6, 36)), put((3, 2 ** 32 - 40), (5, 2 ** 32 - 12), (6, 60))],
+    "sums that wrap, to a later start and to the end": [
+        put((3, 2 ** 32 - 16), (5, 12), (6, 36)), put((3, 2 ** 32 - 40), (5, 2 ** 32 - 12), (6, 60)),
+        put((6, 2 ** 32 - 20), (8, 32), (9, 29), old=CLASSED), put((6, 2 ** 32 - 56), (8, 2 ** 32 - 4), (9, 65), old=CLASSED)],
     "lengths": [blank(13, 8), blank(4, 4), blank(12, 6), blank(12, 9), blank(0, 0), blank(12, 0), blank(196_620, 4), blank(12, 16_388)],
     "the ends of a road": [card([(2, 1, 5)], [1, 0]), card([(0, 2, 5)], [1, 0]), card([(0, NONE, 5)], [1, 0]), card([(0, 1, 5)], [0]),
                            card([(0, 1, 5), (1, 1, 5)], [1, 0])],
@@ -274,7 +279,8 @@ READINGS = {
     "places of the order": [card([], [1]), card([(0, 1, 5)], [0, 2]), card([], [NONE, 0]), card([], [1, 0, 1]),
                             card([(2, 0, 1)], [2, 2, 1]), card([], [0, 1, 9, 1])],
     "a road and a place, with a third section": [card_with([(0, 1, 0)], [1, 0], [9]), card_with([(0, 1, 5)], [1, 1], [9])],
-    "accepted": [SMALL, MAP_P, CLASSED, card_with([(0, 1, 5)], [1, 0], [0]), card_with([(1, 0, 1), (1, 0, SLOWEST)], [0, 1], [255, 7]), blank(0, 4), card([], [2, 0, 1]), card([(1, 0, 1), (1, 0, SLOWEST)], [0, 1])],
+    "accepted": [SMALL, MAP_P, CLASSED, card_with([(0, 1, 5)], [1, 0], [0]), card_with([(1, 0, 1), (1, 0, SLOWEST)], [0, 1], [255, 7]),
+                 card_with([], [0], []), blank(0, 4), card([], [2, 0, 1]), card([(1, 0, 1), (1, 0, SLOWEST)], [0, 1])],
 }
 ROAD, ORDER = words(0, 1, 5), words(1, 0)
 WRITINGS = {
