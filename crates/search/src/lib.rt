@@ -15,13 +15,15 @@ use search_queue::BLANK;
 use search_run::advance;
 use search_run::way_back;
 
-// A search has a room of its own, three words for each of n junctions (search_labels). Of three rooms it takes the smallest that is large
+// A search has a room of its own, three words for each of n junctions (search_labels). Of four rooms it takes the smallest that is large
 // enough: a fresh room is filled with blank words, and that takes time.
 const SMALL: usize = 256;
 
 const MIDDLE: usize = 1024;
 
-const LARGE: usize = MOST_JUNCTIONS as usize;
+const LARGE: usize = 2560;
+
+const LARGEST: usize = MOST_JUNCTIONS as usize;
 
 const WORDS: usize = 3;
 
@@ -93,8 +95,8 @@ fn search_in(
     }
 }
 
-// The search of a go from the start to the target that was aimed at last.
-pub fn search(
+// The search of a go on a smaller map.
+fn search_small(
     trip: Trip,
     roads: &[u8],
     order: &[u8],
@@ -110,7 +112,7 @@ pub fn search(
     log: &mut [u32],
 ) -> Searched
     requires { ⌜ Lends (given trip roads order ranks pairs live down) (now leaving) (now groups) (trip .start .0) (trip .target .0)
-        (written estimates elapsed route log) ⌝ }
+        (written estimates elapsed route log) × (trip .sizes .n ≤ 1024) ⌝ }
     ensures { λ r. ⌜ Searches (given trip (roads .entry) (order .entry) (ranks .entry) (pairs .entry) (live .entry)
         (down .entry)) (now (leaving .entry)) (now (groups .entry)) (trip .start .0) (trip .target .0)
         (written (estimates .entry) (elapsed .entry) (route .entry) (log .entry))
@@ -136,8 +138,51 @@ pub fn search(
             &mut room,
         );
     }
-    if n <= MIDDLE {
-        let mut room = [BLANK; WORDS * MIDDLE];
+    let mut room = [BLANK; WORDS * MIDDLE];
+    search_in(
+        trip,
+        roads,
+        order,
+        ranks,
+        pairs,
+        live,
+        down,
+        leaving,
+        groups,
+        estimates,
+        elapsed,
+        route,
+        log,
+        &mut room,
+    )
+}
+
+// And on a larger one.
+fn search_large(
+    trip: Trip,
+    roads: &[u8],
+    order: &[u8],
+    ranks: &[u32],
+    pairs: &[u32],
+    live: &[TimeWord],
+    down: &[TimeWord],
+    leaving: &[u32],
+    groups: &[u32],
+    estimates: &mut [TimeWord],
+    elapsed: &mut [TimeWord],
+    route: &mut [u32],
+    log: &mut [u32],
+) -> Searched
+    requires { ⌜ Lends (given trip roads order ranks pairs live down) (now leaving) (now groups) (trip .start .0) (trip .target .0)
+        (written estimates elapsed route log) ⌝ }
+    ensures { λ r. ⌜ Searches (given trip (roads .entry) (order .entry) (ranks .entry) (pairs .entry) (live .entry)
+        (down .entry)) (now (leaving .entry)) (now (groups .entry)) (trip .start .0) (trip .target .0)
+        (written (estimates .entry) (elapsed .entry) (route .entry) (log .entry))
+        (written (estimates .exit) (elapsed .exit) (route .exit) (log .exit)) (r .total .0) (r .count) (r .roads) ⌝ }
+{
+    let n = trip.sizes.n as usize;
+    if n <= LARGE {
+        let mut room = [BLANK; WORDS * LARGE];
         return search_in(
             trip,
             roads,
@@ -155,7 +200,7 @@ pub fn search(
             &mut room,
         );
     }
-    let mut room = [BLANK; WORDS * LARGE];
+    let mut room = [BLANK; WORDS * LARGEST];
     search_in(
         trip,
         roads,
@@ -171,6 +216,63 @@ pub fn search(
         route,
         log,
         &mut room,
+    )
+}
+
+// The search of a go from the start to the target that was aimed at last.
+pub fn search(
+    trip: Trip,
+    roads: &[u8],
+    order: &[u8],
+    ranks: &[u32],
+    pairs: &[u32],
+    live: &[TimeWord],
+    down: &[TimeWord],
+    leaving: &[u32],
+    groups: &[u32],
+    estimates: &mut [TimeWord],
+    elapsed: &mut [TimeWord],
+    route: &mut [u32],
+    log: &mut [u32],
+) -> Searched
+    requires { ⌜ Lends (given trip roads order ranks pairs live down) (now leaving) (now groups) (trip .start .0) (trip .target .0)
+        (written estimates elapsed route log) ⌝ }
+    ensures { λ r. ⌜ Searches (given trip (roads .entry) (order .entry) (ranks .entry) (pairs .entry) (live .entry)
+        (down .entry)) (now (leaving .entry)) (now (groups .entry)) (trip .start .0) (trip .target .0)
+        (written (estimates .entry) (elapsed .entry) (route .entry) (log .entry))
+        (written (estimates .exit) (elapsed .exit) (route .exit) (log .exit)) (r .total .0) (r .count) (r .roads) ⌝ }
+{
+    if trip.sizes.n as usize <= MIDDLE {
+        return search_small(
+            trip,
+            roads,
+            order,
+            ranks,
+            pairs,
+            live,
+            down,
+            leaving,
+            groups,
+            estimates,
+            elapsed,
+            route,
+            log,
+        );
+    }
+    search_large(
+        trip,
+        roads,
+        order,
+        ranks,
+        pairs,
+        live,
+        down,
+        leaving,
+        groups,
+        estimates,
+        elapsed,
+        route,
+        log,
     )
 }
 
@@ -221,8 +323,8 @@ fn total_in(
     Time::of_word(elapsed[target.0 as usize])
 }
 
-// The total of a search, whose log and route are not kept.
-fn least_total(
+// The total of a search on a smaller map, whose log and route are not kept.
+fn total_small(
     trip: Trip,
     roads: &[u8],
     order: &[u8],
@@ -236,7 +338,7 @@ fn least_total(
     elapsed: &mut [TimeWord],
 ) -> Time
     requires { ⌜ Within (given trip roads order ranks pairs live down) (now leaving) (now groups) (trip .start .0) (trip .target .0)
-        (length (now estimates)) (length (now elapsed)) ⌝ }
+        (length (now estimates)) (length (now elapsed)) × (trip .sizes .n ≤ 1024) ⌝ }
     ensures { λ r. ⌜ FindsTotal (given trip (roads .entry) (order .entry) (ranks .entry) (pairs .entry) (live .entry) (down .entry))
         (now (leaving .entry)) (now (groups .entry)) (trip .start .0) (trip .target .0)
         (now (estimates .entry)) (now (estimates .exit)) (r .0) ⌝ }
@@ -261,9 +363,49 @@ fn least_total(
             &mut room,
         );
     }
-    if n <= MIDDLE {
-        let mut log = [0u32; MIDDLE];
-        let mut room = [BLANK; WORDS * MIDDLE];
+    let mut log = [0u32; MIDDLE];
+    let mut room = [BLANK; WORDS * MIDDLE];
+    total_in(
+        trip,
+        roads,
+        order,
+        ranks,
+        pairs,
+        live,
+        down,
+        leaving,
+        groups,
+        estimates,
+        elapsed,
+        &mut log,
+        &mut room,
+    )
+}
+
+// And on a larger one.
+fn total_large(
+    trip: Trip,
+    roads: &[u8],
+    order: &[u8],
+    ranks: &[u32],
+    pairs: &[u32],
+    live: &[TimeWord],
+    down: &[TimeWord],
+    leaving: &[u32],
+    groups: &[u32],
+    estimates: &mut [TimeWord],
+    elapsed: &mut [TimeWord],
+) -> Time
+    requires { ⌜ Within (given trip roads order ranks pairs live down) (now leaving) (now groups) (trip .start .0) (trip .target .0)
+        (length (now estimates)) (length (now elapsed)) ⌝ }
+    ensures { λ r. ⌜ FindsTotal (given trip (roads .entry) (order .entry) (ranks .entry) (pairs .entry) (live .entry) (down .entry))
+        (now (leaving .entry)) (now (groups .entry)) (trip .start .0) (trip .target .0)
+        (now (estimates .entry)) (now (estimates .exit)) (r .0) ⌝ }
+{
+    let n = trip.sizes.n as usize;
+    if n <= LARGE {
+        let mut log = [0u32; LARGE];
+        let mut room = [BLANK; WORDS * LARGE];
         return total_in(
             trip,
             roads,
@@ -280,8 +422,8 @@ fn least_total(
             &mut room,
         );
     }
-    let mut log = [0u32; LARGE];
-    let mut room = [BLANK; WORDS * LARGE];
+    let mut log = [0u32; LARGEST];
+    let mut room = [BLANK; WORDS * LARGEST];
     total_in(
         trip,
         roads,
@@ -296,6 +438,56 @@ fn least_total(
         elapsed,
         &mut log,
         &mut room,
+    )
+}
+
+// The total of a search.
+fn least_total(
+    trip: Trip,
+    roads: &[u8],
+    order: &[u8],
+    ranks: &[u32],
+    pairs: &[u32],
+    live: &[TimeWord],
+    down: &[TimeWord],
+    leaving: &[u32],
+    groups: &[u32],
+    estimates: &mut [TimeWord],
+    elapsed: &mut [TimeWord],
+) -> Time
+    requires { ⌜ Within (given trip roads order ranks pairs live down) (now leaving) (now groups) (trip .start .0) (trip .target .0)
+        (length (now estimates)) (length (now elapsed)) ⌝ }
+    ensures { λ r. ⌜ FindsTotal (given trip (roads .entry) (order .entry) (ranks .entry) (pairs .entry) (live .entry) (down .entry))
+        (now (leaving .entry)) (now (groups .entry)) (trip .start .0) (trip .target .0)
+        (now (estimates .entry)) (now (estimates .exit)) (r .0) ⌝ }
+{
+    if trip.sizes.n as usize <= MIDDLE {
+        return total_small(
+            trip,
+            roads,
+            order,
+            ranks,
+            pairs,
+            live,
+            down,
+            leaving,
+            groups,
+            estimates,
+            elapsed,
+        );
+    }
+    total_large(
+        trip,
+        roads,
+        order,
+        ranks,
+        pairs,
+        live,
+        down,
+        leaving,
+        groups,
+        estimates,
+        elapsed,
     )
 }
 

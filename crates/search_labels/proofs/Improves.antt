@@ -7,7 +7,7 @@ use lib.Seq.{getD-set-other, getD-set-same}
 use native.Mathlib.Decide.{ℕ-discrete}
 use native.Mathlib.Omega.{arith}
 use Rattle.model.specs.Word.{noneWord}
-use Rattle.search_queue.specs.Order.{byKey, keyIn, mostNodes, settledKey, tieIn}
+use Rattle.search_queue.specs.Order.{byKey, keyIn, keyUnit, mostNodes, settledKey, tieIn}
 use Rattle.search_queue.specs.Tree.{Changed, Put, wordOf}
 use Rattle.search_queue.specs.Laws.{tournament-kept, word-key, word-number}
 use Rattle.search_labels.specs.Labelling.{Fits, Improved, Room, SameLabel, Taken, behind, earlier, labelsIn, later, lost}
@@ -40,7 +40,7 @@ module _ {n v : ℕ} (lv : v < n) (room : List ℕ) (r : Room n room) (x : ℕ) 
 
   -- so no key changes, and no place of the tournament
   keys-stay : (u : ℕ) → u < n → keyIn n relabelled u ≡ keyIn n room u
-  keys-stay u l = ap (λ (w : ℕ). w / mostNodes) (label-apart (n + u) (λ e. absurd (omega arith)))
+  keys-stay u l = ap (λ (w : ℕ). w / keyUnit) (label-apart (n + u) (λ e. absurd (omega arith)))
 
   places-stay : (p : ℕ) → p < 2 * n → getD relabelled p 0 ≡ getD room p 0
   places-stay p l = label-apart p (λ e. absurd (omega arith))
@@ -106,7 +106,7 @@ module _ {n v t q j x : ℕ} (lv : v < n) (room : List ℕ) (r : Room n room) (f
   taken-put {room′ = room′} long put ea eb ec h = record {
     improves =
         read-again room′ (put .others (2 * n + v) (omega arith) (λ d. absurd (omega arith)) ∙ label-own lv room r x)
-        (word-key q (omega (arith, r .n-high)) (put .own)) ea eb ec h;
+        (put .own) ea eb ec h;
     others = λ u lu ne. record {
       key-word = put .others (n + u) (omega arith) (λ d. ne (omega arith)) ∙ same-after u lu ne .key-word;
       label-word = put .others (2 * n + u) (omega arith) (λ d. absurd (omega arith)) ∙ same-after u lu ne .label-word;

@@ -5,12 +5,12 @@ use mathlib.Core.List.{List}
 use Prim.Native.Nat.{_%_, _*_, _+_, _<_, _≤_, ℕ}
 use lib.ListN.{getD, length}
 use Rattle.model.specs.Word.{noneWord}
-use Rattle.search_queue.specs.Order.{Order, byKey, keyIn, mostNodes, noKey, settledKey, tieIn}
+use Rattle.search_queue.specs.Order.{Order, byKey, keyIn, mostNodes, mostUpper, noKey, settledKey, tieIn}
 use Rattle.search_queue.specs.Tree.{Tournament}
 
--- the time of a node that has none: a blank word's, as its key is
+-- the time of a node that has none: a blank word's
 abbrev pub noTime : ℕ
-noTime = noKey
+noTime = mostUpper
 
 -- each node's time, its key, and the arc that gave the time
 pub record Labelling : Type 0 where

@@ -20,7 +20,6 @@ use Rattle.model.specs.Word.{unasked}
 use Rattle.search_queue.specs.Order.{mostNodes, settledKey}
 use Rattle.search_queue.specs.Tree.{Put}
 use Rattle.search_queue.specs.Sums.{SumsKept}
-use Rattle.search_queue.specs.Laws.{word-key}
 use Rattle.search_labels.specs.Labelling.{Labelling, labelsIn}
 use Rattle.search_labels.specs.Labelled.{Gives, Labelled, Labels, Offers, Way, label-candidate}
 use Rattle.search_labels.specs.Labelled.{label-hopeless, label-logged, label-unseen, way-begins, way-through}
@@ -166,7 +165,7 @@ module _ {G : Problem} {H : List Entry} {c k : ℕ} (full : G .net .arcs ≤ k) 
       at (yes q) =
           let word : getD l′ (2 * n + e .vertex) 0 ≡ getD l (2 * n + e .vertex) 0 =
           put .others (2 * n + e .vertex) (omega arith) (λ d. absurd (omega arith)) in
-          let key : labelsIn n l′ .keys (e .vertex) ≡ settledKey = word-key settledKey (omega arith) (put .own) in
+          let key : labelsIn n l′ .keys (e .vertex) ≡ settledKey = put .own in
           rw (q, word, key) (label-log z lt (labels (e .vertex) (rw q at lv)))
       at (no q) =
           let word : getD l′ (2 * n + v) 0 ≡ getD l (2 * n + v) 0 =

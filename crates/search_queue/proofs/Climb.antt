@@ -9,9 +9,10 @@ use lib.Seq.{getD-set-other, getD-set-same}
 use native.Mathlib.Decide.{decLt, ℕ-discrete}
 use native.Mathlib.Omega.{arith}
 use Rattle.graph.specs.Total.{Tested, decide}
-use Rattle.search_queue.specs.Order.{Alike, Before, Order, SameBut, Waiting, byKey, mostNodes, settledKey, tieIn}
-use Rattle.search_queue.specs.Tree.{Above, Changed, Holds, NodeIn, Put, Tells, before, better, here, nobody, somebody, wordOf}
-use Rattle.search_queue.specs.Laws.{tournament-kept, word-key, word-number}
+use Rattle.search_queue.specs.Order.{Alike, Before, Order, SameBut, Waiting, byKey, keyUnit, mostNodes, settledKey, tieIn}
+use Rattle.search_queue.specs.Tree.{Above, Changed, Holds, NodeIn, Own, Put, Tells, before, better, here, nobody, partOf, placedOf}
+use Rattle.search_queue.specs.Tree.{somebody}
+use Rattle.search_queue.specs.Laws.{placed-key, placed-number, placed-part, tournament-kept}
 use Rattle.search_queue.proofs.Orders.{before-new, before-self, before-trans, same-put, waiting-new, waiting-old}
 use Rattle.search_queue.proofs.Words.{after-keys, before-false, before-keys, before-true, better-first, better-same}
 use Rattle.search_queue.proofs.Words.{better-second}
@@ -35,7 +36,7 @@ module _ (o : Order) {n p a b : ℕ} (two : Two n p a b) where
     decided-first t (nobody e f) (somebody j ej lj aj wj best) =
         let lm : j < mostNodes = omega arith in
         let k = before-keys (o .tie) x y t in
-        let z = word-key (o .key j) lm ej in
+        let z = placed-key (o .key j) (o .tie j) lm ej in
         absurd (omega arith)
     decided-first t (somebody i ei li ai wi best) (nobody e g) =
         somebody i ei li (two .under-first (n + i) ai) wi (under-two (λ u. Before o i u) best (λ u lu c w. absurd (g u lu c w)))
@@ -51,7 +52,7 @@ module _ (o : Order) {n p a b : ℕ} (two : Two n p a b) where
     decided-second t (somebody i ei li ai wi best) (nobody e g) =
         let lm : i < mostNodes = omega arith in
         let k = after-keys (o .tie) x y t in
-        let z = word-key (o .key i) lm ei in
+        let z = placed-key (o .key i) (o .tie i) lm ei in
         absurd (omega arith)
     decided-second t (somebody i ei li ai wi best) (somebody j ej lj aj wj best′) =
         let k : Before o j i = before-false o (omega arith) (omega arith) ei ej wi t in
@@ -67,8 +68,8 @@ module _ (o : Order) {n p a b : ℕ} (two : Two n p a b) where
 
 -- ---- what a place holds stays, where v is no candidate under it
 module _ {o₀ o : Order} {n v : ℕ} (s : SameBut n v o₀ o) where
-  word-new : {u w : ℕ} → u < n → (u ≡ v → ⊥) → w ≡ wordOf (o₀ .key u) u → w ≡ wordOf (o .key u) u
-  word-new {u} l ne e = let k = s .keys-same u l ne in omega arith
+  word-new : {u w : ℕ} → u < n → (u ≡ v → ⊥) → w ≡ placedOf (o₀ .key u) (o₀ .tie u) u → w ≡ placedOf (o .key u) (o .tie u) u
+  word-new {u} l ne e = rw (s .keys-same u l ne, s .ties-same u l ne) e
 
   holds-apart : {q x : ℕ} → ((u : ℕ) → Above q (n + u) → u ≡ v → ⊥) → Holds o₀ n q x → Holds o n q x
   holds-apart apart (nobody e f) = nobody e (λ u lu a w. f u lu a (waiting-old s lu (apart u a) w))
@@ -78,16 +79,17 @@ module _ {o₀ o : Order} {n v : ℕ} (s : SameBut n v o₀ o) where
       (λ u lu a w. before-new s li lu ni (apart u a) (best u lu a (waiting-old s lu (apart u a) w)))
 
 -- v's own place holds its word
-holds-leaf : (o : Order) {n v w : ℕ} → v < n → n ≤ mostNodes → w ≡ wordOf (o .key v) v → Holds o n (n + v) w
-holds-leaf o {n} {v} {w} lv high w-is = go (decLt (o .key v) settledKey)
+holds-leaf : (o : Order) {n v w : ℕ} → v < n → w / keyUnit ≡ o .key v → (o .key v < settledKey → w ≡ placedOf (o .key v) (o .tie v) v)
+    → Holds o n (n + v) w
+holds-leaf o {n} {v} {w} lv key-is w-is = go (decLt (o .key v) settledKey)
   where
     own : {u : ℕ} → u < n → Above (n + v) (n + u) → u ≡ v
     own lu a = above-leaf lv lu a
 
     go : Dec (o .key v < settledKey) → Holds o n (n + v) w
-    go (yes t) = somebody v w-is lv here t (λ u lu a _. (let e : u ≡ v = own lu a in rw e (before-self o v)))
+    go (yes t) = somebody v (w-is t) lv here t (λ u lu a _. (let e : u ≡ v = own lu a in rw e (before-self o v)))
     go (no t) =
-        let rests : settledKey ≤ w / mostNodes = omega (arith, word-key (o .key v) (omega arith) w-is) in
+        let rests : settledKey ≤ w / keyUnit = omega arith in
         nobody rests (λ u lu a z. (let e : u ≡ v = own lu a in t (rw e at z)))
 
 -- ---- a place is written
@@ -103,10 +105,12 @@ module _ (o : Order) (n : ℕ) (tree : List ℕ) (at x q : ℕ) where
       go (yes e) = rw (e, getD-set-same tree at x 0 room) h
       go (no ne) = holds-kept ne (f ne)
 
--- the word of a place, if it is a candidate's, tells a node
-holds-tells : {o : Order} {n p w : ℕ} → n ≤ mostNodes → Holds o n p w → Tells n w
+-- the word of a place, if it is a candidate's, tells a node and a part of its tie
+holds-tells : {o : Order} {n p w : ℕ} → n ≤ mostNodes → Holds o n p w → Tells n (o .tie) w
 holds-tells high (nobody e f) = λ l. absurd (omega arith)
-holds-tells {o} high (somebody u e lu a wu best) = λ l. omega (arith, word-number (o .key u) (omega arith) e)
+holds-tells {o} high (somebody u e lu a wu best) =
+    let number = placed-number (o .key u) (o .tie u) (omega arith) e in
+    λ l. (omega arith, placed-part (o .key u) (o .tie u) (omega arith) e ∙ sym (ap (λ (i : ℕ). partOf (o .tie i)) number))
 
 -- ---- the way up
 
@@ -122,7 +126,7 @@ pub record Climb (o : Order) (n : ℕ) (room₀ room : List ℕ) (at w : ℕ) : 
   pub done : (q : ℕ) → 0 < q → q < 2 * n → (Above q at → q < at → ⊥) → Holds o n q (getD room q 0)
 
 -- the word of v is written at its own place
-module _ {n v : ℕ} (key : ℕ) {room : List ℕ} {x : ℕ} (node : NodeIn n v room) (x-is : x ≡ wordOf key v) where
+module _ {n v : ℕ} (key : ℕ) {room : List ℕ} {x : ℕ} (node : NodeIn n v room) (x-is : Own n v key room x) where
   abbrev written : List ℕ
   written = set room (n + v) x
 
@@ -150,8 +154,10 @@ module _ {n v : ℕ} (key : ℕ) {room : List ℕ} {x : ℕ} (node : NodeIn n v 
 
       leaf : Holds o n (n + v) x
       leaf =
-          let k : o .key v ≡ key = ap (λ (w : ℕ). w / mostNodes) own-word ∙ word-key key (omega (arith, node .inside, node .n-high)) x-is in
-          holds-leaf o (node .inside) (node .n-high) (rw k x-is)
+          let k : o .key v ≡ key = ap (λ (w : ℕ). w / keyUnit) own-word ∙ x-is .key-is in
+          let t : o .tie v ≡ tieIn n room v =
+          ap (λ (w : ℕ). w / mostNodes) (getD-set-other room (n + v) (2 * n + v) x 0 (λ e. absurd (omega (arith, node .inside)))) in
+          holds-leaf o (node .inside) (x-is .key-is ∙ sym k) (λ l. rw (k, t) (x-is .placed (rw k at l)))
 
       other : (q : ℕ) → (q ≡ n + v → ⊥) → (Above q (n + v) → q < n + v → ⊥) → (u : ℕ) → Above q (n + u) → u ≡ v → ⊥
       other q ne f u a e =
@@ -161,14 +167,14 @@ module _ {n v : ℕ} (key : ℕ) {room : List ℕ} {x : ℕ} (node : NodeIn n v 
 
   pub climb-end : {room′ : List ℕ} {at w : ℕ} → at ≤ 1 → Climb (byKey n written) n written room′ at w → Put n v key room room′
   climb-end {room′} end c = record {
-    own = c .kept (n + v) (omega arith) ∙ own-word ∙ x-is;
+    own = ap (λ (w : ℕ). w / keyUnit) (c .kept (n + v) (omega arith) ∙ own-word) ∙ x-is .key-is;
     others = λ q l ne. c .kept q l ∙ getD-set-other room (n + v) q x 0 ne;
     right = tournament-kept same room′ room′ (λ q high. refl) (λ q low high. c .done q low high (λ a l. omega arith));
   }
     where
       same : Alike n (byKey n written) (byKey n room′)
       same = record {
-        keys-alike = λ u l. ap (λ (x : ℕ). x / mostNodes) (c .kept (n + u) (omega arith));
+        keys-alike = λ u l. ap (λ (x : ℕ). x / keyUnit) (c .kept (n + u) (omega arith));
         ties-alike = λ u l. ap (λ (x : ℕ). x / mostNodes) (c .kept (2 * n + u) (omega arith));
       }
 
@@ -178,36 +184,42 @@ module _ {o : Order} {n : ℕ} {room₀ room : List ℕ} {at up beside w : ℕ} 
   holds-beside : Holds o n beside (getD room beside 0)
   holds-beside = c .done beside (omega arith) (omega arith) (λ a l. (let z = above-le (above-half a l) in omega arith))
 
-  -- so both words tell a node, if they are candidates'
-  pub climb-tells : Tells n w
-  climb-tells = holds-tells nodes (c .word)
-
-  pub beside-tells : Tells n (getD room beside 0)
-  beside-tells = holds-tells nodes holds-beside
-
   -- the ties are those of room₀, which no place above alters
-  module _ {w′ : ℕ} (o-is : o ≡ byKey n room₀) (w-is : w′ ≡ better (tieIn n room) w (getD room beside 0)) where
+  module _ (o-is : o ≡ byKey n room₀) where
     ties-kept : (u : ℕ) → tieIn n room u ≡ o .tie u
     ties-kept u = rw o-is (ap (λ (x : ℕ). x / mostNodes) (c .kept (2 * n + u) (omega arith)))
 
-    holds-up : Holds o n up w′
-    holds-up =
-        let y = getD room beside 0 in
-        let same = better-same (tieIn n room) w y (o .tie) (ties-kept (w % mostNodes)) (ties-kept (y % mostNodes)) in
-        rw (w-is, same) (decided o (two-beside n at up beside more (c .high) up-is beside-is) nodes (c .word) holds-beside)
+    tells-kept : (x : ℕ) → Tells n (o .tie) x → Tells n (tieIn n room) x
+    tells-kept x tells l =
+        let (number, part) = tells l in
+        (number, part ∙ sym (ap partOf (ties-kept (x % mostNodes))))
 
-    pub climb-turn : Climb o n room₀ (set room up w′) up w′
-    climb-turn = record {
-      low = omega arith;
-      high = omega (arith, c .high);
-      words = simp length-set (c .words);
-      long = length-set room up w′ ∙ c .long;
-      kept = λ q l. getD-set-other room up q w′ 0 (λ e. absurd (omega (arith, c .high))) ∙ c .kept q l;
-      word = holds-up;
-      done = λ q low high f.
-          holds-written o n room up w′ q (omega (arith, c .words, c .high)) holds-up
-          (λ ne. c .done q low high (λ a l. next q ne f (above-half a l)));
-    }
-      where
-        next : (q : ℕ) → (q ≡ up → ⊥) → (Above q up → q < up → ⊥) → Above q (at / 2) → ⊥
-        next q ne f a = let le = above-le a in f (rw up-is a) (omega arith)
+    -- so both words tell a node, if they are candidates'
+    pub climb-tells : Tells n (tieIn n room) w
+    climb-tells = tells-kept w (holds-tells nodes (c .word))
+
+    pub beside-tells : Tells n (tieIn n room) (getD room beside 0)
+    beside-tells = tells-kept (getD room beside 0) (holds-tells nodes holds-beside)
+
+    module _ {w′ : ℕ} (w-is : w′ ≡ better (tieIn n room) w (getD room beside 0)) where
+      holds-up : Holds o n up w′
+      holds-up =
+          let y = getD room beside 0 in
+          let same = better-same (tieIn n room) w y (o .tie) (ties-kept (w % mostNodes)) (ties-kept (y % mostNodes)) in
+          rw (w-is, same) (decided o (two-beside n at up beside more (c .high) up-is beside-is) nodes (c .word) holds-beside)
+
+      pub climb-turn : Climb o n room₀ (set room up w′) up w′
+      climb-turn = record {
+        low = omega arith;
+        high = omega (arith, c .high);
+        words = simp length-set (c .words);
+        long = length-set room up w′ ∙ c .long;
+        kept = λ q l. getD-set-other room up q w′ 0 (λ e. absurd (omega (arith, c .high))) ∙ c .kept q l;
+        word = holds-up;
+        done = λ q low high f.
+            holds-written o n room up w′ q (omega (arith, c .words, c .high)) holds-up
+            (λ ne. c .done q low high (λ a l. next q ne f (above-half a l)));
+      }
+        where
+          next : (q : ℕ) → (q ≡ up → ⊥) → (Above q up → q < up → ⊥) → Above q (at / 2) → ⊥
+          next q ne f a = let le = above-le a in f (rw up-is a) (omega arith)

@@ -5,7 +5,7 @@ use Prim.Native.Nat.{_*_, _+_, _/_, _<_, ℕ}
 use lib.ListN.{set}
 use lib.Seq.{getD-set-other}
 use native.Mathlib.Omega.{arith}
-use Rattle.search_queue.specs.Order.{Before, Order, SameBut, Waiting, byKey, mostNodes}
+use Rattle.search_queue.specs.Order.{Before, Order, SameBut, Waiting, byKey, keyUnit, mostNodes}
 
 -- ---- any order
 module _ (o : Order) (a b : ℕ) where
@@ -56,7 +56,7 @@ pub same-put : {n v : ℕ} → v < n → (room : List ℕ) (w : ℕ) {o : Order}
     → SameBut n v o (byKey n (set room (n + v) w))
 same-put {n} {v} lv room w s = record {
   keys-same = λ u l ne.
-      ap (λ (x : ℕ). x / mostNodes) (getD-set-other room (n + v) (n + u) w 0 (λ e. ne (omega arith))) ∙ s .keys-same u l ne;
+      ap (λ (x : ℕ). x / keyUnit) (getD-set-other room (n + v) (n + u) w 0 (λ e. ne (omega arith))) ∙ s .keys-same u l ne;
   ties-same = λ u l ne.
       ap (λ (x : ℕ). x / mostNodes) (getD-set-other room (n + v) (2 * n + u) w 0 (λ e. absurd (omega arith))) ∙ s .ties-same u l ne;
 }

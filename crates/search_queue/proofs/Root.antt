@@ -10,10 +10,10 @@ use native.Mathlib.Omega.{arith}
 use Rattle.graph.specs.Total.{some-some}
 use Rattle.graph.specs.Search.{Entry, Problem, offered}
 use Rattle.graph.specs.Choice.{Candidate, Prior, chosen, finished}
-use Rattle.search_queue.specs.Order.{Chosen, FirstOf, Order, first-is, mostNodes, none-left, settledKey}
+use Rattle.search_queue.specs.Order.{Chosen, FirstOf, Order, first-is, keyUnit, mostNodes, none-left, settledKey}
 use Rattle.search_queue.specs.Tree.{Above, Holds, Tournament, here, higher, nobody, somebody}
 use Rattle.search_queue.specs.Sums.{Choice, NextAt, SumsKept, entryIn, next-at, no-next}
-use Rattle.search_queue.specs.Laws.{word-key, word-number}
+use Rattle.search_queue.specs.Laws.{placed-key, placed-number}
 
 -- the root is above every place
 above-root : (p : ℕ) → 0 < p → Above 1 p
@@ -67,18 +67,18 @@ choice-of ch = record {
 
 -- ---- the root's word is no candidate's, or tells a number
 module _ {n : ℕ} (room : List ℕ) where
-  pub root-nobody : settledKey ≤ getD room 1 0 / mostNodes → Choice n room n
+  pub root-nobody : settledKey ≤ getD room 1 0 / keyUnit → Choice n room n
   root-nobody q = choice-of (λ o l high t. go o l high (t 1 (omega arith) (omega arith)))
     where
       go : (o : Order) → 0 < n → n ≤ mostNodes → Holds o n 1 (getD room 1 0) → Chosen o n n
       go o l high (nobody e f) = none-left (λ v lv w. f v lv (above-root (n + v) (omega arith)) w)
-      go o l high (somebody u e lu a w best) = let z = word-key (o .key u) (omega arith) e in absurd (omega arith)
+      go o l high (somebody u e lu a w best) = let z = placed-key (o .key u) (o .tie u) (omega arith) e in absurd (omega arith)
 
-  pub root-number : getD room 1 0 / mostNodes < settledKey → Choice n room (getD room 1 0 % mostNodes)
+  pub root-number : getD room 1 0 / keyUnit < settledKey → Choice n room (getD room 1 0 % mostNodes)
   root-number q = choice-of (λ o l high t. go o l high (t 1 (omega arith) (omega arith)))
     where
       go : (o : Order) → 0 < n → n ≤ mostNodes → Holds o n 1 (getD room 1 0) → Chosen o n (getD room 1 0 % mostNodes)
       go o l high (nobody e f) = absurd (omega arith)
       go o l high (somebody u e lu a w best) =
-          rw (word-number (o .key u) (omega arith) e)
+          rw (placed-number (o .key u) (o .tie u) (omega arith) e)
           (first-is (record { inside = lu; waits = w; best = λ v lv wv. best v lv (above-root (n + v) (omega arith)) wv }))

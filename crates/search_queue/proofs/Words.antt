@@ -4,34 +4,35 @@ use mathlib.Core.Bool.{Bool, false, true}
 use Prim.Native.Nat.{_%_, _/_, _<_, _≤_, ℕ}
 use borrow.Author.Tests.{eq-eqb, le-leb, le-ltb, leb-false, leb-true, lt-leb, lt-ltb, ne-eqb}
 use lib.Dec.{leb}
+use native.Mathlib.Decide.{decLt, ℕ-discrete}
 use native.Mathlib.Omega.{arith}
 use Rattle.graph.specs.Search.{below-or}
 use Rattle.graph.specs.Choice.{below-or-false, below-or-true}
-use Rattle.search_queue.specs.Order.{Before, Order, Waiting, mostNodes, settledKey}
-use Rattle.search_queue.specs.Tree.{before, better, wordOf}
-use Rattle.search_queue.specs.Laws.{word-key, word-number}
+use Rattle.search_queue.specs.Order.{Before, Order, Waiting, keyUnit, mostNodes, settledKey}
+use Rattle.search_queue.specs.Tree.{Tells, before, better, placedOf}
+use Rattle.search_queue.specs.Laws.{placed-key, placed-number}
 
 -- ---- what the test says
 module _ (tie : ℕ → ℕ) (x y : ℕ) where
-  pub before-keys : before tie x y ≡ true → x / mostNodes ≤ y / mostNodes
+  pub before-keys : before tie x y ≡ true → x / keyUnit ≤ y / keyUnit
   unfolding before
-  before-keys h = (below-or-true (x / mostNodes) (y / mostNodes) _ h) .0
+  before-keys h = (below-or-true (x / keyUnit) (y / keyUnit) _ h) .0
 
-  pub after-keys : before tie x y ≡ false → y / mostNodes ≤ x / mostNodes
+  pub after-keys : before tie x y ≡ false → y / keyUnit ≤ x / keyUnit
   unfolding before
-  after-keys h = (below-or-false (x / mostNodes) (y / mostNodes) _ h) .0
+  after-keys h = (below-or-false (x / keyUnit) (y / keyUnit) _ h) .0
 
 -- of the words of two candidates
-module _ (o : Order) {a b x y : ℕ} (la : a < mostNodes) (lb : b < mostNodes) (ea : x ≡ wordOf (o .key a) a)
-    (eb : y ≡ wordOf (o .key b) b) (waits : Waiting o a) where
+module _ (o : Order) {a b x y : ℕ} (la : a < mostNodes) (lb : b < mostNodes) (ea : x ≡ placedOf (o .key a) (o .tie a) a)
+    (eb : y ≡ placedOf (o .key b) (o .tie b) b) (waits : Waiting o a) where
   test-is : before (o .tie) x y ≡ below-or (o .key a) (o .key b) (below-or (o .tie a) (o .tie b) (leb a b))
   unfolding before
   test-is =
       rw (
-        word-key (o .key a) la ea,
-        word-key (o .key b) lb eb,
-        word-number (o .key a) la ea,
-        word-number (o .key b) lb eb,
+        placed-key (o .key a) (o .tie a) la ea,
+        placed-key (o .key b) (o .tie b) lb eb,
+        placed-number (o .key a) (o .tie a) la ea,
+        placed-number (o .key b) (o .tie b) lb eb,
         lt-leb settledKey (o .key a) waits,
       )
 
@@ -88,27 +89,55 @@ module _ (a b : ℕ) (t : Bool) where
   or-equal e = rw (le-ltb a b (omega arith), eq-eqb a b e)
 
 module _ (tie : ℕ → ℕ) (x y : ℕ) where
-  -- the keys differ
-  pub better-lower : (x / mostNodes ≡ y / mostNodes → ⊥) → x < y → x ≡ better tie x y
+  -- of one key: that of no candidate, and that of two
+  rests-is : x / keyUnit ≡ y / keyUnit → settledKey ≤ x / keyUnit → before tie x y ≡ leb (x / mostNodes) (y / mostNodes)
   unfolding before
-  better-lower ne l = sym (better-first tie x y (or-below (x / mostNodes) (y / mostNodes) _ (omega arith)))
+  rests-is same rests = or-equal (x / keyUnit) (y / keyUnit) _ same ∙ rw (le-leb settledKey (x / keyUnit) rests)
 
-  pub better-higher : (x / mostNodes ≡ y / mostNodes → ⊥) → y ≤ x → y ≡ better tie x y
+  tied-is : x / keyUnit ≡ y / keyUnit → x / keyUnit < settledKey
+      → before tie x y ≡ below-or (tie (x % mostNodes)) (tie (y % mostNodes)) (leb (x % mostNodes) (y % mostNodes))
   unfolding before
-  better-higher ne l = sym (better-second tie x y (or-above (x / mostNodes) (y / mostNodes) _ (omega arith)))
+  tied-is same waits = or-equal (x / keyUnit) (y / keyUnit) _ same ∙ rw (lt-leb settledKey (x / keyUnit) waits)
+
+  -- key or part differ
+  module _ {n : ℕ} (tells-x : Tells n tie x) (tells-y : Tells n tie y) (ne : x / mostNodes ≡ y / mostNodes → ⊥) where
+    pub better-lower : x < y → x ≡ better tie x y
+    unfolding before
+    better-lower l = sym (better-first tie x y (go (ℕ-discrete (x / keyUnit) (y / keyUnit)) (decLt (x / keyUnit) settledKey)))
+      where
+        go : Dec (x / keyUnit ≡ y / keyUnit) → Dec (x / keyUnit < settledKey) → before tie x y ≡ true
+        go (no other) _ = or-below (x / keyUnit) (y / keyUnit) _ (omega arith)
+        go (yes same) (no rests) = rests-is same (omega arith) ∙ le-leb (x / mostNodes) (y / mostNodes) (omega arith)
+        go (yes same) (yes waits) =
+            let (_, part-x) = tells-x waits in
+            let (_, part-y) = tells-y (omega arith) in
+            tied-is same waits ∙ or-below (tie (x % mostNodes)) (tie (y % mostNodes)) _ (omega arith)
+
+    pub better-higher : y ≤ x → y ≡ better tie x y
+    unfolding before
+    better-higher l = sym (better-second tie x y (go (ℕ-discrete (x / keyUnit) (y / keyUnit)) (decLt (x / keyUnit) settledKey)))
+      where
+        go : Dec (x / keyUnit ≡ y / keyUnit) → Dec (x / keyUnit < settledKey) → before tie x y ≡ false
+        go (no other) _ = or-above (x / keyUnit) (y / keyUnit) _ (omega arith)
+        go (yes same) (no rests) = rests-is same (omega arith) ∙ lt-leb (x / mostNodes) (y / mostNodes) (omega arith)
+        go (yes same) (yes waits) =
+            let (_, part-x) = tells-x waits in
+            let (_, part-y) = tells-y (omega arith) in
+            tied-is same waits ∙ or-above (tie (x % mostNodes)) (tie (y % mostNodes)) _ (omega arith)
 
   -- they are one
   module _ (same : x / mostNodes ≡ y / mostNodes) where
-    -- that of no candidate
-    pub better-rests : settledKey ≤ x / mostNodes → x ≡ better tie x y
-    unfolding before
-    better-rests rests =
-        sym (better-first tie x y (or-equal (x / mostNodes) (y / mostNodes) _ same ∙ rw (le-leb settledKey (x / mostNodes) rests)))
+    same-key : x / keyUnit ≡ y / keyUnit
+    same-key = omega arith
 
-    module _ (waits : x / mostNodes < settledKey) where
+    -- that of no candidate
+    pub better-rests : settledKey ≤ x / keyUnit → x ≡ better tie x y
+    better-rests rests =
+        sym (better-first tie x y (rests-is same-key rests ∙ le-leb (x / mostNodes) (y / mostNodes) (omega arith)))
+
+    module _ (waits : x / keyUnit < settledKey) where
       tied : before tie x y ≡ below-or (tie (x % mostNodes)) (tie (y % mostNodes)) (leb (x % mostNodes) (y % mostNodes))
-      unfolding before
-      tied = or-equal (x / mostNodes) (y / mostNodes) _ same ∙ rw (lt-leb settledKey (x / mostNodes) waits)
+      tied = tied-is same-key waits
 
       pub better-earlier : tie (x % mostNodes) < tie (y % mostNodes) → x ≡ better tie x y
       better-earlier l = sym (better-first tie x y (tied ∙ or-below (tie (x % mostNodes)) (tie (y % mostNodes)) _ l))

@@ -6,15 +6,23 @@ use lib.ListN.{getD}
 
 -- the key of a node that never was a candidate: that of a blank word
 abbrev pub noKey : ℕ
-noKey = 281474976710655
+noKey = 274877906943
 
 -- the key of a logged node
 abbrev pub settledKey : ℕ
-settledKey = 281474976710654
+settledKey = 274877906942
 
 -- so many nodes the queue has room for
 abbrev pub mostNodes : ℕ
-mostNodes = 65536
+mostNodes = 16384
+
+-- the largest number that a word holds above that of a node
+abbrev pub mostUpper : ℕ
+mostUpper = 1125899906842623
+
+-- a word of the tree has its key above so many numbers: 4,096 parts for each of `mostNodes`
+abbrev pub keyUnit : ℕ
+keyUnit = 67108864
 
 -- a blank word, of which a fresh room is full
 abbrev pub blankWord : ℕ
@@ -22,7 +30,7 @@ blankWord = 18446744073709551615
 
 -- the key that is kept for node v of n, in the word at its own place
 abbrev pub keyIn : (n : ℕ) (room : List ℕ) (v : ℕ) → ℕ
-keyIn n room v = getD room (n + v) 0 / mostNodes
+keyIn n room v = getD room (n + v) 0 / keyUnit
 
 -- what decides between equal keys: the upper part of v's word behind the tournament, the search's time of v
 abbrev pub tieIn : (n : ℕ) (room : List ℕ) (v : ℕ) → ℕ

@@ -632,13 +632,29 @@ none, in a least-degree one, and has a table of its own at the end, under its na
 
 ";
 
+/// A profile, taken by hand; to be taken again when the search changes.
+const GOES_INTO: &str = "
+What the time of a second go goes into: a profile (perf, 2026-11-17), in percent, on Liechtenstein with 0 % and 5 % of the roads changed,
+then in the towns of 2,000 at 0 % and of 4,096 at 5 %.
+
+- Filling the room and elapsed: 11, 5; 18, 12.
+- The first reading of a junction's group, roads, live times, heads and estimates, in `ask`: 22, 27; 24, 33.
+- Log, elapsed, offers and labels: 23, 27; 19, 23.
+- Climbs in the queue: of candidates 22, 22; 21, 18, of logged junctions 10, 15; 8, 8. Times looked up at equal keys and parts: at most 0.2.
+- The way back: 10, 3; 8, 5. The questions: 1, 1; 2, 1.
+
+Of a first go on Liechtenstein the estimates that it asks for are 58 and 54. Jumps at pairs of equal keys, often guessed wrong, were a third
+of a second go there at 5 % (34 µs, then 22 µs), until the words of the queue had a part of the time (DECISIONS, the next candidate).
+";
+
 /// The largest town's ratios as earlier landings left them, in the columns of `Report::landings`.
-const BEFORE: [[&str; 7]; 5] = [
+const BEFORE: [[&str; 7]; 6] = [
     ["8, before A1", "1.52", "2.65 (3.90)", "1.98 (2.84)", "1.57 (2.33)", "", ""],
     ["9, A1", "1.53", "0.892 (1.35)", "0.853 (1.30)", "0.833 (1.26)", "", ""],
     ["10, A2", "1.43", "0.889 (1.37)", "0.857 (1.25)", "0.775 (1.06)", "1.16 (1.20)", ""],
     ["11, A3", "1.47", "0.910 (1.48)", "0.790 (1.19)", "0.803 (1.16)", "1.14 (1.18)", "1.03 (0.819)"],
     ["12, A4", "1.54", "0.857 (1.27)", "0.820 (1.20)", "0.818 (1.19)", "1.05 (1.08)", "0.957 (0.758)"],
+    ["13, A5", "1.57", "0.976 (1.45)", "1.00 (1.53)", "1.03 (1.56)", "1.30 (1.33)", "0.962 (0.764)"],
 ];
 
 impl Display for Report {
@@ -649,6 +665,7 @@ impl Display for Report {
         f.write_str(ABOUT)?;
         Report::table(f, &self.towns)?;
         self.growth(f)?;
+        f.write_str(GOES_INTO)?;
         self.landings(f)?;
         for (name, file) in &self.files {
             let (n, m, pairs) = (file.map.n(), file.map.m(), file.pairs);

@@ -6,18 +6,18 @@ use Rattle.search_queue.proofs.choose.Tie as tie
 
 returns : tie.Need-returns
 returns c =
-    let after-upper-of = c .before .before in
-    let (upper-is, _) = after-upper-of .upper-of .ensures in
+    let after-key-in = c .before .before in
+    let (key-is, _) = after-key-in .key-in .ensures in
     let (lower-is, _) = c .lower-of .ensures in
-    let start = after-upper-of .before .before .before in
-    rw lower-is (root-number (start .args .room .now) (rw upper-is at (c .before .if1 .taken)))
+    let start = after-key-in .before .before .before in
+    rw lower-is (root-number (start .args .room .now) (rw key-is at (c .before .if1 .taken)))
 
 returns-2 : tie.Need-returns-2
 returns-2 c =
-    let after-upper-of = c .before in
-    let (upper-is, _) = after-upper-of .upper-of .ensures in
-    let start = after-upper-of .before .before .before in
-    root-nobody (start .args .room .now) (rw upper-is at (c .if1 .left))
+    let after-key-in = c .before in
+    let (key-is, _) = after-key-in .key-in .ensures in
+    let start = after-key-in .before .before .before in
+    root-nobody (start .args .room .now) (rw key-is at (c .if1 .left))
 
 pub choose-spec : {M : Type 1} → statement M
 choose-spec = tie.close (tie.spec (λ c. search needs) (λ c. search needs) (λ c κs. search needs) returns returns-2)

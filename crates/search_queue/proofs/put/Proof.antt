@@ -17,25 +17,27 @@ abbrev μ-loop : tie.MeasureT-loop
 
 loop-holds : tie.Need-loop-holds Inv-loop μ-loop
 loop-holds c =
-    let start = c .before .before in
+    let start = c .before .before .before in
     let (node, _, changed) = start .pre in
-    climb-start (start .args .key) node (c .word-of .ensures) changed
+    climb-start (start .args .key) node (c .own-word .ensures) changed
 
 better-of-requires : tie.Need-better-of-requires Inv-loop μ-loop
 better-of-requires c κs =
     let in-loop = c .before in
     let at-loop = in-loop .before in
-    let start = at-loop .before .before .before in
+    let after-own-word = at-loop .before in
+    let start = after-own-word .before .before .before in
     let (node, _, _) = start .pre in
     let more = in-loop .loop-test .taken in
     let inv = at-loop .loop .inv in
-    (climb-tells (node .n-high) more refl refl inv, beside-tells (node .n-high) more refl refl inv, inv .words)
+    (climb-tells (node .n-high) more refl refl inv refl, beside-tells (node .n-high) more refl refl inv refl, inv .words)
 
 loop-again : tie.Need-loop-again Inv-loop μ-loop
 loop-again c =
     let in-loop = c .before .before in
     let at-loop = in-loop .before in
-    let start = at-loop .before .before .before in
+    let after-own-word = at-loop .before in
+    let start = after-own-word .before .before .before in
     let (node, _, _) = start .pre in
     climb-turn (node .n-high) (in-loop .loop-test .taken) refl refl (at-loop .loop .inv) refl (c .better-of .ensures)
 
@@ -45,10 +47,10 @@ same-length c = simp length-set at (c .before .loop .inv .long)
 returns : tie.Need-returns Inv-loop μ-loop
 returns c =
     let at-loop = c .before in
-    let after-word-of = at-loop .before in
-    let start = after-word-of .before .before in
+    let after-own-word = at-loop .before in
+    let start = after-own-word .before .before .before in
     let (node, _, _) = start .pre in
-    climb-end (start .args .key) node (after-word-of .word-of .ensures) (c .loop-test .left) (at-loop .loop .inv)
+    climb-end (start .args .key) node (after-own-word .own-word .ensures) (c .loop-test .left) (at-loop .loop .inv)
 
 pub put-spec : {M : Type 1} → statement M
 put-spec =
