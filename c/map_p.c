@@ -1,6 +1,7 @@
 /*
  * Map P of document 01 through route_unit.h: prints cases P1 to P10, and of document 02 the roads by tail, A1, previews, A2, lists of
- * stops, A3, and on another map of its size equal keys, A5; and ends with 0 only if all are as the documents have them.
+ * stops, A3, with a byte for each road vehicle classes, A6, and on another map of its size equal keys, A5; and ends with 0 only if all
+ * are as the documents have them.
  */
 #include "route_unit.h"
 
@@ -8,7 +9,7 @@
 #include <stdio.h>
 #include <string.h>
 
-enum { N = 4, M = 5, PAIRS = 5, CARD = 28 + 12 * M + 4 * N, LENT = N + 2, ROUTE = 3 * N + 2 };
+enum { N = 4, M = 5, PAIRS = 5, CARD = 28 + 12 * M + 4 * N, LONGER = CARD + 12 + M, LENT = N + 2, ROUTE = 3 * N + 2 };
 
 #define UNTOUCHED 2779096485u
 
@@ -22,7 +23,12 @@ static const uint32_t RECORDS[4 * PAIRS] = {
 static const uint32_t TIED_ROADS[3 * M] = {2, 1, 1, 0, 1, 2, 0, 2, 1, 1, 3, 1, 3, 0, 20}, TIED_ORDER[N] = {2, 3, 0, 1};
 static const uint32_t BY_TAIL[M] = {0, 2, 1, 3, 4}, STARTS[N + 1] = {0, 2, 3, 4, 5};
 
-static uint8_t card[CARD];
+/* With a third section: a table of three entries, and a byte for each road. Class 0 may not use road 1. */
+static const uint32_t CLASS_WORDS[10] = {3, 1, 40, 60, 2, 100, 16, 3, 116, M};
+static const uint8_t CLASS_BYTES[M] = {255, 254, 255, 255, 255};
+
+static uint8_t card[LONGER];
+static size_t card_len = CARD;
 static uint32_t ranks[N], pairs[4 * PAIRS], live[M], down[N], estimates[N], elapsed[N], leaving[M], groups[N + 1];
 static uint32_t route[ROUTE], entries[LENT], work[2 * N + 1];
 static UnitHeader header;
@@ -62,17 +68,17 @@ static uint32_t prepare(size_t room) {
     fill(ranks, N, UNTOUCHED);
     fill(leaving, M, UNTOUCHED);
     fill(groups, N + 1, UNTOUCHED);
-    return handed(unit_prepare(card, CARD, ranks, N, pairs, 4 * room, live, M, down, N, estimates, N, elapsed, N, leaving, M,
+    return handed(unit_prepare(card, card_len, ranks, N, pairs, 4 * room, live, M, down, N, estimates, N, elapsed, N, leaving, M,
         groups, N + 1));
 }
 
 static uint32_t set(uint32_t road, uint32_t time) {
-    return handed(unit_set(header, card, CARD, ranks, N, pairs, 4 * PAIRS, live, M, down, N, estimates, N, elapsed, N,
+    return handed(unit_set(header, card, card_len, ranks, N, pairs, 4 * PAIRS, live, M, down, N, estimates, N, elapsed, N,
         leaving, M, groups, N + 1, road, time));
 }
 
 static uint32_t aim(uint32_t junction) {
-    return handed(unit_aim(header, card, CARD, ranks, N, pairs, 4 * PAIRS, live, M, down, N, estimates, N, elapsed, N,
+    return handed(unit_aim(header, card, card_len, ranks, N, pairs, 4 * PAIRS, live, M, down, N, estimates, N, elapsed, N,
         leaving, M, groups, N + 1, junction));
 }
 
@@ -82,36 +88,46 @@ static bool prepared_at(uint32_t target) {
 }
 
 static bool estimated(uint32_t junction, uint64_t wanted) {
-    UnitAnswer answer = unit_estimate(header, card, CARD, ranks, N, pairs, 4 * PAIRS, live, M, down, N, estimates, N,
+    UnitAnswer answer = unit_estimate(header, card, card_len, ranks, N, pairs, 4 * PAIRS, live, M, down, N, estimates, N,
         elapsed, N, leaving, M, groups, N + 1, junction);
     return handed(answer) == 0 && answer.total == wanted && estimates[junction] == wanted;
 }
 
-/* A go: its answer, the roads and the log, and the rest of both areas untouched. */
-static bool gone(uint32_t start, uint32_t question, uint64_t total, uint32_t roads, const uint32_t *way, uint32_t count,
-    const uint32_t *log) {
+/* A go of a class: its answer, the roads and the log, and the rest of both areas untouched. */
+static bool gone_as(uint32_t vehicle_class, uint32_t start, uint32_t question, uint64_t total, uint32_t roads, const uint32_t *way,
+    uint32_t count, const uint32_t *log) {
     fill(route, LENT, UNTOUCHED);
     fill(entries, LENT, UNTOUCHED);
-    UnitAnswer answer = unit_go(header, card, CARD, ranks, N, pairs, 4 * PAIRS, live, M, down, N, estimates, N, elapsed, N,
-        leaving, M, groups, N + 1, route, LENT, entries, LENT, start);
+    UnitAnswer answer = unit_go(header, card, card_len, ranks, N, pairs, 4 * PAIRS, live, M, down, N, estimates, N, elapsed, N,
+        leaving, M, groups, N + 1, route, LENT, entries, LENT, vehicle_class, start);
     return handed(answer) == question && answer.place == 0 && answer.total == total && answer.roads == roads &&
         answer.count == count && same(route, way, roads) && filled(route + roads, LENT - roads, UNTOUCHED) &&
         same(entries, log, count) && filled(entries + count, LENT - count, UNTOUCHED);
 }
 
+static bool gone(uint32_t start, uint32_t question, uint64_t total, uint32_t roads, const uint32_t *way, uint32_t count,
+    const uint32_t *log) {
+    return gone_as(0, start, question, total, roads, way, count, log);
+}
+
 /* A preview: the number of its refusal or 0, its two totals, and whether they are compared, with their change. */
-static bool previewed(size_t work_len, uint32_t road, uint32_t time, uint32_t start, uint32_t question, uint64_t total,
-    uint64_t then, uint32_t compared, int64_t change) {
+static bool previewed_as(uint32_t vehicle_class, size_t work_len, uint32_t road, uint32_t time, uint32_t start, uint32_t question,
+    uint64_t total, uint64_t then, uint32_t compared, int64_t change) {
     uint32_t live_before[M], elapsed_before[N];
     memcpy(live_before, live, sizeof live);
     memcpy(elapsed_before, elapsed, sizeof elapsed);
     fill(work, 2 * N + 1, UNTOUCHED);
-    UnitAnswer answer = unit_preview(header, card, CARD, ranks, N, pairs, 4 * PAIRS, live, M, down, N, estimates, N, elapsed, N,
-        leaving, M, groups, N + 1, work, work_len, road, time, start);
+    UnitAnswer answer = unit_preview(header, card, card_len, ranks, N, pairs, 4 * PAIRS, live, M, down, N, estimates, N, elapsed, N,
+        leaving, M, groups, N + 1, work, work_len, vehicle_class, road, time, start);
     return handed(answer) == question && answer.place == 0 && answer.total == total && answer.count == 0 && answer.roads == 0 &&
         answer.then == then && answer.compared == compared && answer.change == change &&
         same(live, live_before, M) && same(elapsed, elapsed_before, N) &&
         filled(work + (question == 0 ? work_len : 0), 2 * N + 1 - (question == 0 ? work_len : 0), UNTOUCHED);
+}
+
+static bool previewed(size_t work_len, uint32_t road, uint32_t time, uint32_t start, uint32_t question, uint64_t total,
+    uint64_t then, uint32_t compared, int64_t change) {
+    return previewed_as(0, work_len, road, time, start, question, total, then, compared, change);
 }
 
 /* The same where no question refuses it. */
@@ -135,13 +151,14 @@ typedef struct Journey {
 } Journey;
 
 /* A list of stops on a route area and a log area of so many entries: what it answers, and all that it leaves of both. */
-static bool called(const uint32_t *stops, size_t number, size_t route_len, size_t log_len, const Journey *wanted) {
+static bool called_as(uint32_t vehicle_class, const uint32_t *stops, size_t number, size_t route_len, size_t log_len,
+    const Journey *wanted) {
     static const uint64_t no_totals[UNIT_MOST_LEGS];
     static const uint32_t no_roads[UNIT_MOST_LEGS];
     fill(route, ROUTE, UNTOUCHED);
     fill(entries, LENT, UNTOUCHED);
-    UnitStops answer = unit_stops(header, card, CARD, ranks, N, pairs, 4 * PAIRS, live, M, down, N, estimates, N, elapsed, N,
-        leaving, M, groups, N + 1, route, route_len, entries, log_len, stops, number);
+    UnitStops answer = unit_stops(header, card, card_len, ranks, N, pairs, 4 * PAIRS, live, M, down, N, estimates, N, elapsed, N,
+        leaving, M, groups, N + 1, route, route_len, entries, log_len, vehicle_class, stops, number);
     header = answer.header;
     return answer.question == wanted->question && answer.leg == wanted->leg && answer.legs == wanted->legs &&
         answer.whole == wanted->whole && memcmp(answer.totals, wanted->totals, sizeof wanted->totals) == 0 &&
@@ -150,7 +167,12 @@ static bool called(const uint32_t *stops, size_t number, size_t route_len, size_
         memcmp(answer.roads + 2, no_roads, sizeof no_roads - sizeof wanted->roads) == 0 &&
         same(route, wanted->way, wanted->ways) && filled(route + wanted->ways, ROUTE - wanted->ways, UNTOUCHED) &&
         same(entries, wanted->log, wanted->count) && filled(entries + wanted->count, LENT - wanted->count, UNTOUCHED) &&
-        header.aimed == 1 && header.target == wanted->target && header.n == N && header.m == M && header.pairs == PAIRS;
+        header.aimed == 1 && header.target == wanted->target && header.n == N && header.m == M && header.pairs == PAIRS &&
+        header.card == card_len;
+}
+
+static bool called(const uint32_t *stops, size_t number, size_t route_len, size_t log_len, const Journey *wanted) {
+    return called_as(0, stops, number, route_len, log_len, wanted);
 }
 
 /* Refused by 16, 12 and 14, by the first that says no, and nothing is altered. */
@@ -178,14 +200,62 @@ static bool writes_and_reads(void) {
     memcpy(bad, card, CARD);
     bad[28 + 12 + 4] = 9;
     return written && card_read(bad, CARD, &first, &second) == 5 && first == 1 && second == 0 &&
-        card_read(bad, 27, &first, &second) == 1 && first == 0 && second == 0;
+        card_read(bad, 27, &first, &second) == 1 && first == 0 && second == 0 && card_read(bad, 3, &first, &second) == 1;
+}
+
+/* Adds the third section to the card that is there; the header of its preparing has its length. */
+static bool with_classes(void) {
+    uint32_t first = UNTOUCHED, second = UNTOUCHED;
+    memmove(card + 40, card + 28, CARD - 28);
+    for (size_t i = 0; i < 40; i++) {
+        card[i] = (uint8_t)(CLASS_WORDS[i / 4] >> (i % 4 * 8));
+    }
+    memcpy(card + CARD + 12, CLASS_BYTES, M);
+    card_len = LONGER;
+    return card_read(card, LONGER, &first, &second) == 0 && first == N && second == M &&
+        card_read(card, LONGER - 1, &first, &second) == 3 && card_read(card, 39, &first, &second) == 1 &&
+        prepared_at(3) && header.card == LONGER;
+}
+
+/* Class 0 goes round road 1, which stays open; class 1 takes it. Estimates are over all roads. */
+static bool barred(void) {
+    static const uint32_t roads_01[] = {0, 1}, roads_23[] = {2, 3}, log_3[] = {0, 1, 3}, log_4[] = {0, 1, 2, 3}, ends[] = {0, 3};
+    static const Journey round = {0, 0, 1, 25, {25, 0}, {2, 0}, 2, {2, 3}, 4, {0, 1, 2, 3}, 3};
+    static const Journey straight = {0, 0, 1, 20, {20, 0}, {2, 0}, 2, {0, 1}, 3, {0, 1, 3}, 3};
+    return prepared_at(3) && gone_as(0, 0, 0, 25, 2, roads_23, 4, log_4) && live[1] == 10 &&
+        gone_as(1, 0, 0, 20, 2, roads_01, 3, log_3) && gone_as(7, 0, 0, 20, 2, roads_01, 3, log_3) &&
+        gone_as(0, 0, 0, 25, 2, roads_23, 4, log_4) && estimated(0, 20) &&
+        previewed_as(0, 2 * N, 1, 60, 0, 0, 25, 25, 1, 0) && previewed_as(1, 2 * N, 1, 60, 0, 0, 20, 25, 1, 5) &&
+        called_as(0, ends, 2, 2 * N, N, &round) && called_as(1, ends, 2, 2 * N, N, &straight) && live[1] == 10;
+}
+
+/* 18 comes after 9, of stops after 16 too, and before the others; a header with another length of the card is refused by 9. */
+static bool no_class(void) {
+    static const uint32_t ends[] = {N, N};
+    static const Journey wrong_number = {.question = 16, .target = 3}, refused = {.question = 18, .target = 3};
+    static const Journey lengths = {.question = 9, .target = 3};
+    bool asked = prepared_at(3) && gone_as(8, N, 18, 0, 0, NULL, 0, NULL) && gone_as(UNIT_CLOSED, 0, 18, 0, 0, NULL, 0, NULL) &&
+        previewed_as(8, 2 * N, M, 9, N, 18, 0, 0, 0, 0) && previewed_as(8, 2 * N - 1, M, 9, N, 9, 0, 0, 0, 0) &&
+        called_as(8, ends, 1, 0, 0, &wrong_number) && called_as(8, ends, 2, 0, 0, &refused);
+    card_len = LONGER - 1;
+    header.card = LONGER;
+    bool shorter = gone_as(8, N, 9, 0, 0, NULL, 0, NULL) && header.card == LONGER && set(M, 9) == 9 && aim(N) == 9;
+    card_len = LONGER;
+    header.card = CARD;
+    bool forged = gone_as(0, 0, 9, 0, 0, NULL, 0, NULL) && previewed_as(0, 2 * N, 1, 60, 0, 9, 0, 0, 0, 0) && header.card == CARD;
+    card_len = CARD;
+    forged = forged && called_as(8, ends, 1, 0, 0, &lengths);
+    card_len = LONGER;
+    header.card = LONGER;
+    return asked && shorter && forged;
 }
 
 static bool p2(void) {
     bool refused = prepare(PAIRS - 1) == 8 && header.n == 0 && header.m == 0 && header.pairs == 0 && header.aimed == 0 &&
         filled(ranks, N, 0) && filled(pairs, 4 * (PAIRS - 1), 0) && filled(live, M, 0) && filled(down, N, 0) &&
-        filled(estimates, N, 0) && filled(elapsed, N, 0) && filled(leaving, M, 0) && filled(groups, N + 1, 0);
-    return refused && prepare(PAIRS) == 0 && header.n == N && header.m == M && header.pairs == PAIRS && header.aimed == 0;
+        filled(estimates, N, 0) && filled(elapsed, N, 0) && filled(leaving, M, 0) && filled(groups, N + 1, 0) && header.card == 0;
+    return refused && prepare(PAIRS) == 0 && header.n == N && header.m == M && header.pairs == PAIRS && header.card == CARD &&
+        header.aimed == 0;
 }
 
 static bool listed(void) {
@@ -207,19 +277,20 @@ static bool p9(void) {
 }
 
 /*
- * The program's example as one script: aim 3, est 0, go 0, set 1 closed, go 0, set 1 9. Between them a go with too short a log, and
- * previews: a shorter, a missing and a refused one. Behind them lists of stops: there and back, one stop alone, and there and back with
- * road 4 closed. Then a kind that is none, which ends the script: the aim behind it is not made, and its answer's words are as they were.
+ * The program's example as one script: aim 3, est 0, go 0, set 1 closed, go 0, set 1 9. Between them a go with too short a log, one of
+ * a class that is none, and previews: a shorter, a missing and a refused one. Behind them lists of stops: there and back, one stop
+ * alone, and there and back with road 4 closed. Then a kind that is none, which ends the script: the aim behind it is not made, and its
+ * answer's words are as they were.
  */
 static bool replayed(void) {
-    enum { CALLS = 14, SCRIPT = 56 };
+    enum { CALLS = 15, SCRIPT = 70 };
     static const uint32_t script[SCRIPT] = {
-        1, 3, 2, 0, 3, 0, N, LENT, 0, 1, UNIT_CLOSED, 3, 0, N, N - 1, 3, 0, ROUTE + 1, N,
-        4, 1, 10, 0, 4, 2, UNIT_CLOSED, 0, 4, 1, 9, 0, 0, 1, 9,
-        5, 3, 3 * N, N, 0, 3, 0, 5, 1, ROUTE, N, 0, 0, 4, UNIT_CLOSED, 5, 3, ROUTE + 1, LENT, 0, 3, 0,
+        1, 3, 2, 0, 3, 0, 0, N, LENT, 0, 1, UNIT_CLOSED, 3, 1, 0, N, N - 1, 3, 7, 0, ROUTE + 1, N, 3, 8, 0, N, N,
+        4, 2, 1, 10, 0, 4, 3, 2, UNIT_CLOSED, 0, 4, 4, 1, 9, 0, 0, 1, 9,
+        5, 5, 3, 3 * N, N, 0, 3, 0, 5, 8, 1, ROUTE, N, 0, 0, 4, UNIT_CLOSED, 5, 6, 3, ROUTE + 1, LENT, 0, 3, 0,
     };
     static const uint64_t first_words[CALLS][4] = {
-        {0, 0, 0, 0}, {0, 20, 0, 0}, {0, 20, 3, 2}, {0, 0, 0, 0}, {14, 0, 0, 0}, {0, 25, 4, 2},
+        {0, 0, 0, 0}, {0, 20, 0, 0}, {0, 20, 3, 2}, {0, 0, 0, 0}, {14, 0, 0, 0}, {0, 25, 4, 2}, {18, 0, 0, 0},
         {0, 25, 20, (uint64_t)-5}, {0, 25, UNIT_NONE, 0}, {11, 0, 0, 0}, {11, 0, 0, 0},
         {0, 45, 0, 2}, {16, 0, 0, 0}, {0, 0, 0, 0}, {17, 1, 0, 0},
     };
@@ -235,11 +306,11 @@ static bool replayed(void) {
     for (size_t i = 0; i < CALLS; i++) {
         memcpy(wanted + UNIT_ANSWER_WORDS * i, first_words[i], sizeof first_words[i]);
     }
-    memcpy(wanted + UNIT_ANSWER_WORDS * 10 + 4, legs, sizeof legs);
+    memcpy(wanted + UNIT_ANSWER_WORDS * 11 + 4, legs, sizeof legs);
     fill(route, ROUTE, UNTOUCHED);
     fill(entries, LENT, UNTOUCHED);
     fill(work, 2 * N + 1, UNTOUCHED);
-    UnitAnswer answer = unit_replay(card, CARD, ranks, N, pairs, 4 * PAIRS, live, M, down, N, estimates, N, elapsed, N, leaving, M,
+    UnitAnswer answer = unit_replay(card, card_len, ranks, N, pairs, 4 * PAIRS, live, M, down, N, estimates, N, elapsed, N, leaving, M,
         groups, N + 1, route, ROUTE, entries, LENT, work, 2 * N, words, SCRIPT + 3, out, (CALLS + 1) * UNIT_ANSWER_WORDS);
     return handed(answer) == 0 && header.target == 0 && header.aimed == 1 && memcmp(out, wanted, sizeof out) == 0 &&
         same(route, roads_left, 3) && filled(route + 3, ROUTE - 3, UNTOUCHED) && same(entries, log_left, 4) &&
@@ -251,6 +322,7 @@ static bool tied(void) {
     static const uint32_t roads[] = {2, 0, 3}, log[] = {0, 2, 1, 3}, ends[] = {0, 3};
     static const Journey one_leg = {0, 0, 1, 3, {3, 0}, {3, 0}, 3, {2, 0, 3}, 4, {0, 2, 1, 3}, 3};
     uint32_t place;
+    card_len = CARD;
     return card_write(TIED_ROADS, 3 * M, TIED_ORDER, N, card, CARD, &place) == 0 && prepared_at(3) &&
         gone(0, 0, 3, 3, roads, 4, log) && called(ends, 2, 2 * N, N, &one_leg);
 }
@@ -295,6 +367,9 @@ int main(void) {
     told("A3  stops 0, 0: 0 by no road", prepared_at(3) && called(stay, 2, 2 * N, N, &stayed));
     told("A3  refused by 16, 12 and 14, by the first that says no", uncalled());
     told("replay: the program's example, previews and stops as one script", replayed());
+    told("A6  a byte for each road: 121 bytes, which the header has", with_classes());
+    told("A6  road 1 barred to class 0: 25, roads 2, 3; class 1: 20", barred());
+    told("A6  class 8: 18, after 9 and 16, before the others", no_class());
     told("A5  equal keys by time: log 0, 2, 1, 3, roads 2, 0, 3", tied());
     return all_right ? 0 : 1;
 }

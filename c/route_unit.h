@@ -2,8 +2,8 @@
  * The route unit for C and C++: reading and writing a card, preparing it, the six calls, and a script of calls.
  *
  * Link with libunit_c.a (`rt staticlib unit_c` leaves it in target/staticlib). Words as "none" and "question 9" are
- * those of document 01, the areas leaving and groups and the calls preview and stops those of document 02, A1 to A3; the
- * contract of each function, for every input, stands at its namesake in crates/unit_c.
+ * those of document 01, the areas leaving and groups, the calls preview and stops and the vehicle classes those of document 02,
+ * A1 to A3 and A6; the contract of each function, for every input, stands at its namesake in crates/unit_c.
  *
  * Areas. A slice is a pointer and, right after it, its length in elements (bytes of a card, words of all others). Each
  * pointer is aligned for its type, is not null even where the length is 0, and points at as many elements as the length
@@ -16,30 +16,36 @@
  * preview and a list of stops. On the deepest map that is tried, a line of 4,096 junctions in rank order, 2 MiB are enough for
  * every function.
  *
- * Lengths. With n junctions and m roads: card 28 + 12 m + 4 n bytes; ranks, down, estimates, elapsed n words; live, leaving m
- * words; groups n + 1 words; pairs a multiple of 4 words, four for each pair there is to be room for, at most 262,144; route and
- * log at least n words, route of a list of s stops at least s n; work 2 n words.
+ * Classes. A card may have a third section, a byte for each road, of which bit c from the lowest, 0 to 7, lets vehicle class c in;
+ * without it every class passes. A go, a preview and a list of stops take a class: a road barred to it counts as closed for that call,
+ * and for no other. Estimates are over all roads, and no live time is altered.
+ *
+ * Lengths. With n junctions and m roads: card 28 + 12 m + 4 n bytes, or 40 + 13 m + 4 n with a byte for each road; ranks, down,
+ * estimates, elapsed n words; live, leaving m words; groups n + 1 words; pairs a multiple of 4 words, four for each pair there is to be
+ * room for, at most 262,144; route and log at least n words, route of a list of s stops at least s n; work 2 n words.
  *
  * Refusals, by the number of the question that is answered with no, in order:
- *    1  card: at least 28 bytes?
- *    2  card: 2 sections, of kinds 1 and 2?
+ *    1  card: at least 4 bytes; and, once 2 has passed its first word, 28 for a table of 2 sections or 40 for one of 3?
+ *    2  card: is its first word 2 or 3; and, once 1 has passed the table, are the kinds 1, 2 or 1, 2, 3?
  *    3  card: do the bodies follow the table one after the other up to the card's end?
- *    4  card: 0 to 16,384 roads of 12 bytes, 1 to 4,096 junctions of 4 bytes?
+ *    4  card: 0 to 16,384 roads of 12 bytes, 1 to 4,096 junctions of 4 bytes; with a third section, a byte for each road?
  *    5  card: has each road two different ends below n and a base time from 1 to 1,000,000? With the first road that has not.
  *    6  card: is each entry of the order below n and new? With the first place, from 0, where it is not.
  *    7  prepare, write: has each area its length?
  *    8  prepare: do all kept pairs fit? If not, every area is filled with 0.
  *    9  calls: have the card and the eight areas, and of a preview its work area, the lengths that the header calls for, of at most
- *       4,096 junctions and 16,384 roads?
+ *       4,096 junctions and 16,384 roads; and does the card's table name bodies for these inside the card?
  *   10  set, preview: is the road below m?
  *   11  set, preview: is the time from the road's base time to 1,000,000, or closed?
  *   12  aim, estimate, go, preview: is the junction below n? stops: is each of them?
  *   13  estimate, go, preview: is there a target?
  *   14  go: have route and log at least n words? stops: has route at least n words for each stop, and log at least n?
- *   15  go: does a chain of open roads exist? If not: with the count; log, elapsed and estimates as the search leaves them.
- *   16  stops: are there 2 to 32? Asked before 12.
- *   17  stops: has each leg a chain of open roads? If not: with the first leg, from 0, that has none; header and areas as its aim and
- *       its go, which finds none, leave them.
+ *   15  go: does a chain of open roads of the class exist? If not: with the count; log, elapsed and estimates as the search leaves
+ *       them.
+ *   16  stops: are there 2 to 32? Asked right after 9.
+ *   17  stops: has each leg a chain of open roads of the class? If not: with the first leg, from 0, that has none; header and areas as
+ *       its aim and its go, which finds none, leave them.
+ *   18  go, preview, stops: is the class below 8? Asked right after 9, of stops after 16.
  * All but 8, 15 and 17 leave every area as it was, lent ones too, and a call that is refused, but for 17, leaves the header as it was.
  */
 #ifndef ROUTE_UNIT_H
@@ -71,6 +77,7 @@ typedef struct UnitHeader {
     uint32_t n;      /* junctions */
     uint32_t m;      /* roads */
     uint32_t pairs;  /* kept pairs */
+    uint32_t card;   /* bytes of the card */
     uint32_t aimed;  /* 1 if there is a target, 0 if not */
     uint32_t target; /* the target, or 0 */
 } UnitHeader;
@@ -100,14 +107,15 @@ typedef struct UnitStops {
 } UnitStops;
 
 /* The layout that the archive was built for; an array of -1 elements if a compiler has another. */
-typedef char UnitHeader_is_20_bytes[sizeof(UnitHeader) == 20 && offsetof(UnitHeader, target) == 16 ? 1 : -1];
-typedef char UnitAnswer_is_64_bytes[sizeof(UnitAnswer) == 64 && offsetof(UnitAnswer, question) == 20 &&
-    offsetof(UnitAnswer, place) == 24 && offsetof(UnitAnswer, compared) == 28 && offsetof(UnitAnswer, total) == 32 &&
-    offsetof(UnitAnswer, count) == 40 && offsetof(UnitAnswer, roads) == 44 && offsetof(UnitAnswer, then) == 48 &&
-    offsetof(UnitAnswer, change) == 56 ? 1 : -1];
-typedef char UnitStops_is_416_bytes[sizeof(UnitStops) == 416 && offsetof(UnitStops, question) == 20 &&
-    offsetof(UnitStops, leg) == 24 && offsetof(UnitStops, legs) == 28 && offsetof(UnitStops, whole) == 32 &&
-    offsetof(UnitStops, totals) == 40 && offsetof(UnitStops, roads) == 288 ? 1 : -1];
+typedef char UnitHeader_is_24_bytes[sizeof(UnitHeader) == 24 && offsetof(UnitHeader, card) == 12 &&
+    offsetof(UnitHeader, target) == 20 ? 1 : -1];
+typedef char UnitAnswer_is_72_bytes[sizeof(UnitAnswer) == 72 && offsetof(UnitAnswer, question) == 24 &&
+    offsetof(UnitAnswer, place) == 28 && offsetof(UnitAnswer, compared) == 32 && offsetof(UnitAnswer, total) == 40 &&
+    offsetof(UnitAnswer, count) == 48 && offsetof(UnitAnswer, roads) == 52 && offsetof(UnitAnswer, then) == 56 &&
+    offsetof(UnitAnswer, change) == 64 ? 1 : -1];
+typedef char UnitStops_is_424_bytes[sizeof(UnitStops) == 424 && offsetof(UnitStops, question) == 24 &&
+    offsetof(UnitStops, leg) == 28 && offsetof(UnitStops, legs) == 32 && offsetof(UnitStops, whole) == 40 &&
+    offsetof(UnitStops, totals) == 48 && offsetof(UnitStops, roads) == 296 ? 1 : -1];
 
 /*
  * Reads a card: questions 1 to 6. Returns 0 and writes n and m to *first and *second; or returns the refusal and writes
@@ -116,8 +124,8 @@ typedef char UnitStops_is_416_bytes[sizeof(UnitStops) == 416 && offsetof(UnitSto
 uint32_t card_read(const uint8_t *card, size_t card_len, uint32_t *first, uint32_t *second);
 
 /*
- * Writes the card of a map into area: roads has tail, head and base time of each road in turn, order the junctions from
- * lowest rank to highest, area 28 + 4 roads_len + 4 order_len bytes. Returns 0; or a refusal by 4 to 7, with area
+ * Writes the card of a map into area: roads has tail, head and base time of each road in turn, order the junctions from lowest rank to
+ * highest, area 28 + 4 roads_len + 4 order_len bytes. It knows maps without classes alone. Returns 0; or a refusal by 4 to 7, with area
  * as it was. *place gets the place of 5 and 6, else 0.
  */
 uint32_t card_write(const uint32_t *roads, size_t roads_len, const uint32_t *order, size_t order_len,
@@ -159,51 +167,53 @@ UnitAnswer unit_estimate(UnitHeader header, const uint8_t *card, size_t card_len
     const uint32_t *leaving, size_t leaving_len, const uint32_t *groups, size_t groups_len, uint32_t junction);
 
 /*
- * The quickest way over open roads at their live times, from a start to the target: questions 9, 12, 13, 14, 15. Roads
- * and logged junctions stand first in route and log; the rest of both is as it was, with 15 all of route. Writes estimates
- * and elapsed too.
+ * The quickest way of a vehicle class over open roads that let it in, at their live times, from a start to the target: questions 9, 18,
+ * 12, 13, 14, 15. Roads and logged junctions stand first in route and log; the rest of both is as it was, with 15 all of route. Writes
+ * estimates and elapsed too.
  */
 UnitAnswer unit_go(UnitHeader header, const uint8_t *card, size_t card_len, const uint32_t *ranks, size_t ranks_len,
     const uint32_t *pairs, size_t pairs_len, const uint32_t *live, size_t live_len, const uint32_t *down, size_t down_len,
     uint32_t *estimates, size_t estimates_len, uint32_t *elapsed, size_t elapsed_len,
     const uint32_t *leaving, size_t leaving_len, const uint32_t *groups, size_t groups_len,
-    uint32_t *route, size_t route_len, uint32_t *log, size_t log_len, uint32_t start);
+    uint32_t *route, size_t route_len, uint32_t *log, size_t log_len, uint32_t vehicle_class, uint32_t start);
 
 /*
- * What if that road took longer, or less, or were closed or open: the total of a go from the start now, and with that time set.
- * Questions 9 (work has just 2 n words), 10, 11 (by the road's base time, as set asks it), 12, 13; that there is no chain is an answer:
- * UNIT_NONE in the place of that total, with compared and change 0. Sets nothing. Writes estimates, those that a go from the start
- * fills now and those that it fills with that time set; and work, whose words before do not matter and after an acceptance are any.
+ * What if that road took longer, or less, or were closed or open: the total of a go of the class from the start now, and with that time
+ * set. Questions 9 (work has just 2 n words), 18, 10, 11 (by the road's base time, as set asks it), 12, 13; that there is no chain is
+ * an answer: UNIT_NONE in the place of that total, with compared and change 0. Sets nothing. Writes estimates, those that a go from the
+ * start fills now and those that it fills with that time set; and work, whose words before do not matter and after an acceptance are
+ * any.
  */
 UnitAnswer unit_preview(UnitHeader header, const uint8_t *card, size_t card_len, const uint32_t *ranks, size_t ranks_len,
     const uint32_t *pairs, size_t pairs_len, const uint32_t *live, size_t live_len, const uint32_t *down, size_t down_len,
     uint32_t *estimates, size_t estimates_len, const uint32_t *elapsed, size_t elapsed_len,
     const uint32_t *leaving, size_t leaving_len, const uint32_t *groups, size_t groups_len,
-    uint32_t *work, size_t work_len, uint32_t road, uint32_t time, uint32_t start);
+    uint32_t *work, size_t work_len, uint32_t vehicle_class, uint32_t road, uint32_t time, uint32_t start);
 
 /*
- * Calls at the stops in their order, repeats allowed: questions 9, 16, 12, 14, 17. Each leg, from a stop to the next, is an aim at its
- * end and a go from its start; areas and header are left so, up to the last leg or to the one that 17 names. The legs' roads follow
- * one another in route, the rest of which is as it was; with 17 those of the legs before. Each leg's log stands first in log, so after
- * that of the last one made there may be more of an earlier one. Writes down, estimates, elapsed, route and log.
+ * Calls at the stops in their order, repeats allowed: questions 9, 16, 18, 12, 14, 17. Each leg, from a stop to the next, is an aim at
+ * its end and a go of the class from its start; areas and header are left so, up to the last leg or to the one that 17 names. The legs'
+ * roads follow one another in route, the rest of which is as it was; with 17 those of the legs before. Each leg's log stands first in
+ * log, so after that of the last one made there may be more of an earlier one. Writes down, estimates, elapsed, route and log.
  */
 UnitStops unit_stops(UnitHeader header, const uint8_t *card, size_t card_len, const uint32_t *ranks, size_t ranks_len,
     const uint32_t *pairs, size_t pairs_len, const uint32_t *live, size_t live_len, uint32_t *down, size_t down_len,
     uint32_t *estimates, size_t estimates_len, uint32_t *elapsed, size_t elapsed_len,
     const uint32_t *leaving, size_t leaving_len, const uint32_t *groups, size_t groups_len,
-    uint32_t *route, size_t route_len, uint32_t *log, size_t log_len, const uint32_t *stops, size_t stops_len);
+    uint32_t *route, size_t route_len, uint32_t *log, size_t log_len, uint32_t vehicle_class,
+    const uint32_t *stops, size_t stops_len);
 
 /*
- * Prepares a card and makes a list of calls. A call in script is its kind and as many words as that call has: 0, road, time for set;
- * 1, junction for aim; 2, junction for estimate; 3, start, entries of route, entries of log for go; 4, road, time, start for preview; 5,
- * their number, entries of route, entries of log and then the stops for a list of stops. A go and a list of stops are lent the first so
- * many entries of route and log, or all of them where there are fewer; what lies behind them is as it was. A preview is lent all of
- * work. The script ends with its last word, at any other kind, or at a call that is cut short: no call from there on is made. An
- * answer is UNIT_ANSWER_WORDS words of out: the refusal or 0; estimate, total or the leg of 17; count; number of roads; of a preview 0,
- * its two totals, and its change as a two's complement of 64 bits; of a list of stops 0, the whole total, 0 and the number of legs; then
- * of each of UNIT_MOST_LEGS legs its total and its number of roads, 0 where there is none. No more calls are made than out has room for
- * answers; the rest of out is as it was. What is handed back is preparing's answer, with the header after the last call. After a refused
- * preparing the calls are made all the same, on its header of zeros.
+ * Prepares a card and makes a list of calls. A call in script is its kind and as many words as that call has: 0, road, time for set; 1,
+ * junction for aim; 2, junction for estimate; 3, class, start, entries of route, entries of log for go; 4, class, road, time, start for
+ * preview; 5, class, their number, entries of route, entries of log and then the stops for a list of stops. A go and a list of stops
+ * are lent the first so many entries of route and log, or all of them where there are fewer; what lies behind them is as it was. A
+ * preview is lent all of work. The script ends with its last word, at any other kind, or at a call that is cut short: no call from
+ * there on is made. An answer is UNIT_ANSWER_WORDS words of out: the refusal or 0; estimate, total or the leg of 17; count; number of
+ * roads; of a preview 0, its two totals, and its change as a two's complement of 64 bits; of a list of stops 0, the whole total, 0 and
+ * the number of legs; then of each of UNIT_MOST_LEGS legs its total and its number of roads, 0 where there is none. No more calls are
+ * made than out has room for answers; the rest of out is as it was. What is handed back is preparing's answer, with the header after
+ * the last call. After a refused preparing the calls are made all the same, on its header of zeros.
  */
 UnitAnswer unit_replay(const uint8_t *card, size_t card_len, uint32_t *ranks, size_t ranks_len,
     uint32_t *pairs, size_t pairs_len, uint32_t *live, size_t live_len, uint32_t *down, size_t down_len,

@@ -1,10 +1,10 @@
-"""Document 01, with A1 to A3 and A5 of document 02, as a plain model: the card, preparing, the six calls and the machine to compare with.
+"""Document 01, with A1 to A3, A5 and A6 of document 02, as a plain model: the card, preparing, the six calls and the machine to compare with.
 
 It is written from the paper alone and shares nothing with the definitions of crates/model. Each least total comes from
 one function, which relaxes arcs until nothing changes; candidates, fillings and routes are read off the paper's sentences.
 A refusal is a tuple: the question's number and, after 5, 6, 15 and 17, the place, count or leg. A call is ("set", road, time),
-("aim", junction), ("est", junction), ("go", start, route area, log area), ("preview", road, time, start, words of its
-work area) or ("stops", junctions, route area, log area). A preview's totals and change are numbers, or None; a leg of a list of
+("aim", junction), ("est", junction), ("go", class, start, route area, log area), ("preview", class, road, time, start, words of its
+work area) or ("stops", class, junctions, route area, log area). A preview's totals and change are numbers, or None; a leg of a list of
 stops is its total and its number of roads.
 """
 import math
@@ -14,10 +14,11 @@ NONE = CLOSED = 4_294_967_295
 UNASKED = 4_294_967_294
 SLOWEST = 1_000_000
 FEWEST_STOPS, MOST_STOPS = 2, 32
+CLASSES, EVERY_CLASS = 8, 255
 
-Header = namedtuple("Header", "n m pairs target")
+Header = namedtuple("Header", "n m pairs card target")
 Areas = namedtuple("Areas", "ranks pairs live down estimates elapsed leaving groups")
-NO_HEADER = Header(0, 0, 0, None)
+NO_HEADER = Header(0, 0, 0, 0, None)
 
 
 # ---- the card
@@ -31,22 +32,40 @@ def to_bytes(words):
 
 
 def card_refusal(card):
-    """Questions 1 to 6."""
-    if len(card) < 28:
+    """Questions 1 to 6; 1 and 2 each in two halves."""
+    if len(card) < 4:
         return (1,)
-    count, kind1, start1, length1, kind2, start2, length2 = to_words(card[:28])
-    if (count, kind1, kind2) != (2, 1, 2):
+    count = to_words(card[:4])[0]
+    if count not in (2, 3):
         return (2,)
-    if start1 != 28 or start2 != 28 + length1 or start2 + length2 != len(card) or len(card) >= 2 ** 32:
+    if len(card) < 4 + 12 * count:
+        return (1,)
+    kinds, starts, lengths = zip(*entries(card))
+    if kinds != (1, 2, 3)[:count]:
+        return (2,)
+    ends = [start + length for start, length in zip(starts, lengths)]
+    if [*starts, len(card)] != [4 + 12 * count, *ends] or max(ends) >= 2 ** 32:
         return (3,)
-    if not sizes_right(length1, length2):
+    if not sizes_right(*lengths):
         return (4,)
-    return rows_refusal(to_words(card[28:start2]), to_words(card[start2:]))
+    return rows_refusal(*[to_words(body) for body in bodies(card)[:2]])
 
 
-def sizes_right(length1, length2):
-    """Question 4."""
-    return length1 % 12 == 0 and length1 <= 196_608 and length2 % 4 == 0 and 4 <= length2 <= 16_384
+def entries(card):
+    """The table's (kind, start, length), as many as there are of those that the first word says."""
+    words = to_words(card[:len(card) // 4 * 4])
+    return [tuple(words[i:i + 3]) for i in range(1, len(words) - 2, 3)][:words[0]] if words else []
+
+
+def bodies(card):
+    """The parts of the card that the entries name; nothing in the place of one past its end."""
+    return [card[start:start + length] if start + length <= len(card) else b"" for _, start, length in entries(card)[:3]]
+
+
+def sizes_right(length1, length2, length3=None):
+    """Question 4. The third is to be m, where there is one."""
+    return (length1 % 12 == 0 and length1 <= 196_608 and length2 % 4 == 0 and 4 <= length2 <= 16_384
+            and length3 in (None, length1 // 12))
 
 
 def rows_refusal(roads, order):
@@ -65,6 +84,13 @@ def make_card(roads, order):
     return to_bytes([2, 1, 28, 4 * len(roads), 2, 28 + 4 * len(roads), 4 * len(order), *roads, *order])
 
 
+def with_access(card, access):
+    """A card of two sections with a third: a byte for each road."""
+    _, _, start1, length1, _, start2, length2 = to_words(card[:28])
+    table = [3, 1, start1 + 12, length1, 2, start2 + 12, length2, 3, start2 + length2 + 12, len(access)]
+    return to_bytes(table) + card[28:] + bytes(access)
+
+
 def write_card(roads, order, area):
     """The refusal or None, and what the area then holds."""
     if not sizes_right(4 * len(roads), 4 * len(order)):
@@ -78,19 +104,21 @@ def write_card(roads, order, area):
 # ---- the map: least totals, ranks and pairs
 
 class Map:
-    """The map on an accepted card: the order, the rank of each junction, the roads as (tail, head, base)."""
+    """The map on an accepted card: the order, the rank of each junction, the roads as (tail, head, base), and a byte for each."""
 
     def __init__(self, card):
-        words = to_words(card)
-        bodies = 7 + words[3] // 4
-        self.roads = [tuple(words[i:i + 3]) for i in range(7, bodies, 3)]
+        roads, order, *access = bodies(card)
+        words = to_words(roads)
+        self.roads = [tuple(words[i:i + 3]) for i in range(0, len(words), 3)]
         self.base = [base for _, _, base in self.roads]
-        self.order = words[bodies:]
+        self.order = to_words(order)
         self.rank = [self.order.index(junction) for junction in range(len(self.order))]
+        self.access = [*access[0]] if access else [EVERY_CLASS] * len(self.roads)
 
-    def open_roads(self, live):
-        """(tail, head, live time, number)"""
-        return [(*road[:2], live[i], i) for i, road in enumerate(self.roads) if live[i] != CLOSED]
+    def open_roads(self, live, vehicle):
+        """(tail, head, live time, number) of the roads that are open and have the bit of the class, counted from the lowest"""
+        return [(*road[:2], live[i], i) for i, road in enumerate(self.roads)
+                if live[i] != CLOSED and self.access[i] // 2 ** vehicle % 2 == 1]
 
 
 def least_totals(arcs, goal):
@@ -159,11 +187,11 @@ def chains(arcs, start, passed=()):
                 yield end, time + total
 
 
-def effort(chart, live, start, target):
-    """A5 without a search, over all chains: the junctions whose least time from the start plus estimate is no more than the total or,
-    where no chain exists, all that open roads reach and that have an estimate, sorted by key, time and number."""
+def effort(chart, live, vehicle, start, target):
+    """A5 without a search, over all chains of open roads of the class: the junctions whose least time from the start plus estimate is no
+    more than the total or, where no chain exists, all that they reach and that have an estimate, sorted by key, time and number."""
     times, estimates = {}, {}
-    for end, total in chains(chart.open_roads(live), start):
+    for end, total in chains(chart.open_roads(live, vehicle), start):
         times[end] = min(total, times.get(end, math.inf))
     for junction in times:
         estimates[junction] = min([total for end, total in chains(chart.roads, junction) if end == target], default=math.inf)
@@ -171,10 +199,10 @@ def effort(chart, live, start, target):
     return [junction for key, _, junction in keys if key < math.inf and key <= times.get(target, math.inf)]
 
 
-def searched(chart, live, start, target, order=None):
-    """The open roads, the logged junctions' times, and the junctions that the search asks for an estimate: the start, and the heads
-    of open roads from logged ones other than the target."""
-    arcs = chart.open_roads(live)
+def searched(chart, live, vehicle, start, target, order=None):
+    """The open roads of the class, the logged junctions' times, and the junctions that the search asks for an estimate: the start, and
+    the heads of these roads from logged ones other than the target. Estimates are over all roads."""
+    arcs = chart.open_roads(live, vehicle)
     times = search(arcs, least_totals(chart.roads, target), start, target, order)[0]
     return arcs, times, [start, *[head for tail, head, *_ in arcs if tail in times and tail != target]]
 
@@ -201,34 +229,38 @@ def time_refusal(base, road, time):
 
 def work_right(n, call):
     """Question 9 of a preview's work area: twice elapsed's entries."""
-    return call[0] != "preview" or call[4] == 2 * n
+    return call[0] != "preview" or call[5] == 2 * n
 
 
-def stops_refusal(n, stops, route, log):
-    """Questions 16, 12 and 14 of a list of stops."""
+def stops_refusal(n, vehicle, stops, route, log):
+    """Questions 16, 18, 12 and 14 of a list of stops."""
     if not FEWEST_STOPS <= len(stops) <= MOST_STOPS:
         return (16,)
+    if vehicle >= CLASSES:
+        return (18,)
     if any(stop >= n for stop in stops):
         return (12,)
     return (14,) if len(route) < len(stops) * n or len(log) < n else None
 
 
 def call_refusal(n, base, target, call):
-    """Questions 10 to 14 and 16, and 9 of a work area."""
-    kind, place = call[:2]
+    """Questions 10 to 14, 16 and 18, and 9 of a work area."""
+    kind, *rest = call
     if not work_right(n, call):
         return (9,)
     if kind == "set":
-        return time_refusal(base, place, call[2])
-    if kind == "preview":
-        return time_refusal(base, place, call[2]) or call_refusal(n, base, target, ("est", call[3]))
+        return time_refusal(base, *rest)
     if kind == "stops":
-        return stops_refusal(n, *call[1:])
-    if place >= n:
+        return stops_refusal(n, *rest)
+    if kind in ("go", "preview") and rest[0] >= CLASSES:
+        return (18,)
+    if kind == "preview":
+        return time_refusal(base, *rest[1:3]) or call_refusal(n, base, target, ("est", rest[3]))
+    if rest[kind == "go"] >= n:
         return (12,)
     if kind != "aim" and target is None:
         return (13,)
-    if kind == "go" and min(len(call[2]), len(call[3])) < n:
+    if kind == "go" and min(map(len, rest[2:])) < n:
         return (14,)
     return None
 
@@ -248,45 +280,47 @@ def stops_answer(legs):
 
 
 class Machine:
-    """It has live times and a target of its own, and is fed the map, the calls and the lengths of what is lent with them."""
+    """It has live times and a target of its own, and is fed the map, the calls with their classes and the lengths of what is lent."""
 
     def __init__(self, chart):
         self.chart, self.live, self.target = chart, list(chart.base), None
 
     def step(self, call):
         """The answer, the route and the log."""
-        (kind, place), chart = call[:2], self.chart
+        (kind, *rest), chart = call, self.chart
         refusal = call_refusal(len(chart.order), chart.base, self.target, call)
         if refusal:
             return ("no", *refusal), [], []
         if kind == "set":
-            self.live[place] = call[2]
+            self.live[rest[0]] = rest[1]
             return ("ok",), [], []
         if kind == "aim":
-            self.target = place
+            self.target = rest[0]
             return ("ok",), [], []
         if kind == "preview":
-            return preview_answer(*[least_totals(chart.open_roads(live), self.target).get(call[3])
-                                    for live in (self.live, replaced(self.live, place, call[2]))]), [], []
+            vehicle, road, time, start, _ = rest
+            return preview_answer(*[least_totals(chart.open_roads(live, vehicle), self.target).get(start)
+                                    for live in (self.live, replaced(self.live, road, time))]), [], []
         if kind == "stops":
-            return self.journey(*call[1:])
+            return self.journey(*rest)
         estimate = least_totals(chart.roads, self.target)
         if kind == "est":
-            return ("est", estimate.get(place, NONE)), [], []
-        arcs = chart.open_roads(self.live)
-        log = search(arcs, estimate, place, self.target)[0]
-        total = least_totals(arcs, self.target).get(place)
+            return ("est", estimate.get(rest[0], NONE)), [], []
+        vehicle, start = rest[:2]
+        arcs = chart.open_roads(self.live, vehicle)
+        log = search(arcs, estimate, start, self.target)[0]
+        total = least_totals(arcs, self.target).get(start)
         if total is None:
             return ("no", 15, len(log)), [], list(log)
         route = route_back(arcs, log, self.target)
         return ("go", total, len(log), len(route)), route, list(log)
 
-    def journey(self, stops, *lent):
+    def journey(self, vehicle, stops, *lent):
         """An aim and a go for each leg: the legs' roads, and the log of the last leg that is made."""
         roads, legs = [], []
         for start, end in zip(stops, stops[1:]):
             self.step(("aim", end))
-            answer, route, log = self.step(("go", start, *lent))
+            answer, route, log = self.step(("go", vehicle, start, *lent))
             if answer[0] == "no":
                 return ("no", 17, len(legs)), roads, log
             roads += route
@@ -302,9 +336,16 @@ def lengths_right(lengths, n, m, pairs):
     return [ranks, *others] == [n, m, n, n, n, m, n + 1] and records % 4 == 0 and 4 * pairs <= records <= 262_144
 
 
-def all_lengths_right(lengths, bytes_, n, m, pairs):
+def all_lengths_right(lengths, bytes_, n, m, pairs, card):
     """Question 9."""
-    return bytes_ == 28 + 12 * m + 4 * n and lengths_right(lengths, n, m, pairs)
+    return bytes_ == card and lengths_right(lengths, n, m, pairs)
+
+
+def named(card, n, m):
+    """Does the table name bodies for n junctions and m roads inside the card?"""
+    parts = [len(body) for body in bodies(card)]
+    third = len(card) >= 4 and to_words(card[:4])[0] > 2
+    return (parts + [0] * 3)[:2 + third] == [12 * m, 4 * n, m][:2 + third]
 
 
 def in_range(n, m):
@@ -326,7 +367,7 @@ def prepare(card, areas):
     pairs = [word for record in records for word in record]
     pairs += [0] * (len(areas.pairs) - len(pairs))
     areas = Areas(chart.rank, pairs, chart.base, [NONE] * n, [UNASKED] * n, [NONE] * n, roads_by_tail(chart), group_starts(chart))
-    return ("ok",), Header(n, m, len(records), None), areas
+    return ("ok",), Header(n, m, len(records), len(card), None), areas
 
 
 def stored_pairs(chart, header, areas):
@@ -356,30 +397,32 @@ def filled(chart, header, areas, asked):
 
 def step(card, header, areas, call):
     """The answer, the header, the areas, and the two areas that go and stops are lent (empty for another call)."""
-    kind, place = call[:2]
-    lent = call[2:] if kind in ("go", "stops") else ([], [])
-    if not all_lengths_right([*map(len, areas)], len(card), *header[:3]) or not work_right(header.n, call):
+    kind, *rest = call
+    lent = call[3:] if kind in ("go", "stops") else ([], [])
+    fits = all_lengths_right([*map(len, areas)], len(card), *header[:4]) and named(card, header.n, header.m)
+    if not fits or not work_right(header.n, call):
         return ("no", 9), header, areas, lent
     chart, target = Map(card) if header.n else None, header.target  # no map after a refused preparing
     refusal = call_refusal(header.n, chart.base if chart else [], target, call)
     if refusal:
         return ("no", *refusal), header, areas, lent
     if kind == "set":
-        return ("ok",), header, areas._replace(live=replaced(areas.live, place, call[2])), lent
+        return ("ok",), header, areas._replace(live=replaced(areas.live, *rest)), lent
     if kind == "aim":
-        areas = areas._replace(down=down_totals(chart, header, areas, place), estimates=[UNASKED] * header.n)
-        return ("ok",), header._replace(target=place), areas, lent
+        areas = areas._replace(down=down_totals(chart, header, areas, rest[0]), estimates=[UNASKED] * header.n)
+        return ("ok",), header._replace(target=rest[0]), areas, lent
     if kind == "est":
-        areas = areas._replace(estimates=filled(chart, header, areas, [place]))
-        return ("est", areas.estimates[place]), header, areas, lent
+        areas = areas._replace(estimates=filled(chart, header, areas, rest))
+        return ("est", areas.estimates[rest[0]]), header, areas, lent
     if kind == "preview":
-        both = [searched(chart, live, call[3], target) for live in (areas.live, replaced(areas.live, place, call[2]))]
+        vehicle, road, time, start, _ = rest
+        both = [searched(chart, live, vehicle, start, target) for live in (areas.live, replaced(areas.live, road, time))]
         asked = [junction for _, _, some in both for junction in some]
         areas = areas._replace(estimates=filled(chart, header, areas, asked))
         return preview_answer(*[times.get(target) for _, times, _ in both]), header, areas, lent
     if kind == "stops":
-        return journey(card, header, areas, place, *lent)
-    arcs, times, asked = searched(chart, areas.live, place, target)
+        return journey(card, header, areas, *rest)
+    arcs, times, asked = searched(chart, areas.live, *rest[:2], target)
     areas = areas._replace(estimates=filled(chart, header, areas, asked),
                            elapsed=[times.get(junction, NONE) for junction in range(header.n)])
     log = list(times) + lent[1][len(times):]
@@ -389,12 +432,12 @@ def step(card, header, areas, call):
     return ("go", times[target], len(times), len(route)), header, areas, (route + lent[0][len(route):], log)
 
 
-def journey(card, header, areas, stops, route, log):
-    """Each leg is an aim and a go, which is lent the route area behind the roads of the legs before it; up to one without a chain."""
+def journey(card, header, areas, vehicle, stops, route, log):
+    """Each leg is an aim and a go of the class, which is lent the route area behind the roads of the legs before it; up to one without a chain."""
     roads, legs = [], []
     for start, end in zip(stops, stops[1:]):
         _, header, areas, _ = step(card, header, areas, ("aim", end))
-        answer, header, areas, (rest, log) = step(card, header, areas, ("go", start, route[len(roads):], log))
+        answer, header, areas, (rest, log) = step(card, header, areas, ("go", vehicle, start, route[len(roads):], log))
         route = roads + rest
         if answer[0] == "no":
             return ("no", 17, len(legs)), header, areas, (route, log)

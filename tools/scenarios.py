@@ -99,8 +99,9 @@ def printed(card, lines):
         if call is None:
             texts.append("no 0")
             continue
-        lent = ([0] * MOST_JUNCTIONS, [0] * MOST_JUNCTIONS) if call[0] == "go" else ()
-        answer, route, _ = machine.step((*call, *lent))
+        if call[0] == "go":  # document 02, A6: of class 0
+            call = ("go", 0, call[1], [0] * MOST_JUNCTIONS, [0] * MOST_JUNCTIONS)
+        answer, route, _ = machine.step(call)
         texts.append(text_of(answer, route))
     return texts
 
@@ -109,6 +110,12 @@ def printed(card, lines):
 
 def card_of(roads, order):
     return model.make_card([word for road in roads for word in road], order)
+
+
+def barred(card, *roads, byte=254):
+    """The card with a byte for each road: one that bars class 0 for these, 255 for the others."""
+    chart = model.Map(card)
+    return model.with_access(card, [byte if road in roads else 255 for road in range(len(chart.roads))])
 
 
 def put(card, *changes):
@@ -134,14 +141,35 @@ def starred(pairs):
     return card_of(STAR + [(89 + i, 90 + i, 1) for i in range(pairs - 3_916)], range(180))
 
 
+CLASSED = barred(MAP_P, 1)  # 121 bytes
 CARDS = {
     "missing": None,
     "folder": None,  # a folder of that name
     "empty": b"",
+    "bytes_3": MAP_P[:3],
+    "bytes_4": MAP_P[:4],
     "bytes_27": MAP_P[:27],
     "bytes_28": MAP_P[:28],
+    "no_sections_4": bytes(4),
     "no_sections": bytes(28),
+    "one_section": put(MAP_P, (0, 1)),
+    "four_sections": put(CLASSED, (0, 4)),
+    "four_sections_4": bytes([4, 0, 0, 0]),
     "three_sections": put(MAP_P, (0, 3)),
+    "three_sections_4": CLASSED[:4],
+    "three_sections_39": CLASSED[:39],
+    "three_sections_40": CLASSED[:40],
+    "third_kind_4": put(CLASSED, (7, 4)),
+    "third_kind_2": put(CLASSED, (7, 2)),
+    "kinds_1_3": put(MAP_P, (4, 3)),
+    "third_start": put(CLASSED, (8, 115)),
+    "third_byte_less": CLASSED[:-1],
+    "third_byte_more": CLASSED + b"\xff",
+    "third_of_4_bytes": put(CLASSED, (9, 4))[:-1],
+    "third_of_6_bytes": put(CLASSED, (9, 6)) + b"\xff",
+    "third_of_5_words": put(CLASSED, (9, 20)) + bytes(15),
+    "third_and_a_bad_road": put(CLASSED, (10 + 3 * 4 + 2, 0)),
+    "third_and_a_bad_place": put(CLASSED, (10 + 15 + 3, 1)),
     "kinds_swapped": put(MAP_P, (1, 2), (4, 1)),
     "first_start": put(MAP_P, (2, 24)),
     "second_start": put(MAP_P, (5, 84)),
@@ -172,6 +200,8 @@ CARDS = {
     "roads_801": card_of(ring(100, 801), range(100)),
     "junctions_201_no_room": card_of(STAR + ring(89, 300) + [(i, i + 1, 1) for i in range(89, 200)], range(201)),
     "pairs_4001": starred(4_001),
+    "pairs_4001_classed": barred(starred(4_001), 5),
+    "roads_801_classed": barred(card_of(ring(100, 801), range(100)), 5),
 }
 # accepted
 MAPS = {
@@ -183,6 +213,12 @@ MAPS = {
     "both_limits": card_of(ring(200, 800), range(200)),
     "pairs_4000": starred(4_000),
     "slow_ring": card_of([(i, (i + 1) % 200, SLOWEST) for i in range(200)], range(200)),
+    "P_classed": CLASSED,
+    "P_classed_but_0": barred(MAP_P, 0, 1, 2, 3, 4, byte=1),
+    "P_every_class": barred(MAP_P),
+    "P_no_class": barred(MAP_P, 0, 1, 2, 3, 4, byte=0),
+    "one_junction_classed": barred(card_of([], [0])),
+    "largest_classed": barred(card_of(ring(200, 800), range(200)), *range(0, 800, 7)),  # 11,240 bytes
 }
 
 
@@ -349,6 +385,12 @@ def trips(dice, card, calls):
     return joined(*lines)
 
 
+def classed(card, share):
+    """The card with a byte for each road; about one in so many bars class 0, and others bar other classes."""
+    dice = Dice(share)
+    return model.with_access(card, [dice.below(128) * 2 if dice.below(share) == 0 else dice.below(128) * 2 + 1 for _ in model.Map(card).roads])
+
+
 TOWNS = {  # seed, width, height, base times, calls
     "town_a": (1, 20, 10, [*range(20, 90)], 400),
     "town_b": (2, 20, 10, [1, 2, 3], 400),
@@ -385,14 +427,20 @@ def made():
         run("P", name, data)
     run("two_junctions", "limits", limits())
     run("one_junction", "around_1", around(1))
-    for name in ("junctions_200", "both_limits", "slow_ring"):
+    run("one_junction_classed", "around_1", around(1))
+    for name in ("junctions_200", "both_limits", "slow_ring", "largest_classed"):
         run(name, "around_200", around(200))
+    for name in ("P_classed", "P_classed_but_0", "P_every_class", "P_no_class"):
+        run(name, "cases_of_p", cases_of_p())
     run("roads_800", "around_100", around(100) + joined("set 799 7", "set 799 8", "set 799 9", "set 800 8", "go 1"))
     run("pairs_4000", "around_180", around(180) + joined("aim 88", "est 1", "go 1", "aim 179", "go 170", "go 89"))
     for name, (seed, wide, high, times, calls) in TOWNS.items():
         dice, cards[name] = town(seed, wide, high, times)
         assert refusal_of(cards[name]) is None, name
         run(name, name, trips(dice, cards[name], calls))
+    for name, share in (("town_a", 10), ("town_b", 5), ("hamlet_a", 3), ("village", 4)):
+        cards[f"{name}_classed"] = classed(cards[name], share)
+        run(f"{name}_classed", name, lines[name])
     return cards, lines, runs
 
 
@@ -403,7 +451,8 @@ def files():
     data, args, passed, texts = "program_scenarios/data/", [], [], {}
     found[f"{data}folder.card/a_file"] = b""
     for run in runs:
-        name = run.lines if run.lines not in ("ask", "around_200") else f"{run.card}.{run.lines}"
+        shared = run.lines in ("ask", "around_200") or "_classed" in run.card or run.card.startswith("P_")
+        name = f"{run.card}.{run.lines}" if shared else run.lines
         texts[run] = printed(cards[run.card], lines[run.lines])
         if cards[run.card] is not None:
             found[f"{data}{run.card}.card"] = cards[run.card]

@@ -2,7 +2,7 @@
 from collections import Counter, namedtuple
 
 import reference as model
-from reference import CLOSED, NONE, SLOWEST, UNASKED, Areas
+from reference import CLASSES, CLOSED, EVERY_CLASS, NONE, SLOWEST, UNASKED, Areas
 
 POOL, STREETS, TURNS = 800, 200, 40  # random scripts to choose from, of both kinds, and how many turns each has at first
 
@@ -30,9 +30,11 @@ Turn = namedtuple("Turn", "call before answer header areas lent")
 class Script:
     """A prepared map and the turns on it. Each turn is compared with the plain machine, and its kinds are counted, of the same case once."""
 
-    def __init__(self, note, roads, order, spare, *calls):
-        self.made, self.calls, self.turns, self.cases = (note, roads, order, spare), [], [], []
+    def __init__(self, note, roads, order, spare, *calls, access=()):
+        """With access, a byte for each road, the card has a third section."""
+        self.made, self.access, self.calls, self.turns, self.cases = (note, roads, order, spare), access, [], [], []
         self.card = model.make_card([word for road in roads for word in road], order)
+        self.card = model.with_access(self.card, access) if access else self.card
         self.chart = model.Map(self.card)
         self.records = model.kept_pairs(self.chart)
         n, m, self.room = len(order), len(roads), len(self.records) + spare
@@ -47,24 +49,25 @@ class Script:
         for name, holds in kinds.items():
             self.kinds[name] += bool(holds)
 
-    def play(self, kind, place, *rest):
-        """A call; for go and stops the rest is the lengths of the two areas that it is lent."""
-        self.calls.append((kind, place, *rest))
+    def play(self, kind, *rest):
+        """A call; for go and stops the last two are the lengths of the two areas that it is lent."""
+        self.calls.append((kind, *rest))
         if kind in ("go", "stops"):
-            rest = [*range(60, 60 + rest[0])], [*range(80, 80 + rest[1])]
-        call, before = (kind, place, *rest), (self.header, self.areas)
+            rest = *rest[:2], [*range(60, 60 + rest[2])], [*range(80, 80 + rest[3])]
+        call, before = (kind, *rest), (self.header, self.areas)
         turn = Turn(call, before, *model.step(self.card, *before, call))
         answer, route, log = self.machine.step(call)
         assert (turn.answer, turn.lent[0][:len(route)], turn.lent[1][:len(log)]) == (answer, route, log)
         no = answer[1] if answer[0] == "no" else 0
         searches = kind in ("go", "stops") and no in (0, 15, 17)
-        case = (kind, place, self.header.target, self.areas.live) if searches else (call, before)
+        case = (kind, *rest[:2], self.header.target, self.areas.live) if searches else (call, before)
         if case not in self.cases:
             self.count(KINDS[kind](self, turn, no))
             self.cases.append(case)
         if kind == "set" and answer == ("ok",):
-            ends = self.areas.live[place] > rest[0] == self.chart.base[place]
-            self.ended = self.ended | {place} if ends else self.ended - {place}
+            road, time = rest
+            ends = self.areas.live[road] > time == self.chart.base[road]
+            self.ended = self.ended | {road} if ends else self.ended - {road}
         self.turns.append(turn)
         self.header, self.areas = turn.header, turn.areas
 
@@ -86,7 +89,13 @@ def random_script(seed):
         tail = dice.below(n)
         head = (tail + 1 + dice.below(n - 1)) % n
         roads += [(tail, head, dice.pick(*times)) for _ in range(1 + (dice.below(6) == 0))]
-    return random_turns(dice, Script(f"seed {seed}", roads, order, dice.pick(0, 0, 1, 2)))
+    spare = dice.pick(0, 0, 1, 2)
+    return random_turns(dice, Script(f"seed {seed}", roads, order, spare, access=random_access(dice, roads)))
+
+
+def random_access(dice, roads):
+    """A byte for each road, or none at all; where there are some, the classes 0 to 2 are barred now and then."""
+    return [dice.pick(EVERY_CLASS, EVERY_CLASS, EVERY_CLASS, 254, 253, 1, 2, 4, 248, 0) for _ in roads] if dice.below(3) == 0 else ()
 
 
 def street_script(seed):
@@ -97,7 +106,8 @@ def street_script(seed):
         time = dice.pick(1, 1, 1, 2)
         roads += [(at[a], at[b], time)] if dice.below(6) else []
         roads += [(at[b], at[a], time)] if dice.below(4) else []
-    return random_turns(dice, Script(f"streets {seed}", shuffled(dice, roads), shuffled(dice, range(6)), dice.pick(0, 1)))
+    roads, order, spare = shuffled(dice, roads), shuffled(dice, range(6)), dice.pick(0, 1)
+    return random_turns(dice, Script(f"streets {seed}", roads, order, spare, access=random_access(dice, roads)))
 
 
 def random_turns(dice, script):
@@ -112,17 +122,18 @@ def random_call(dice, script):
     n, m, live, base = script.header.n, script.header.m, script.areas.live, script.chart.base
     kind = dice.pick("set", "set", "set", "aim", "est", "go", "go", "go", "go", "preview", "preview", "preview", "stops", "stops")
     junction = dice.below(n) if dice.below(20) else dice.pick(n, UNASKED)
+    vehicle = dice.pick(0, 0, 1, 1, 2, 7) if dice.below(16) else dice.pick(CLASSES, CLASSES + 1, 255, NONE)
     if kind in ("set", "preview"):
         road = dice.pick(*[road for road in range(m) if live[road] != base[road]] or range(m), *range(m), m, NONE)
         slow = base[road] if road < m else SLOWEST
         time = dice.pick(slow, slow, slow, slow + 1, slow + 1, slow + 2, CLOSED, CLOSED, SLOWEST, slow - 1, SLOWEST + 1, UNASKED)
         if kind == "set":
             return kind, road, time
-        return kind, road, time, junction, 2 * n if dice.below(12) else dice.pick(0, n, 2 * n - 1, 2 * n + 1)
+        return kind, vehicle, road, time, junction, 2 * n if dice.below(12) else dice.pick(0, n, 2 * n - 1, 2 * n + 1)
     if kind == "go":
-        return kind, junction, *[n + dice.pick(0, 0, 1, 2) - (dice.below(20) == 0) for _ in range(2)]
+        return kind, vehicle, junction, *[n + dice.pick(0, 0, 1, 2) - (dice.below(20) == 0) for _ in range(2)]
     if kind == "stops":
-        return kind, *random_stops(dice, n, junction)
+        return kind, vehicle, *random_stops(dice, n, junction)
     if kind == "aim" and script.header.target is not None and dice.below(4) == 0:
         return kind, script.header.target
     return kind, junction
@@ -141,37 +152,45 @@ def chosen_scripts():
     """Scripts made for a purpose; then random ones, each for the kinds that are too seldom, without the turns that no kind needs."""
     made = [
         Script("one junction", [], [0], 0,
-               ("go", 0, 1, 1), ("aim", 1), ("aim", 0), ("est", 0), ("go", 0, 1, 1), ("set", 0, 1), ("go", 0, 0, 1)),
+               ("go", 0, 0, 1, 1), ("aim", 1), ("aim", 0), ("est", 0), ("go", 0, 0, 1, 1), ("set", 0, 1), ("go", 0, 0, 0, 1)),
         Script("no roads, and calls before the first aim", [], [1, 0], 1,
-               ("est", 0), ("est", 2), ("est", NONE), ("go", 2, 2, 2), ("go", UNASKED, 1, 1), ("go", 1, 2, 1), ("go", 1, 1, 3), ("aim", 2),
-               ("set", 0, UNASKED), ("aim", 1), ("est", 0), ("est", 1), ("go", 0, 2, 3), ("aim", 0), ("go", 0, 2, 2)),
+               ("est", 0), ("est", 2), ("est", NONE), ("go", 0, 2, 2, 2), ("go", 0, UNASKED, 1, 1), ("go", 0, 1, 2, 1), ("go", 0, 1, 1, 3), ("aim", 2),
+               ("set", 0, UNASKED), ("aim", 1), ("est", 0), ("est", 1), ("go", 0, 0, 2, 3), ("aim", 0), ("go", 0, 0, 2, 2)),
         Script("road 0, from 2 to 1, gives the time of 1, and 2 is logged before 1", [(2, 1, 1), (0, 1, 2), (0, 2, 1), (1, 3, 1)], [3, 1, 0, 2], 0,
-               ("est", 0), ("go", 4, 4, 4), ("go", 0, 0, 0), ("est", 4), ("aim", 3), ("go", 0, 4, 5), ("set", 0, 2), ("go", 0, 5, 4),
-               ("set", 0, 1), ("go", 2, 4, 4), ("aim", 4), ("set", 4, 0)),
+               ("est", 0), ("go", 0, 4, 4, 4), ("go", 0, 0, 0, 0), ("est", 4), ("aim", 3), ("go", 0, 0, 4, 5), ("set", 0, 2), ("go", 0, 0, 5, 4),
+               ("set", 0, 1), ("go", 0, 2, 4, 4), ("aim", 4), ("set", 4, 0)),
         Script("from 3 to 0 all keys are 3, and the larger numbers have the smaller times",
                [(3, 0, 3), (3, 1, 2), (3, 2, 1), (2, 1, 1), (2, 0, 2), (1, 0, 1)], [0, 2, 1, 3], 0,
-               ("aim", 0), ("go", 3, 4, 4), ("set", 5, 2), ("go", 3, 4, 4), ("set", 0, CLOSED), ("go", 3, 4, 5), ("set", 4, CLOSED), ("go", 2, 4, 4),
-               ("set", 5, CLOSED), ("go", 3, 5, 4), ("stops", [3, 1, 0], 12, 4), ("set", 5, 1), ("stops", [3, 2, 0], 12, 4), ("aim", 1), ("go", 3, 4, 4)),
+               ("aim", 0), ("go", 0, 3, 4, 4), ("set", 5, 2), ("go", 0, 3, 4, 4), ("set", 0, CLOSED), ("go", 0, 3, 4, 5), ("set", 4, CLOSED), ("go", 0, 2, 4, 4),
+               ("set", 5, CLOSED), ("go", 0, 3, 5, 4), ("stops", 0, [3, 1, 0], 12, 4), ("set", 5, 1), ("stops", 0, [3, 2, 0], 12, 4), ("aim", 1), ("go", 0, 3, 4, 4)),
         Script("two blocks of streets: from 5 to 0 keys tie, and times too",
                [(5, 3, 1), (5, 4, 1), (4, 1, 1), (3, 1, 1), (3, 2, 1), (1, 0, 1), (2, 0, 1), (4, 3, 1), (0, 5, 4)], [4, 2, 0, 1, 5, 3], 1,
-               ("aim", 0), ("go", 5, 6, 6), ("set", 5, CLOSED), ("go", 5, 6, 6), ("set", 6, 2), ("go", 4, 6, 6), ("set", 6, CLOSED), ("go", 5, 6, 6),
-               ("aim", 4), ("go", 1, 6, 6), ("go", 3, 6, 6)),
+               ("aim", 0), ("go", 0, 5, 6, 6), ("set", 5, CLOSED), ("go", 0, 5, 6, 6), ("set", 6, 2), ("go", 0, 4, 6, 6), ("set", 6, CLOSED), ("go", 0, 5, 6, 6),
+               ("aim", 4), ("go", 0, 1, 6, 6), ("go", 0, 3, 6, 6)),
         Script("map P of document 01, and previews on it", *MAP_P, 0,
-               ("preview", 1, 15, 0, 8), ("aim", 3), ("go", 0, 4, 4), ("preview", 1, 15, 0, 8), ("preview", 4, 30, 0, 8), ("set", 1, CLOSED),
-               ("preview", 1, 10, 0, 8), ("preview", 2, CLOSED, 0, 8), ("set", 2, CLOSED), ("preview", 2, 15, 0, 8), ("preview", 2, CLOSED, 3, 8),
-               ("preview", 5, 9, 4, 7), ("preview", 5, 9, 4, 8), ("preview", 1, 9, 4, 8), ("preview", 1, 10, 4, 8)),
+               ("preview", 0, 1, 15, 0, 8), ("aim", 3), ("go", 0, 0, 4, 4), ("preview", 0, 1, 15, 0, 8), ("preview", 0, 4, 30, 0, 8), ("set", 1, CLOSED),
+               ("preview", 0, 1, 10, 0, 8), ("preview", 0, 2, CLOSED, 0, 8), ("set", 2, CLOSED), ("preview", 0, 2, 15, 0, 8), ("preview", 0, 2, CLOSED, 3, 8),
+               ("preview", 0, 5, 9, 4, 7), ("preview", 0, 5, 9, 4, 8), ("preview", 0, 1, 9, 4, 8), ("preview", 0, 1, 10, 4, 8)),
         Script("previews of which one search alone asks for junction 3", [(0, 1, 1), (0, 2, 1), (2, 3, 1), (3, 1, 1)], [3, 0, 1, 2], 0,
-               ("aim", 1), ("preview", 3, CLOSED, 0, 8), ("preview", 0, 9, 0, 8), ("set", 0, CLOSED), ("aim", 1), ("preview", 0, 1, 0, 8), ("aim", 1),
-               ("set", 3, CLOSED), ("preview", 2, CLOSED, 0, 8), ("set", 2, CLOSED), ("aim", 1), ("preview", 2, CLOSED, 0, 8), ("preview", 2, 1, 0, 8),
-               ("aim", 1), ("preview", 2, 3, 0, 8)),
+               ("aim", 1), ("preview", 0, 3, CLOSED, 0, 8), ("preview", 0, 0, 9, 0, 8), ("set", 0, CLOSED), ("aim", 1), ("preview", 0, 0, 1, 0, 8), ("aim", 1),
+               ("set", 3, CLOSED), ("preview", 0, 2, CLOSED, 0, 8), ("set", 2, CLOSED), ("aim", 1), ("preview", 0, 2, CLOSED, 0, 8), ("preview", 0, 2, 1, 0, 8),
+               ("aim", 1), ("preview", 0, 2, 3, 0, 8)),
         Script("lists of stops at one junction: the most, too few, too many, and lengths", [], [0], 0,
-               ("stops", [0] * 32, 32, 1), ("stops", [0] * 33, 33, 1), ("stops", [], 0, 1), ("stops", [0], 1, 1), ("stops", [1], 0, 0),
-               ("stops", [0, 0], 2, 1), ("stops", [0, 0], 1, 1), ("stops", [0, 0], 2, 0), ("stops", [0, 1], 1, 0), ("stops", [1] * 33, 0, 0),
-               ("stops", [0] * 31 + [1], 32, 1)),
+               ("stops", 0, [0] * 32, 32, 1), ("stops", 0, [0] * 33, 33, 1), ("stops", 0, [], 0, 1), ("stops", 0, [0], 1, 1), ("stops", 0, [1], 0, 0),
+               ("stops", 0, [0, 0], 2, 1), ("stops", 0, [0, 0], 1, 1), ("stops", 0, [0, 0], 2, 0), ("stops", 0, [0, 1], 1, 0), ("stops", 0, [1] * 33, 0, 0),
+               ("stops", 0, [0] * 31 + [1], 32, 1)),
+        Script("map P with road 1 barred to class 0 and road 3 to class 1", *MAP_P, 0,
+               ("go", 8, 4, 4, 4), ("aim", 3), ("go", 0, 0, 4, 4), ("go", 1, 0, 4, 4), ("go", 8, 0, 4, 4), ("go", 255, 4, 0, 0), ("go", 0, 1, 4, 4),
+               ("go", 1, 2, 4, 4), ("est", 0), ("preview", 0, 1, 60, 0, 8), ("preview", 1, 1, 60, 0, 8), ("preview", 8, 5, 9, 4, 8), ("preview", 8, 5, 9, 4, 7),
+               ("stops", 0, [0, 3, 0], 12, 4), ("stops", 1, [0, 3, 0], 12, 4), ("stops", 8, [0, 3], 8, 4), ("stops", 8, [4], 0, 0), ("stops", 8, [4, 4], 0, 0),
+               ("set", 2, CLOSED), ("stops", 0, [3, 0, 3], 12, 4), ("stops", 7, [3, 0, 3], 12, 4), ("go", 7, 0, 4, 4), access=[255, 254, 255, 253, 255]),
+        Script("roads that one class alone may use, and one that none may", [(0, 1, 3), (0, 1, 2), (0, 1, 1), (1, 0, 1)], [0, 1], 0,
+               ("aim", 1), ("est", 0), ("go", 7, 0, 2, 2), ("go", 0, 0, 2, 2), ("go", 1, 0, 2, 2), ("go", 6, 0, 2, 2), ("preview", 7, 2, 5, 0, 4),
+               ("preview", 0, 1, 9, 0, 4), ("set", 2, CLOSED), ("go", 0, 0, 2, 2), access=[128, 1, 0, 255]),
         Script("lists of stops on map P", *MAP_P, 0,
-               ("stops", [0, 3, 0], 12, 4), ("stops", [0, 0], 8, 4), ("stops", [0, 3, 3, 1, 2], 20, 4), ("stops", [0, 3, 0], 11, 4),
-               ("stops", [0, 3, 0], 12, 3), ("stops", [0, 3, 4], 12, 4), ("set", 4, CLOSED), ("stops", [0, 3, 0], 13, 6), ("set", 1, CLOSED),
-               ("aim", 3), ("go", 0, 4, 4), ("stops", [0, 3, 3, 1], 17, 4), ("set", 3, CLOSED), ("stops", [0, 3], 8, 4), ("stops", [3, 0, 3], 12, 4)),
+               ("stops", 0, [0, 3, 0], 12, 4), ("stops", 0, [0, 0], 8, 4), ("stops", 0, [0, 3, 3, 1, 2], 20, 4), ("stops", 0, [0, 3, 0], 11, 4),
+               ("stops", 0, [0, 3, 0], 12, 3), ("stops", 0, [0, 3, 4], 12, 4), ("set", 4, CLOSED), ("stops", 0, [0, 3, 0], 13, 6), ("set", 1, CLOSED),
+               ("aim", 3), ("go", 0, 0, 4, 4), ("stops", 0, [0, 3, 3, 1], 17, 4), ("set", 3, CLOSED), ("stops", 0, [0, 3], 8, 4), ("stops", 0, [3, 0, 3], 12, 4)),
     ]
     pool, chosen = [*map(random_script, range(POOL)), *map(street_script, range(STREETS))], []
     while seldom := too_seldom(made + chosen):
@@ -181,7 +200,7 @@ def chosen_scripts():
     for i in reversed(range(len(chosen))):
         rest = made + chosen[:i] + chosen[i + 1:]
         for turn in reversed(range(TURNS)):
-            shorter = Script(*chosen[i].made, *chosen[i].calls[:turn], *chosen[i].calls[turn + 1:])
+            shorter = Script(*chosen[i].made, *chosen[i].calls[:turn], *chosen[i].calls[turn + 1:], access=chosen[i].access)
             if not too_seldom(rest + [shorter]):
                 chosen[i] = shorter
         if not too_seldom(rest):
@@ -223,6 +242,8 @@ def map_kinds(chart, records, spare):
         "map without roads": not chart.roads,
         "map with parallel roads": len(set(ends)) < len(ends),
         "map with base times 1 and 1,000,000": {1, SLOWEST} <= set(chart.base),
+        "map with roads that bar a class": set(chart.access) - {EVERY_CLASS},
+        "map with a road that bars every class": 0 in chart.access,
         **listing_kinds(chart),
         "room for no pair, and none kept": not records and not spare,
         "room for just the kept pairs": records and not spare,
@@ -295,8 +316,12 @@ def est_kinds(script, turn, no):
 
 
 def go_kinds(script, turn, no):
-    (_, start, *lengths), (n, _, _, target) = (*turn.call[:2], *map(len, turn.call[2:])), script.header
+    (vehicle, start), lengths, n, target = turn.call[1:3], [*map(len, turn.call[3:])], script.header.n, script.header.target
     kinds = {
+        "go: 18": no == 18,
+        "go: 18 of a class that is 0 modulo 8": no == 18 and vehicle % 8 == 0,
+        "go: 18 where 12 would refuse too": no == 18 and start >= n,
+        "go: 18 where there is no target either": no == 18 and target is None,
         "go: 12": no == 12,
         "go: 12 where there is no target either": no == 12 and target is None,
         "go: 13": no == 13,
@@ -305,18 +330,40 @@ def go_kinds(script, turn, no):
         "go: 14 by the log area": no == 14 and lengths[1] < n,
     }
     if no in (0, 15):
-        arcs = script.chart.open_roads(script.areas.live)
-        assert turn.lent[1][:turn.answer[2]] == model.effort(script.chart, script.areas.live, start, target)
+        arcs = script.chart.open_roads(script.areas.live, vehicle)
+        assert turn.lent[1][:turn.answer[2]] == model.effort(script.chart, script.areas.live, vehicle, start, target)
         times, choices = model.search(arcs, model.least_totals(script.chart.roads, target), start, target)
         kinds |= log_kinds(script, turn, arcs, times, choices, not no) | tie_kinds(script, turn, arcs, times, choices, not no)
         kinds |= {"go with areas of n entries": lengths == [n, n], "go with longer areas": min(lengths) > n}
+        kinds |= class_kinds(script, turn, arcs, times, vehicle, start, target)
     if no == 0:
         kinds |= route_kinds(script, arcs, times, turn.lent[0][:turn.answer[3]])
     return kinds
 
 
+def every_open(script):
+    """The open roads as if they let every class in."""
+    return [(*road[:2], live, i) for i, (road, live) in enumerate(zip(script.chart.roads, script.areas.live)) if live != CLOSED]
+
+
+def class_kinds(script, turn, arcs, times, vehicle, start, target):
+    """Where roads that bar the class show, beside a go that they would let in."""
+    every, live = every_open(script), script.areas.live
+    open_times = model.search(every, model.least_totals(script.chart.roads, target), start, target)[0]
+    barred = {road[1] for i, road in enumerate(script.chart.roads)
+              if live[i] != CLOSED and (*road[:2], live[i], i) not in arcs and road[0] in times and road[0] != target}
+    return {
+        "go that meets a barred road": barred,
+        "go round a barred road": target in times and times[target] > open_times[target],
+        "go: 15 by barred roads": target not in times and target in open_times,
+        "go that leaves the head of a barred road unasked": any(turn.areas.estimates[head] == UNASKED for head in barred),
+        "go of another class than 0 over a road that bars 0": any(script.chart.access[road] % 2 == 0 for road in turn.lent[0] if road < 60),
+        "go of the highest class": vehicle == CLASSES - 1 and script.access,
+    }
+
+
 def log_kinds(script, turn, arcs, times, choices, found):
-    start, target, before, after = turn.call[1], script.header.target, script.areas, turn.areas
+    start, target, before, after = turn.call[2], script.header.target, script.areas, turn.areas
     log, junctions = list(times), range(script.header.n)
     waiting = [{junction: time for _, time, junction in choice} for choice in choices]
     falls = {junction for early, late in zip(waiting, waiting[1:]) for junction in early if late.get(junction, NONE) < early[junction]}
@@ -353,7 +400,7 @@ def by_number(candidate):
 
 def tie_kinds(script, turn, arcs, times, choices, found):
     """Where A5's order of equal keys shows, and where document 01's, by number, would have given something else."""
-    start, target, log = turn.call[1], script.header.target, list(times)
+    start, target, log = turn.call[2], script.header.target, list(times)
     ties = [[candidate for candidate in choice if candidate[0] == choice[0][0]] for choice in choices]
     old = model.search(arcs, model.least_totals(script.chart.roads, target), start, target, by_number)[0]
     another = found and model.route_back(arcs, old, target) != model.route_back(arcs, times, target)
@@ -391,9 +438,12 @@ def route_kinds(script, arcs, times, route):
 
 
 def preview_kinds(script, turn, no):
-    (road, time, start, work), (n, m, _, target) = turn.call[1:], script.header
+    (vehicle, road, time, start, work), (n, m, _, _, target) = turn.call[1:], script.header
     base, live = (script.chart.base[road], script.areas.live[road]) if road < m else (SLOWEST, CLOSED)
     kinds = {
+        "preview: 18": no == 18,
+        "preview: 18 where 10 or 11 would refuse too": no == 18 and model.time_refusal(script.chart.base, road, time),
+        "preview: 9 where 18 would refuse too": no == 9 and vehicle >= CLASSES,
         "preview: 9 by a short work area": no == 9 and work < 2 * n,
         "preview: 9 by a long work area": no == 9 and work > 2 * n,
         "preview: 9 where 10 or 11 would refuse too": no == 9 and model.time_refusal(script.chart.base, road, time),
@@ -411,17 +461,20 @@ def preview_kinds(script, turn, no):
 
 
 def outlook_kinds(script, turn, base, live):
-    (road, time, start, _), (_, present, new, change) = turn.call[1:], turn.answer
+    (vehicle, road, time, start, _), (_, present, new, change) = turn.call[1:], turn.answer
     before, after, target = script.areas, turn.areas.estimates, script.header.target
 
     def filled(times, order=None):
-        asked = model.searched(script.chart, times, start, target, order)[2]
+        asked = model.searched(script.chart, times, vehicle, start, target, order)[2]
         estimates = model.filled(script.chart, script.header, before, asked)
         return {junction for junction, old in enumerate(before.estimates) if estimates[junction] != old}
 
     both = before.live, model.replaced(before.live, road, time)
     fills = [filled(times) for times in both]
+    every = model.least_totals(every_open(script), target).get(start)
     return {
+        "preview of a road that bars the class": script.chart.access[road] // 2 ** vehicle % 2 == 0,
+        "preview round a barred road": present is not None and present > every,
         "preview of more": change and change > 0,
         "preview of less": change and change < 0,
         "preview of as much": change == 0 and time != live,
@@ -446,29 +499,34 @@ def outlook_kinds(script, turn, base, live):
 
 
 def stops_kinds(script, turn, no):
-    (_, stops, *lengths), (n, _, _, target) = (*turn.call[:2], *map(len, turn.call[2:])), script.header
+    (vehicle, stops), lengths, n, target = turn.call[1:3], [*map(len, turn.call[3:])], script.header.n, script.header.target
     outside, short = [stop for stop in stops if stop >= n], lengths[0] < len(stops) * n
     kinds = {
         "stops: 16 by too few": no == 16 and len(stops) < 2,
         "stops: 16 by too many": no == 16 and len(stops) > 32,
         "stops: 16 where 12 would refuse too": no == 16 and outside,
+        "stops: 16 where 18 would refuse too": no == 16 and vehicle >= CLASSES,
+        "stops: 18": no == 18,
+        "stops: 18 where 12 would refuse too": no == 18 and outside,
         "stops: 12 by a stop that is not the first": no == 12 and stops[0] < n,
         "stops: 12 where an area is short too": no == 12 and (short or lengths[1] < n),
         "stops: 14 by the route area, of n entries for each leg": no == 14 and short and lengths[0] >= (len(stops) - 1) * n,
         "stops: 14 by the log area": no == 14 and not short,
     }
-    return kinds | journey_kinds(script, turn, stops, target, lengths, no) if no in (0, 17) else kinds
+    return kinds | journey_kinds(script, turn, vehicle, stops, target, lengths, no) if no in (0, 17) else kinds
 
 
-def journey_kinds(script, turn, stops, target, lengths, no):
+def journey_kinds(script, turn, vehicle, stops, target, lengths, no):
     legs, n, before = turn.answer[2] if no else len(turn.answer[1]), script.header.n, script.areas
-    arcs, logs = script.chart.open_roads(before.live), []
+    arcs, every, logs = script.chart.open_roads(before.live, vehicle), every_open(script), []
     for start, end in list(zip(stops, stops[1:]))[:legs + bool(no)]:
         logs.append(list(model.search(arcs, model.least_totals(script.chart.roads, end), start, end)[0]))
-        assert logs[-1] == model.effort(script.chart, before.live, start, end)
+        assert logs[-1] == model.effort(script.chart, before.live, vehicle, start, end)
     old = list(model.search(arcs, model.least_totals(script.chart.roads, end), start, end, by_number)[0])
     roads = sum(word < 60 for word in turn.lent[0])
     return {
+        "stops: 17 by barred roads": no and start in model.least_totals(every, end),
+        "stops round a barred road": not no and turn.answer[2] > sum(model.least_totals(every, b)[a] for a, b in zip(stops, stops[1:])),
         "stops: 17 with the first leg": no and legs == 0,
         "stops: 17 with a leg between": no and 0 < legs < len(stops) - 2,
         "stops: 17 with the last of several": no and 0 < legs == len(stops) - 2,

@@ -1,11 +1,11 @@
 //! Aim, estimate, set, preview and stops in plain Rust over the unit's areas, and nothing else: records of four
 //! words in one slice, with no place for where each rank's begin. Each is a function with the arguments, the
 //! answer and the questions of its export: a header by value that is handed back, and nine slices, of a preview
-//! its work area too, of a list of stops route, log and stops.
+//! its work area too, of a list of stops route, log and stops. Each finds the card's bodies by its table.
 #![allow(improper_ctypes_definitions, clippy::too_many_arguments)]
 
-use crate::calls::{Previewed, Refusal, Stopped, FEWEST_STOPS, MOST_STOPS};
-use crate::card::{self, LONGEST, MOST_JUNCTIONS, MOST_ROADS};
+use crate::calls::{Previewed, Refusal, Stopped, CLASSES, FEWEST_STOPS, MOST_STOPS};
+use crate::card::{table_len, LONGEST, MOST_JUNCTIONS, MOST_ROADS};
 use crate::order::MOST_PAIRS;
 use crate::time::{add, Time, CLOSED, NONE, UNASKED};
 use crate::unit::{Header, Returned, ReturnedStops, Unit};
@@ -37,17 +37,20 @@ pub fn set(unit: &mut Unit, road: u32, time: Time) -> Result<(), Refusal> {
 
 pub fn preview(
     unit: &mut Unit,
+    class: u32,
     road: u32,
     time: Time,
     start: u32,
     work: &mut [Time],
 ) -> Result<Previewed, Refusal> {
     let (live, down) = (&unit.live, &unit.down);
-    lend!(preview_on(unit, live, down, &mut unit.estimates, work, road, time, start))?.previewed()
+    lend!(preview_on(unit, live, down, &mut unit.estimates, work, class, road, time, start))?
+        .previewed()
 }
 
 pub fn stops(
     unit: &mut Unit,
+    class: u32,
     stops: &[u32],
     route: &mut [u32],
     log: &mut [u32],
@@ -65,6 +68,7 @@ pub fn stops(
         &unit.groups,
         route,
         log,
+        class,
         stops,
     );
     unit.header = returned.header;
@@ -81,29 +85,57 @@ fn answer(header: Header, question: u32) -> Returned {
     Returned { header: handed(header), question, ..Returned::default() }
 }
 
-/// Question 9: `of_n` and `of_m` are the areas with a word for each junction and for each road.
-fn fits(
+/// What the card's table names.
+#[derive(Clone, Copy)]
+struct Bodies<'a> {
+    /// Tail, head and base time of each.
+    roads: &'a [[[u8; 4]; 3]],
+    /// The junctions from lowest rank to highest.
+    order: &'a [[u8; 4]],
+    /// A byte for each road; none if every class passes.
+    access: &'a [u8],
+}
+
+impl Bodies<'_> {
+    /// Those of n junctions and m roads, if the table names such inside the card.
+    fn of(card: &[u8], n: usize, m: usize) -> Option<Bodies<'_>> {
+        let words: &[[u8; 4]] = card.as_chunks().0;
+        let sections = words.first().map_or(0, |&word| u32::from_le_bytes(word)) as usize;
+        let body = |i: usize| {
+            let entry = card.get(table_len(i)..table_len(i + 1)).filter(|_| i < sections);
+            let [_, start, len] = entry.map_or([0; 3], |entry| {
+                let words: &[[u8; 4]] = entry.as_chunks().0;
+                [words[0], words[1], words[2]].map(|word| u32::from_le_bytes(word) as usize)
+            });
+            card.get(start..start + len).unwrap_or(&[])
+        };
+        let [roads, order, access] = [0, 1, 2].map(body);
+        let fits =
+            roads.len() == 12 * m && order.len() == 4 * n && (sections <= 2 || access.len() == m);
+        let (roads, _): (&[[u8; 4]], _) = roads.as_chunks();
+        fits.then_some(Bodies { roads: roads.as_chunks().0, order: order.as_chunks().0, access })
+    }
+}
+
+/// Question 9, and the bodies: `of_n` and `of_m` are the areas with a word for each junction and for each road.
+fn fits<'a>(
     header: Header,
-    card: &[u8],
+    card: &'a [u8],
     pairs: &[u32],
     of_n: [&[u32]; 4],
     of_m: [&[u32]; 2],
     groups: &[u32],
-) -> bool {
+) -> Option<Bodies<'a>> {
     let (n, m) = (header.n as usize, header.m as usize);
-    n <= MOST_JUNCTIONS
+    let fits = n <= MOST_JUNCTIONS
         && m <= MOST_ROADS
-        && card.len() == card::len(n, m)
+        && card.len() == header.card as usize
         && of_n.iter().all(|area| area.len() == n)
         && of_m.iter().all(|area| area.len() == m)
         && groups.len() == n + 1
         && pairs.len().is_multiple_of(4)
-        && (4 * header.pairs as usize..=4 * MOST_PAIRS).contains(&pairs.len())
-}
-
-/// The order of a card, from lowest rank to highest.
-fn order(card: &[u8], header: Header) -> &[[u8; 4]] {
-    card[card::len(0, header.m as usize)..].as_chunks().0
+        && (4 * header.pairs as usize..=4 * MOST_PAIRS).contains(&pairs.len());
+    fits.then(|| Bodies::of(card, n, m)).flatten()
 }
 
 fn records(pairs: &[u32], header: Header) -> &[[u32; 4]] {
@@ -134,13 +166,13 @@ extern "C" fn aim_on(
     target: u32,
 ) -> Returned {
     let (of_n, of_m) = ([ranks, down, estimates, elapsed], [live, leaving]);
-    if !fits(header, card, pairs, of_n, of_m, groups) {
+    let Some(bodies) = fits(header, card, pairs, of_n, of_m, groups) else {
         return answer(header, 9);
-    }
+    };
     if target >= header.n {
         return answer(header, 12);
     }
-    descend(order(card, header), ranks, records(pairs, header), down, target);
+    descend(bodies.order, ranks, records(pairs, header), down, target);
     estimates.fill(UNASKED);
     answer(Header { aimed: 1, target, ..header }, 0)
 }
@@ -171,16 +203,16 @@ extern "C" fn estimate_on(
     junction: u32,
 ) -> Returned {
     let (of_n, of_m) = ([ranks, down, estimates, elapsed], [live, leaving]);
-    if !fits(header, card, pairs, of_n, of_m, groups) {
+    let Some(bodies) = fits(header, card, pairs, of_n, of_m, groups) else {
         return answer(header, 9);
-    }
+    };
     if junction >= header.n {
         return answer(header, 12);
     }
     if header.aimed == 0 {
         return answer(header, 13);
     }
-    let (order, records) = (order(card, header), records(pairs, header));
+    let (order, records) = (bodies.order, records(pairs, header));
     let prepared = Prepared { order, ranks, records, down };
     let total = prepared.estimate(estimates, junction as usize);
     Returned { total: total.into(), ..answer(header, 0) }
@@ -231,10 +263,10 @@ extern "C" fn set_on(
     time: Time,
 ) -> Returned {
     let (of_n, of_m) = ([ranks, down, estimates, elapsed], [live, leaving]);
-    if !fits(header, card, pairs, of_n, of_m, groups) {
+    let Some(bodies) = fits(header, card, pairs, of_n, of_m, groups) else {
         return answer(header, 9);
-    }
-    if let Some(question) = refused_time(header, card, road, time) {
+    };
+    if let Some(question) = refused_time(bodies, road, time) {
         return answer(header, question);
     }
     live[road as usize] = time;
@@ -242,17 +274,12 @@ extern "C" fn set_on(
 }
 
 /// Questions 10 and 11.
-fn refused_time(header: Header, card: &[u8], road: u32, time: Time) -> Option<u32> {
-    if road >= header.m {
+fn refused_time(bodies: Bodies, road: u32, time: Time) -> Option<u32> {
+    let Some(&[_, _, base]) = bodies.roads.get(road as usize) else {
         return Some(10);
-    }
-    let base = u32::from_le_bytes(roads(card)[road as usize][2]);
+    };
+    let base = u32::from_le_bytes(base);
     (time != CLOSED && !(base..=LONGEST).contains(&time)).then_some(11)
-}
-
-/// The roads of a card, and what follows them: tail, head and base time.
-fn roads(card: &[u8]) -> &[[[u8; 4]; 3]] {
-    card[card::len(0, 0)..].as_chunks().0.as_chunks().0
 }
 
 #[inline(never)]
@@ -268,16 +295,20 @@ extern "C" fn preview_on(
     leaving: &[u32],
     groups: &[u32],
     work: &mut [Time],
+    class: u32,
     road: u32,
     time: Time,
     start: u32,
 ) -> Returned {
     let (of_n, of_m) = ([ranks, down, estimates, elapsed], [live, leaving]);
-    let fits = fits(header, card, pairs, of_n, of_m, groups);
-    if !fits || work.len() != 2 * header.n as usize {
+    let bodies = fits(header, card, pairs, of_n, of_m, groups);
+    let Some(bodies) = bodies.filter(|_| work.len() == 2 * header.n as usize) else {
         return answer(header, 9);
+    };
+    if class >= CLASSES {
+        return answer(header, 18);
     }
-    if let Some(question) = refused_time(header, card, road, time) {
+    if let Some(question) = refused_time(bodies, road, time) {
         return answer(header, question);
     }
     if start >= header.n {
@@ -286,9 +317,9 @@ extern "C" fn preview_on(
     if header.aimed == 0 {
         return answer(header, 13);
     }
-    let (order, records) = (order(card, header), records(pairs, header));
-    let prepared = Prepared { order, ranks, records, down };
-    let ways = Ways { prepared, roads: roads(card), live, leaving, groups, target: header.target };
+    let prepared = Prepared { order: bodies.order, ranks, records: records(pairs, header), down };
+    let target = header.target;
+    let ways = Ways { prepared, bodies, class, live, leaving, groups, target };
     let [total, then] = [live[road as usize], time]
         .map(|time| u64::from(ways.total(estimates, work, start, road, time)));
     let compared = total != NONE.into() && then != NONE.into();
@@ -299,7 +330,8 @@ extern "C" fn preview_on(
 /// What a search reads.
 struct Ways<'a> {
     prepared: Prepared<'a>,
-    roads: &'a [[[u8; 4]; 3]],
+    bodies: Bodies<'a>,
+    class: u32,
     live: &'a [Time],
     leaving: &'a [u32],
     groups: &'a [u32],
@@ -356,10 +388,15 @@ impl Ways<'_> {
             let road = by[junction as usize];
             route[roads] = road;
             roads += 1;
-            junction = u32::from_le_bytes(self.roads[road as usize][0]);
+            junction = u32::from_le_bytes(self.bodies.roads[road as usize][0]);
         }
         route[..roads].reverse();
         Some((total, roads as u32))
+    }
+
+    /// Does it let the class in?
+    fn admits(&self, road: u32) -> bool {
+        self.bodies.access.get(road as usize).is_none_or(|byte| byte >> self.class & 1 == 1)
     }
 
     /// Logs one junction after the other, up to the target, by key, time and number: `times` has the candidates'
@@ -395,10 +432,10 @@ impl Ways<'_> {
             }
             for &road in &self.leaving[self.groups[at] as usize..self.groups[at + 1] as usize] {
                 let live = live(road);
-                if live == CLOSED {
+                if live == CLOSED || !self.admits(road) {
                     continue;
                 }
-                let head = u32::from_le_bytes(self.roads[road as usize][1]);
+                let head = u32::from_le_bytes(self.bodies.roads[road as usize][1]);
                 let ahead = self.prepared.estimate(estimates, head as usize);
                 if ahead == NONE {
                     continue;
@@ -431,15 +468,18 @@ extern "C" fn stops_on(
     groups: &[u32],
     route: &mut [u32],
     log: &mut [u32],
+    class: u32,
     stops: &[u32],
 ) -> ReturnedStops {
     let (of_n, of_m) = ([ranks, down, estimates, elapsed], [live, leaving]);
-    let fits = fits(header, card, pairs, of_n, of_m, groups);
     let mut answer = ReturnedStops { header: handed(header), ..ReturnedStops::default() };
-    if let Some(question) = refused_stops(header, fits, stops, route.len(), log.len()) {
+    let Some(bodies) = fits(header, card, pairs, of_n, of_m, groups) else {
+        return ReturnedStops { question: 9, ..answer };
+    };
+    if let Some(question) = refused_stops(header, class, stops, route.len(), log.len()) {
         return ReturnedStops { question, ..answer };
     }
-    let (order, records) = (order(card, header), records(pairs, header));
+    let (order, records) = (bodies.order, records(pairs, header));
     let (mut times, mut by) = (vec![NONE; header.n as usize], vec![0; header.n as usize]);
     let mut at = 0;
     for (leg, ends) in stops.windows(2).enumerate() {
@@ -448,7 +488,7 @@ extern "C" fn stops_on(
         estimates.fill(UNASKED);
         answer.header = Header { aimed: 1, target, ..header };
         let prepared = Prepared { order, ranks, records, down };
-        let ways = Ways { prepared, roads: roads(card), live, leaving, groups, target };
+        let ways = Ways { prepared, bodies, class, live, leaving, groups, target };
         let found = ways.go(estimates, elapsed, &mut times, &mut by, &mut route[at..], log, start);
         let Some((total, roads)) = found else {
             let leg = leg as u32;
@@ -464,19 +504,19 @@ extern "C" fn stops_on(
     answer
 }
 
-/// Questions 9, 16, 12 and 14.
+/// Questions 16, 18, 12 and 14.
 fn refused_stops(
     header: Header,
-    fits: bool,
+    class: u32,
     stops: &[u32],
     route: usize,
     log: usize,
 ) -> Option<u32> {
     let n = header.n as usize;
-    if !fits {
-        Some(9)
-    } else if !(FEWEST_STOPS..=MOST_STOPS).contains(&stops.len()) {
+    if !(FEWEST_STOPS..=MOST_STOPS).contains(&stops.len()) {
         Some(16)
+    } else if class >= CLASSES {
+        Some(18)
     } else if stops.iter().any(|&stop| stop >= header.n) {
         Some(12)
     } else {
@@ -499,14 +539,21 @@ mod tests {
         let mut random = Random::new(1);
         let mut maps: Vec<_> = (0..200).map(|_| maps::small(&mut random)).collect();
         maps.push(maps::town(&mut random, 20, 25, Streets::USUAL));
-        let mut met = [0; 18];
-        for map in maps {
-            let mut unit = Both::prepare(&map, order::pairs(&map)).unwrap().unit;
+        let mut met = [0; Refusal::NUMBERS];
+        for (i, mut map) in maps.into_iter().enumerate() {
+            maps::bar(&mut random, &mut map);
+            let pairs = order::pairs(&map);
+            let both = match i % 2 {
+                0 => Both::prepare(&map, pairs),
+                _ => Both::prepare_with_access(&map, pairs),
+            };
+            let mut unit = both.unwrap().unit;
             let mut plain = unit.clone();
             for _ in 0..20 {
                 let [target, asked] = [(); 2].map(|()| random.below(map.n() + 1) as u32);
                 let road = random.below(map.m() + 1) as u32;
                 let time = random.pick(&[1, 5, 60, LONGEST, LONGEST + 1, CLOSED]);
+                let class = random.below(9) as u32;
                 if random.chance(10) {
                     let (which, len) = (random.below(8), random.below(60));
                     unit.areas_mut()[which].resize(len);
@@ -519,13 +566,13 @@ mod tests {
                 assert_eq!(unit.set(road, time), set(&mut plain, road, time));
                 let mut work = vec![NONE; (2 * map.n()).saturating_sub(random.below(8) / 7)];
                 assert_eq!(
-                    unit.preview(road, time, asked, &mut work.clone()),
-                    preview(&mut plain, road, time, asked, &mut work)
+                    unit.preview(class, road, time, asked, &mut work.clone()),
+                    preview(&mut plain, class, road, time, asked, &mut work)
                 );
                 let road = random.below(map.m() + 1) as u32;
                 assert_eq!(
-                    unit.preview(road, CLOSED, asked, &mut work.clone()),
-                    preview(&mut plain, road, CLOSED, asked, &mut work)
+                    unit.preview(class, road, CLOSED, asked, &mut work.clone()),
+                    preview(&mut plain, class, road, CLOSED, asked, &mut work)
                 );
                 let list: Vec<u32> = (0..random.below(6))
                     .map(|_| random.below(map.n()) as u32)
@@ -534,14 +581,14 @@ mod tests {
                 let entries = list.len() * map.n() - random.below(8) / 7;
                 let [mut route, mut other_route] = [(); 2].map(|()| vec![7; entries]);
                 let [mut log, mut other_log] = [(); 2].map(|()| vec![7; map.n()]);
-                let answer = unit.stops(&list, &mut route, &mut log);
-                let other = stops(&mut plain, &list, &mut other_route, &mut other_log);
+                let answer = unit.stops(class, &list, &mut route, &mut log);
+                let other = stops(&mut plain, class, &list, &mut other_route, &mut other_log);
                 assert_eq!(answer, other, "{list:?}");
                 assert!(route == other_route && log == other_log, "{list:?}: what is lent differs");
                 met[answer.map_or_else(|refusal| refusal.number() as usize, |_| 0)] += 1;
                 assert!(unit == plain, "the areas differ");
             }
         }
-        assert!([0, 9, 12, 14, 16, 17].iter().all(|&number| met[number] > 50), "{met:?}");
+        assert!([0, 9, 12, 14, 16, 17, 18].iter().all(|&number| met[number] > 50), "{met:?}");
     }
 }

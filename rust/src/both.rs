@@ -3,7 +3,6 @@
 
 use crate::by_tail::ByTail;
 use crate::calls::{Call, Calls, Refusal};
-use crate::card;
 use crate::machine::Reply;
 use crate::maps::Map;
 use crate::random::setting;
@@ -33,6 +32,12 @@ impl Both {
         Both::prepare_on(unit)
     }
 
+    /// The same with bytes for classes on the card, whatever they are.
+    pub fn prepare_with_access(map: &Map, room: usize) -> Result<Both, Refusal> {
+        let card = map.card_with_access().expect("a map that a card can hold");
+        Both::prepare_on(Unit::new(&card, map.n(), map.m(), room))
+    }
+
     /// Prepares a unit's card by both, on the unit's areas, which have their lengths.
     pub fn prepare_on(mut unit: Unit) -> Result<Both, Refusal> {
         let card = unit.card.clone();
@@ -49,8 +54,7 @@ impl Both {
         })?;
         let mut pairs = router.hierarchy.records().concat();
         pairs.resize(unit.pairs.len(), 0);
-        let (roads, order) = card::map(&card)?;
-        let by_tail = ByTail::new(&Map::of_rows(&roads, order));
+        let by_tail = ByTail::new(&Map::of_card(&card)?);
         let ranks = router.hierarchy.ranks().to_vec();
         let both = Both { unit, router, card, ranks, pairs, by_tail };
         both.check();
@@ -83,6 +87,7 @@ impl Both {
             n: self.ranks.len() as u32,
             m: router.live.len() as u32,
             pairs: router.hierarchy.pairs() as u32,
+            card: self.card.len() as u32,
             aimed: router.target.is_some() as u32,
             target: router.target.unwrap_or(0),
         };

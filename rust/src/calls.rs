@@ -8,16 +8,19 @@ pub const FEWEST_STOPS: usize = 2;
 pub const MOST_STOPS: usize = 32;
 pub const MOST_LEGS: usize = MOST_STOPS - 1;
 
+/// There are so many vehicle classes, numbered from 0.
+pub const CLASSES: u32 = 8;
+
 /// The question that refuses, under the names that `crates/network` has for them.
 #[derive(Clone, Copy, Debug, PartialEq, Eq)]
 pub enum Refusal {
-    /// 1: the card is shorter than its table of contents.
+    /// 1: the card is shorter than its first word, or than the table of contents that this asks for.
     Short,
-    /// 2: it has another number of sections, or other kinds.
+    /// 2: it has another number of sections than 2 or 3, or other kinds.
     Kinds,
     /// 3: the bodies do not follow the table one after the other, up to the card's end.
     Starts,
-    /// 4: a body's length is out of range or no multiple of an entry's.
+    /// 4: a body's length is out of range or no multiple of an entry's, or there is not a byte for each road.
     Sizes,
     /// 5, with the first road that fails.
     Road(u32),
@@ -46,9 +49,14 @@ pub enum Refusal {
     StopCount,
     /// 17, with the first leg, from 0, that no chain of open roads exists for.
     NoLeg(u32),
+    /// 18: the class is not below 8.
+    NoClass,
 }
 
 impl Refusal {
+    /// A number for each question, and 0 for none.
+    pub const NUMBERS: usize = 19;
+
     /// The question's number.
     pub fn number(self) -> u32 {
         match self {
@@ -69,6 +77,7 @@ impl Refusal {
             Refusal::NoPath(_) => 15,
             Refusal::StopCount => 16,
             Refusal::NoLeg(_) => 17,
+            Refusal::NoClass => 18,
         }
     }
 
@@ -175,12 +184,14 @@ pub enum Call {
     },
     /// With the lengths of the two areas that are lent.
     Go {
+        class: u32,
         start: u32,
         route: usize,
         log: usize,
     },
     /// With the length of the work area that is lent.
     Preview {
+        class: u32,
         road: u32,
         time: Time,
         start: u32,
@@ -188,6 +199,7 @@ pub enum Call {
     },
     /// With the lengths of the two areas that are lent.
     Stops {
+        class: u32,
         stops: StopList,
         route: usize,
         log: usize,
@@ -221,9 +233,16 @@ pub trait Calls {
     fn set(&mut self, road: u32, time: Time) -> Result<(), Refusal>;
     fn aim(&mut self, junction: u32) -> Result<(), Refusal>;
     fn estimate(&mut self, junction: u32) -> Result<Time, Refusal>;
-    fn go(&mut self, start: u32, route: &mut [u32], log: &mut [u32]) -> Result<Trip, Refusal>;
+    fn go(
+        &mut self,
+        class: u32,
+        start: u32,
+        route: &mut [u32],
+        log: &mut [u32],
+    ) -> Result<Trip, Refusal>;
     fn preview(
         &mut self,
+        class: u32,
         road: u32,
         time: Time,
         start: u32,
@@ -231,6 +250,7 @@ pub trait Calls {
     ) -> Result<Previewed, Refusal>;
     fn stops(
         &mut self,
+        class: u32,
         stops: &[u32],
         route: &mut [u32],
         log: &mut [u32],
@@ -242,11 +262,13 @@ pub trait Calls {
             Call::Set { road, time } => self.set(road, time).map(|()| Accepted::Done),
             Call::Aim { junction } => self.aim(junction).map(|()| Accepted::Done),
             Call::Estimate { junction } => self.estimate(junction).map(Accepted::Estimate),
-            Call::Go { start, .. } => self.go(start, route, log).map(Accepted::Trip),
-            Call::Preview { road, time, start, .. } => {
-                self.preview(road, time, start, work).map(Accepted::Previewed)
+            Call::Go { class, start, .. } => self.go(class, start, route, log).map(Accepted::Trip),
+            Call::Preview { class, road, time, start, .. } => {
+                self.preview(class, road, time, start, work).map(Accepted::Previewed)
             }
-            Call::Stops { stops, .. } => self.stops(&stops, route, log).map(Accepted::Stopped),
+            Call::Stops { class, stops, .. } => {
+                self.stops(class, &stops, route, log).map(Accepted::Stopped)
+            }
         }
     }
 }

@@ -1,7 +1,48 @@
 //! Random damage to cards and to maps, of named kinds.
 
 use crate::card::{self, LONGEST};
+use crate::maps::Map;
 use crate::random::Random;
+
+/// Where the words of a card stand.
+#[derive(Clone, Copy, Debug, PartialEq, Eq)]
+pub struct Layout {
+    pub n: usize,
+    pub m: usize,
+    /// With a byte for each road.
+    pub access: bool,
+}
+
+impl Layout {
+    /// That of a map's card.
+    pub fn of(map: &Map) -> Layout {
+        Layout { n: map.n(), m: map.m(), access: !map.admits_all() }
+    }
+
+    fn sections(self) -> usize {
+        2 + self.access as usize
+    }
+
+    /// Words of the table.
+    fn table(self) -> usize {
+        card::table_len(self.sections()) / 4
+    }
+
+    /// Words of the table, the roads and the order.
+    fn words(self) -> usize {
+        self.table() + 3 * self.m + self.n
+    }
+
+    /// Bytes of the bodies.
+    fn lengths(self) -> Vec<usize> {
+        let lengths = [12 * self.m, 4 * self.n, self.m];
+        lengths[..self.sections()].to_vec()
+    }
+
+    fn len(self) -> usize {
+        card::table_len(self.sections()) + self.lengths().iter().sum::<usize>()
+    }
+}
 
 /// A kind of damage to a card.
 #[derive(Clone, Copy, Debug, PartialEq, Eq)]
@@ -16,6 +57,10 @@ pub enum CardDamage {
     RoadWord,
     /// Another word in the order.
     OrderWord,
+    /// Another byte of a road.
+    AccessByte,
+    /// Another number of sections.
+    Count,
     /// Two words somewhere changed about.
     Swap,
     /// Two words of the table changed about.
@@ -26,43 +71,62 @@ pub enum CardDamage {
     Extension,
     /// A body of another length, with a table that says so.
     Resized,
+    /// A third section more, of m bytes or of a few more or less, with a table that says so; or one less.
+    Section,
 }
 
 impl CardDamage {
-    pub const ALL: [CardDamage; 10] = [
+    pub const ALL: [CardDamage; 13] = [
         CardDamage::Bit,
         CardDamage::Word,
         CardDamage::TableWord,
         CardDamage::RoadWord,
         CardDamage::OrderWord,
+        CardDamage::AccessByte,
+        CardDamage::Count,
         CardDamage::Swap,
         CardDamage::TableSwap,
         CardDamage::Cut,
         CardDamage::Extension,
         CardDamage::Resized,
+        CardDamage::Section,
     ];
 
-    /// Damages a card that was made of a map with `n` junctions and `m` roads, and may have been
-    /// damaged since. Where the words to be changed are not there, it stays.
-    pub fn apply(self, random: &mut Random, card: &mut Vec<u8>, n: usize, m: usize) {
-        let words = 7 + 3 * m + n;
+    /// Damages a card that was made with this layout, and may have been damaged since. Where what is to be
+    /// changed is not there, it stays.
+    pub fn apply(self, random: &mut Random, card: &mut Vec<u8>, layout: Layout) {
+        let Layout { n, m, .. } = layout;
+        let (table, words) = (layout.table(), layout.words());
         match self {
-            CardDamage::Bit => flip(card, random.below(32 * words)),
+            CardDamage::Bit => flip(card, random.below(8 * layout.len())),
             CardDamage::Word => change(random, card, 0, words, n),
-            CardDamage::TableWord => change(random, card, 0, 7, n),
-            CardDamage::RoadWord => change(random, card, 7, 3 * m, n),
-            CardDamage::OrderWord => change(random, card, 7 + 3 * m, n, n),
+            CardDamage::TableWord => change(random, card, 0, table, n),
+            CardDamage::RoadWord => change(random, card, table, 3 * m, n),
+            CardDamage::OrderWord => change(random, card, table + 3 * m, n, n),
+            CardDamage::AccessByte => {
+                if layout.access && m > 0 {
+                    let other = random.word() as u8;
+                    if let Some(byte) = card.get_mut(4 * words + random.below(m)) {
+                        *byte = if *byte == other { !other } else { other };
+                    }
+                }
+            }
+            CardDamage::Count => {
+                let count = random.pick(&[0, 1, 2, 3, 4, 5, 255, 256, 1 << 31, u32::MAX]);
+                put(card, 0, count);
+            }
             CardDamage::Swap => swap(card, random.below(words), random.below(words)),
-            CardDamage::TableSwap => swap(card, random.below(7), random.below(7)),
+            CardDamage::TableSwap => swap(card, random.below(table), random.below(table)),
             CardDamage::Cut => {
-                let most = random.pick(&[28, card.len(), card.len()]);
-                card.truncate(random.below(most));
+                let most = random.pick(&[4, 4 * table, card.len(), card.len()]);
+                card.truncate(random.below(most.max(1)));
             }
             CardDamage::Extension => {
                 let more = 1 + random.below(24);
                 card.extend((0..more).map(|_| random.word() as u8));
             }
-            CardDamage::Resized => resize(random, card, n, m),
+            CardDamage::Resized => resize(random, card, layout),
+            CardDamage::Section => section(random, card, layout),
         }
     }
 }
@@ -124,7 +188,8 @@ impl MapDamage {
 /// A word in the place of another: often near it, or where a range of the format ends.
 fn other(random: &mut Random, old: u32, n: usize) -> u32 {
     let n = n as u32;
-    let ends = [0, 1, 2, 3, 27, 28, 29, n.wrapping_sub(1), n, LONGEST, LONGEST + 1, u32::MAX];
+    let ends = [0, 1, 2, 3, 4, 27, 28, 29, 39, 40, 41, n.wrapping_sub(1), n];
+    let ends = [&ends[..], &[LONGEST, LONGEST + 1, u32::MAX]].concat();
     match random.below(7) {
         0 => random.word(),
         1 => random.below(n as usize + 1) as u32,
@@ -177,14 +242,31 @@ fn swap(card: &mut [u8], a: usize, b: usize) {
     }
 }
 
+/// Another word, if the card has it.
+fn put(card: &mut [u8], place: usize, to: u32) {
+    if let Some(word) = card.as_chunks_mut().0.get_mut(place) {
+        *word = to.to_le_bytes();
+    }
+}
+
+/// Starts and lengths of bodies that follow one another.
+fn put_table(card: &mut [u8], lengths: &[usize]) {
+    let mut at = card::table_len(lengths.len());
+    for (i, &len) in lengths.iter().enumerate() {
+        put(card, 2 + 3 * i, at as u32);
+        put(card, 3 + 3 * i, len as u32);
+        at += len;
+    }
+}
+
 /// Adds bytes at the end of a body or takes them off, and says so in the table.
-fn resize(random: &mut Random, card: &mut Vec<u8>, n: usize, m: usize) {
-    let mut lengths = [12 * m, 4 * n];
-    if card.len() != 28 + lengths[0] + lengths[1] {
+fn resize(random: &mut Random, card: &mut Vec<u8>, layout: Layout) {
+    let (n, mut lengths) = (layout.n, layout.lengths());
+    if card.len() != layout.len() {
         return;
     }
-    let body = random.below(2);
-    let end = 28 + lengths[..=body].iter().sum::<usize>();
+    let body = random.below(lengths.len());
+    let end = 4 * layout.table() + lengths[..=body].iter().sum::<usize>();
     let by = random.pick(&[1, 2, 3, 4, 8, 12, 24]).min(lengths[body]);
     if random.chance(50) {
         card.drain(end - by..end);
@@ -193,8 +275,27 @@ fn resize(random: &mut Random, card: &mut Vec<u8>, n: usize, m: usize) {
         card.splice(end..end, (0..by).map(|_| random.below(n + 1) as u8));
         lengths[body] += by;
     }
-    let [roads, order] = lengths.map(|len| len as u32);
-    for (word, to) in [(3, roads), (5, 28 + roads), (6, order)] {
-        card[4 * word..][..4].copy_from_slice(&to.to_le_bytes());
+    put_table(card, &lengths);
+}
+
+/// Adds a third section of about a byte for each road, or takes it off.
+fn section(random: &mut Random, card: &mut Vec<u8>, layout: Layout) {
+    if card.len() != layout.len() {
+        return;
     }
+    let mut lengths = layout.lengths();
+    if layout.access {
+        card.truncate(card.len() - layout.m);
+        card.drain(28..40);
+        lengths.pop();
+    } else {
+        let by = random.pick(&[-1, 0, 0, 0, 0, 1, 3 * layout.m as isize]);
+        let bytes = layout.m.saturating_add_signed(by);
+        card.splice(28..28, [0; 12]);
+        card.extend((0..bytes).map(|_| random.word() as u8));
+        put(card, 7, 3);
+        lengths.push(bytes);
+    }
+    put(card, 0, lengths.len() as u32);
+    put_table(card, &lengths);
 }

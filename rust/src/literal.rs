@@ -1,5 +1,5 @@
-//! Aim and go as document 01's sentences have them, with document 02's A5 for equal keys: a search's log by making
-//! its candidates anew before each choice, the route back from it by trying every road. Which estimates lie
+//! Aim and go as document 01's sentences have them, with document 02's A5 for equal keys and A6 for classes: a search's
+//! log by making its candidates anew before each choice, the route back from it by trying every road. Which estimates lie
 //! above a junction and the down totals come from the chains that define a pair, found by Dijkstra's searches over
 //! lower ranks; estimates by Dijkstra's too. The least total of a go by rounds over all roads, from 300 junctions on by Dijkstra's.
 
@@ -97,8 +97,16 @@ impl Literal {
             .map(|((number, road), &live)| (number, road, live.into()))
     }
 
-    /// The search of a go.
-    pub fn search(&self, live: &[Time], start: u32, target: u32) -> Searched {
+    /// "A road barred to it counts as closed for that call": bit c is what is left of the byte without the c lowest.
+    fn for_that_call(&self, class: u32, live: &[Time]) -> Vec<Time> {
+        let roads = self.map.roads.iter().zip(live);
+        let lets_in = |byte: u8| u32::from(byte) / 2_u32.pow(class) % 2 == 1;
+        roads.map(|(road, &live)| if lets_in(road.access) { live } else { CLOSED }).collect()
+    }
+
+    /// The search of a go with a class.
+    pub fn search(&self, class: u32, live: &[Time], start: u32, target: u32) -> Searched {
+        let live = &self.for_that_call(class, live)[..];
         let n = self.map.n();
         let estimates = self.estimates(target);
         let mut times: Vec<Option<u64>> = vec![None; n];

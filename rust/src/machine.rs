@@ -1,9 +1,10 @@
 //! The plain machine that document 01 compares the unit with: a live time of its own for each road, and
 //! a target. It is fed the map, each call's arguments and the lengths of what is lent with it. Of equal keys
-//! the smaller time is logged first, then the smaller number (document 02, A5).
+//! the smaller time is logged first, then the smaller number (document 02, A5). It is fed a class, too, and
+//! takes a road barred to it as closed for that call (A6).
 
 use crate::calls::{
-    Accepted, Answer, Call, Previewed, Refusal, Stopped, Trip, FEWEST_STOPS, MOST_STOPS,
+    Accepted, Answer, Call, Previewed, Refusal, Stopped, Trip, CLASSES, FEWEST_STOPS, MOST_STOPS,
 };
 use crate::card::LONGEST;
 use crate::dijkstra;
@@ -32,22 +33,31 @@ impl Machine<'_> {
         Machine { map, graph: Graph::new(map), live: map.base(), target: None }
     }
 
+    /// The same times and the same target on another map of these junctions and roads.
+    pub fn on<'b>(&self, map: &'b Map) -> Machine<'b> {
+        Machine { map, graph: self.graph.clone(), live: self.live.clone(), target: self.target }
+    }
+
     pub fn answer(&mut self, call: Call) -> Reply {
         let answer = match call {
             Call::Set { road, time } => self.set(road, time).map(|()| Accepted::Done),
             Call::Aim { junction } => self.aim(junction).map(|()| Accepted::Done),
             Call::Estimate { junction } => self.estimate(junction).map(Accepted::Estimate),
-            Call::Go { start, route, log } => match self.go_refusal(start, route, log) {
-                Ok(target) => return self.go(start, target),
-                Err(refusal) => Err(refusal),
-            },
-            Call::Preview { road, time, start, work } => {
-                self.preview(road, time, start, work).map(Accepted::Previewed)
+            Call::Go { class, start, route, log } => {
+                match self.go_refusal(class, start, route, log) {
+                    Ok(target) => return self.go(class, start, target),
+                    Err(refusal) => Err(refusal),
+                }
             }
-            Call::Stops { stops, route, log } => match self.stops_refusal(&stops, route, log) {
-                Ok(()) => return self.stops(&stops),
-                Err(refusal) => Err(refusal),
-            },
+            Call::Preview { class, road, time, start, work } => {
+                self.preview(class, road, time, start, work).map(Accepted::Previewed)
+            }
+            Call::Stops { class, stops, route, log } => {
+                match self.stops_refusal(class, &stops, route, log) {
+                    Ok(()) => return self.stops(class, &stops),
+                    Err(refusal) => Err(refusal),
+                }
+            }
         };
         Reply { answer, route: Vec::new(), log: Vec::new() }
     }
@@ -85,6 +95,7 @@ impl Machine<'_> {
     /// The least totals at the times in force, and at these with one replaced.
     fn preview(
         &self,
+        class: u32,
         road: u32,
         time: Time,
         start: u32,
@@ -93,16 +104,32 @@ impl Machine<'_> {
         if work != 2 * self.map.n() {
             return Err(Refusal::Lengths);
         }
+        self.ask_class(class)?;
         self.ask_time(road, time)?;
         self.ask_junction(start)?;
         let target = self.target.ok_or(Refusal::NoTarget)?;
         let mut replaced = self.live.clone();
         replaced[road as usize] = time;
         let [present, new] = [&self.live, &replaced].map(|live| {
-            let total = dijkstra::between(&self.graph, live, start, target).0;
+            let live = self.in_force(live, class);
+            let total = dijkstra::between(&self.graph, &live, start, target).0;
             (total != NONE).then_some(total)
         });
         Ok(Previewed::of(present, new))
+    }
+
+    /// Question 18.
+    fn ask_class(&self, class: u32) -> Result<(), Refusal> {
+        if class >= CLASSES {
+            return Err(Refusal::NoClass);
+        }
+        Ok(())
+    }
+
+    /// The times of a call with a class: closed where its bit, counted from the lowest, is 0.
+    fn in_force(&self, live: &[Time], class: u32) -> Vec<Time> {
+        let roads = self.map.roads.iter().zip(live);
+        roads.map(|(road, &live)| [CLOSED, live][road.access as usize >> class & 1]).collect()
     }
 
     /// Question 12.
@@ -113,8 +140,9 @@ impl Machine<'_> {
         Ok(())
     }
 
-    /// Questions 12 to 14; the target if they pass.
-    fn go_refusal(&self, start: u32, route: usize, log: usize) -> Result<u32, Refusal> {
+    /// Questions 18 and 12 to 14; the target if they pass.
+    fn go_refusal(&self, class: u32, start: u32, route: usize, log: usize) -> Result<u32, Refusal> {
+        self.ask_class(class)?;
         self.ask_junction(start)?;
         let target = self.target.ok_or(Refusal::NoTarget)?;
         if route < self.map.n() || log < self.map.n() {
@@ -123,11 +151,18 @@ impl Machine<'_> {
         Ok(target)
     }
 
-    /// Questions 16, 12 and 14.
-    fn stops_refusal(&self, stops: &[u32], route: usize, log: usize) -> Result<(), Refusal> {
+    /// Questions 16, 18, 12 and 14.
+    fn stops_refusal(
+        &self,
+        class: u32,
+        stops: &[u32],
+        route: usize,
+        log: usize,
+    ) -> Result<(), Refusal> {
         if stops.len() < FEWEST_STOPS || stops.len() > MOST_STOPS {
             return Err(Refusal::StopCount);
         }
+        self.ask_class(class)?;
         for &stop in stops {
             self.ask_junction(stop)?;
         }
@@ -138,12 +173,12 @@ impl Machine<'_> {
     }
 
     /// For each leg an aim and a go. The roads follow one another; each log goes over those before it.
-    fn stops(&mut self, stops: &[u32]) -> Reply {
+    fn stops(&mut self, class: u32, stops: &[u32]) -> Reply {
         let (mut route, mut log, mut legs) = (Vec::new(), Vec::new(), Vec::new());
         for leg in 0..stops.len() - 1 {
             let (start, end) = (stops[leg], stops[leg + 1]);
             self.target = Some(end);
-            let made = self.go(start, end);
+            let made = self.go(class, start, end);
             let longer = log.split_off(made.log.len().min(log.len()));
             log = [made.log, longer].concat();
             let Ok(Accepted::Trip(trip)) = made.answer else {
@@ -160,19 +195,20 @@ impl Machine<'_> {
         dijkstra::to(&self.graph, &self.map.base(), target)
     }
 
-    fn go(&self, start: u32, target: u32) -> Reply {
-        let (log, times) = self.log(start, target);
+    fn go(&self, class: u32, start: u32, target: u32) -> Reply {
+        let live = self.in_force(&self.live, class);
+        let (log, times) = self.log(&live, start, target);
         let count = log.len() as u32;
         if log.last() != Some(&target) {
             return Reply { answer: Err(Refusal::NoPath(count)), route: Vec::new(), log };
         }
-        let route = self.route(&log, &times);
+        let route = self.route(&live, &log, &times);
         let trip = Trip { total: times[log.len() - 1], count, roads: route.len() as u32 };
         Reply { answer: Ok(Accepted::Trip(trip)), route, log }
     }
 
     /// The search log, and the time of each entry.
-    fn log(&self, start: u32, target: u32) -> (Vec<u32>, Vec<u64>) {
+    fn log(&self, live: &[Time], start: u32, target: u32) -> (Vec<u32>, Vec<u64>) {
         let estimates = self.estimates(target);
         // Candidates' times, by junction; those of logged ones are taken away.
         let mut candidates = vec![None; self.map.n()];
@@ -193,7 +229,7 @@ impl Machine<'_> {
             log.push(junction);
             times.push(time);
             for arc in self.graph.out.of(junction) {
-                let (live, head) = (self.live[arc.road as usize], arc.end as usize);
+                let (live, head) = (live[arc.road as usize], arc.end as usize);
                 if live != CLOSED && !logged[head] && estimates[head] != NONE {
                     let time = time + u64::from(live);
                     candidates[head] = Some(candidates[head].map_or(time, |old| time.min(old)));
@@ -205,7 +241,7 @@ impl Machine<'_> {
 
     /// Back from the log's last entry: into each junction, the smallest-numbered open road from an
     /// earlier logged one that gives its time.
-    fn route(&self, log: &[u32], times: &[u64]) -> Vec<u32> {
+    fn route(&self, live: &[Time], log: &[u32], times: &[u64]) -> Vec<u32> {
         let mut places = vec![None; self.map.n()];
         for (place, &junction) in log.iter().enumerate() {
             places[junction as usize] = Some(place);
@@ -215,10 +251,10 @@ impl Machine<'_> {
         while place > 0 {
             let earlier = |road: usize| {
                 let tail = places[self.map.roads[road].tail as usize]?;
-                let gives = self.live[road] != CLOSED
+                let gives = live[road] != CLOSED
                     && self.map.roads[road].head == log[place]
                     && tail < place
-                    && times[tail] + u64::from(self.live[road]) == times[place];
+                    && times[tail] + u64::from(live[road]) == times[place];
                 gives.then_some((road, tail))
             };
             let (road, tail) = (0..self.map.m()).find_map(earlier).expect("a road gives the time");
@@ -250,7 +286,7 @@ mod tests {
         };
         let aim = |junction| Call::Aim { junction };
         let set = |road, time| Call::Set { road, time };
-        let go = |start| Call::Go { start, route: 4, log: 4 };
+        let go = |start| Call::Go { class: 0, start, route: 4, log: 4 };
         let trip = |total, route: &[u32], log: &[u32]| {
             let (count, roads) = (log.len() as u32, route.len() as u32);
             let answer = Ok(Accepted::Trip(Trip { total, count, roads }));
@@ -291,7 +327,8 @@ mod tests {
                 machine.answer(Call::Set { road, time: CLOSED });
             }
             let (live, target) = (machine.live.clone(), machine.target);
-            let answer = machine.answer(Call::Preview { road, time, start: 0, work: 8 }).answer;
+            let preview = Call::Preview { class: 0, road, time, start: 0, work: 8 };
+            let answer = machine.answer(preview).answer;
             assert_eq!(answer, Ok(Accepted::Previewed(Previewed { present, new, change })));
             assert_eq!((machine.live, machine.target), (live, target));
         }
@@ -302,6 +339,7 @@ mod tests {
     fn stops_of_map_p() {
         let map = maps::map_p();
         let call = |stops: &[u32]| Call::Stops {
+            class: 0,
             stops: StopList::of(stops),
             route: 4 * stops.len(),
             log: 4,
@@ -324,12 +362,44 @@ mod tests {
         assert_eq!(machine.target, Some(0));
     }
 
+    /// Map P with road 1 barred to class 0 (document 02, A6): the road stays open, and is so for class 1.
+    #[test]
+    fn classes_of_map_p() {
+        let map = maps::map_p_with_classes();
+        let mut machine = Machine::new(&map);
+        let go = |class| Call::Go { class, start: 0, route: 4, log: 4 };
+        let asked = machine.answer(go(8));
+        assert_eq!(asked.answer, Err(Refusal::NoClass), "18 before 13");
+        machine.answer(Call::Aim { junction: 3 });
+        let live = machine.live.clone();
+        for (class, total, route, log) in [
+            (0, 25, &[2, 3], &[0, 1, 2, 3][..]),
+            (1, 20, &[0, 1], &[0, 1, 3]),
+            (7, 20, &[0, 1], &[0, 1, 3]),
+            (0, 25, &[2, 3], &[0, 1, 2, 3]),
+        ] {
+            let trip = Trip { total, count: log.len() as u32, roads: 2 };
+            let (route, log) = (route.to_vec(), log.to_vec());
+            assert_eq!(
+                machine.answer(go(class)),
+                Reply { answer: Ok(Accepted::Trip(trip)), route, log }
+            );
+        }
+        let estimate = machine.answer(Call::Estimate { junction: 0 }).answer;
+        assert_eq!(estimate, Ok(Accepted::Estimate(20)), "over all roads");
+        let preview = Call::Preview { class: 0, road: 1, time: 60, start: 0, work: 8 };
+        let same = Previewed { present: Some(25), new: Some(25), change: Some(0) };
+        assert_eq!(machine.answer(preview).answer, Ok(Accepted::Previewed(same)), "a barred road");
+        assert_eq!(machine.live, live);
+    }
+
     #[test]
     fn as_the_router_answers() {
         let mut random = Random::new(1);
         let (mut accepted, mut refused) = (0, 0);
         for _ in 0..2_000 {
-            let map = maps::small(&mut random);
+            let mut map = maps::small(&mut random);
+            maps::bar(&mut random, &mut map);
             let n = map.n();
             let mut machine = Machine::new(&map);
             let mut router = Router::new(&map.card().unwrap(), usize::MAX).unwrap();
@@ -338,19 +408,20 @@ mod tests {
                 let road = random.below(map.m() + 1) as u32;
                 let time = random.pick(&[1, 3, 12, LONGEST, LONGEST + 1, CLOSED]);
                 let less = random.below(8) / 7;
+                let class = random.below(9) as u32;
                 let call = match random.below(6) {
                     0 => Call::Set { road, time },
                     1 => Call::Aim { junction },
                     2 => Call::Estimate { junction },
-                    3 => Call::Preview { road, time, start: junction, work: 2 * n - less },
+                    3 => Call::Preview { class, road, time, start: junction, work: 2 * n - less },
                     4 => {
                         let mut stops: Vec<u32> =
                             (0..random.below(5)).map(|_| random.below(n) as u32).collect();
                         stops.push(junction);
                         let (stops, entries) = (StopList::of(&stops), stops.len() * n);
-                        Call::Stops { stops, route: entries - less, log: n }
+                        Call::Stops { class, stops, route: entries - less, log: n }
                     }
-                    _ => Call::Go { start: junction, route: n, log: n - less },
+                    _ => Call::Go { class, start: junction, route: n, log: n - less },
                 };
                 let mut lent = LentAreas::of(call);
                 let answer = router.call(call, lent.lend());

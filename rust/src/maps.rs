@@ -1,16 +1,30 @@
 //! Maps to test and to measure with.
 
 use crate::calls::Refusal;
-use crate::card::{self, LONGEST, MOST_ROADS};
+use crate::card::{self, EVERY_CLASS, LONGEST, MOST_ROADS};
 use crate::order;
 use crate::random::Random;
-use crate::time::Time;
+use crate::time::{Time, CLOSED};
 
 #[derive(Clone, Copy, Debug, PartialEq, Eq)]
 pub struct Road {
     pub tail: u32,
     pub head: u32,
     pub base: Time,
+    /// Bit c, from the lowest, lets class c in.
+    pub access: u8,
+}
+
+impl Road {
+    /// A road that lets every class in.
+    pub fn new(tail: u32, head: u32, base: Time) -> Road {
+        Road { tail, head, base, access: EVERY_CLASS }
+    }
+
+    /// Does it let a class in, of 0 to 7?
+    pub fn admits(&self, class: u32) -> bool {
+        self.access & 1 << class != 0
+    }
 }
 
 /// Roads by number, and the junctions from lowest rank to highest.
@@ -34,24 +48,53 @@ impl Map {
         self.roads.iter().map(|road| road.base).collect()
     }
 
+    /// Each road's byte.
+    pub fn access(&self) -> Vec<u8> {
+        self.roads.iter().map(|road| road.access).collect()
+    }
+
+    /// Does every road let every class in?
+    pub fn admits_all(&self) -> bool {
+        self.roads.iter().all(|road| road.access == EVERY_CLASS)
+    }
+
+    /// Live times as a class meets them: a road that it is barred from counts as closed.
+    pub fn met_by(&self, class: u32, live: &[Time]) -> Vec<Time> {
+        let roads = self.roads.iter().zip(live);
+        roads.map(|(road, &live)| if road.admits(class) { live } else { CLOSED }).collect()
+    }
+
     /// The map as two rows of words, as the writer of cards is lent it.
     pub fn rows(&self) -> (Vec<u32>, Vec<u32>) {
         let words = |road: &Road| [road.tail, road.head, road.base];
         (self.roads.iter().flat_map(words).collect(), self.order.clone())
     }
 
-    /// The map of two rows of words that a card can hold.
-    pub fn of_rows(roads: &[u32], order: Vec<u32>) -> Map {
-        let road = |&[tail, head, base]: &[u32; 3]| Road { tail, head, base };
-        Map { roads: roads.as_chunks().0.iter().map(road).collect(), order }
+    /// The map that a card holds.
+    pub fn of_card(card: &[u8]) -> Result<Map, Refusal> {
+        let (roads, order, access) = card::map(card)?;
+        let road =
+            |(&[tail, head, base], &access): (&[u32; 3], &u8)| Road { tail, head, base, access };
+        Ok(Map { roads: roads.as_chunks().0.iter().zip(&access).map(road).collect(), order })
     }
 
-    /// The map's card.
+    /// The map's card, with bytes for classes only if a road bars one.
     pub fn card(&self) -> Result<Vec<u8>, Refusal> {
+        if !self.admits_all() {
+            return self.card_with_access();
+        }
         let (roads, order) = self.rows();
         let mut card = vec![0; card::len(self.n(), self.m())];
         card::write(&roads, &order, &mut card)?;
         Ok(card)
+    }
+
+    /// The map's card with bytes for classes, whatever they are.
+    pub fn card_with_access(&self) -> Result<Vec<u8>, Refusal> {
+        let (roads, order) = self.rows();
+        let mut card = vec![0; card::len(self.n(), self.m())];
+        card::write(&roads, &order, &mut card)?;
+        Ok(card::with_access(&card, &self.access()))
     }
 
     /// Roads over `n` junctions in a good order.
@@ -63,9 +106,32 @@ impl Map {
 
 /// Document 01's example.
 pub fn map_p() -> Map {
-    let road = |(tail, head, base)| Road { tail, head, base };
+    let road = |(tail, head, base)| Road::new(tail, head, base);
     let roads = [(0, 1, 10), (1, 3, 10), (0, 2, 15), (2, 3, 10), (3, 0, 20)];
     Map { roads: roads.map(road).to_vec(), order: vec![1, 2, 0, 3] }
+}
+
+/// The same with road 1 barred to class 0 (document 02, A6).
+pub fn map_p_with_classes() -> Map {
+    let mut map = map_p();
+    map.roads[1].access = 254;
+    map
+}
+
+/// Bytes for the roads of a map: in some every class passes, in others every road bars some, or a few bar nearly all.
+pub fn bar(random: &mut Random, map: &mut Map) {
+    let style = random.below(6);
+    for road in &mut map.roads {
+        road.access = match style {
+            0 => EVERY_CLASS,
+            1 => random.word() as u8,
+            2 if random.chance(85) => EVERY_CLASS,
+            2 => random.pick(&[0, 1, 128, 254, 127]),
+            3 => random.pick(&[255, 255, 255, 254, 1, 0]),
+            4 => !(1 << random.below(8)) as u8,
+            _ => random.word() as u8 | random.word() as u8 | random.word() as u8,
+        };
+    }
 }
 
 /// `m` roads with base times to `longest` between any of `n` junctions, parallel ones among them,
@@ -76,7 +142,7 @@ pub fn random(random: &mut Random, n: usize, m: usize, longest: Time) -> Map {
     let road = |_| {
         let tail = random.below(n);
         let head = (tail + 1 + random.below(n - 1)) % n;
-        Road { tail: tail as u32, head: head as u32, base: random.within(1..=longest) }
+        Road::new(tail as u32, head as u32, random.within(1..=longest))
     };
     let roads = (0..if n < 2 { 0 } else { m }).map(road).collect();
     Map { roads, order }
@@ -120,9 +186,9 @@ pub fn town(random: &mut Random, width: usize, height: usize, streets: Streets) 
         }
         let [tail, head] = if line.is_multiple_of(2) { [a, b] } else { [b, a] };
         let base = random.within(10..=40) / if main { 3 } else { 1 };
-        roads.push(Road { tail, head, base });
+        roads.push(Road::new(tail, head, base));
         if main || !random.chance(streets.one_way) {
-            roads.push(Road { tail: head, head: tail, base: base + random.within(0..=5) });
+            roads.push(Road::new(head, tail, base + random.within(0..=5)));
         }
     }
     random.shuffle(&mut roads);
@@ -148,7 +214,7 @@ pub fn even_grid(random: &mut Random, width: usize, height: usize) -> Map {
     for (_, ends) in blocks(width, height) {
         let [a, b] = ends.map(|end| numbers[end as usize]);
         for [tail, head] in [[a, b], [b, a]] {
-            roads.push(Road { tail, head, base: random.pick(&[1, 1, 1, 2]) });
+            roads.push(Road::new(tail, head, random.pick(&[1, 1, 1, 2])));
         }
     }
     random.shuffle(&mut roads);
@@ -223,7 +289,7 @@ fn both_ways(a: usize, b: usize) -> [Road; 2] {
 }
 
 fn long(tail: usize, head: usize) -> Road {
-    Road { tail: tail as u32, head: head as u32, base: LONGEST }
+    Road::new(tail as u32, head as u32, LONGEST)
 }
 
 #[cfg(test)]
@@ -250,8 +316,52 @@ mod tests {
             wide_sums(MOST_JUNCTIONS)[0].clone(),
         ] {
             let card = map.card().unwrap();
-            assert_eq!(card::map(&card), Ok(map.rows()));
+            let (roads, order) = map.rows();
+            assert_eq!(card::map(&card), Ok((roads, order, vec![EVERY_CLASS; map.m()])));
+            assert_eq!(Map::of_card(&card), Ok(map));
         }
+    }
+
+    /// With bytes, and with bytes of 255, which a map's own card has not.
+    #[test]
+    fn cards_with_classes() {
+        let mut random = Random::new(2);
+        let (mut plain, mut with) = (0, 0);
+        for i in 0..600 {
+            let mut map = match i {
+                0 => map_p(),
+                1 => self::random(&mut random, MOST_JUNCTIONS, MOST_ROADS, LONGEST),
+                _ => small(&mut random),
+            };
+            bar(&mut random, &mut map);
+            let [card, full] = [map.card(), map.card_with_access()].map(Result::unwrap);
+            assert_eq!(full.len(), card::len_with_access(map.n(), map.m()));
+            for card in [&card, &full] {
+                assert_eq!(Map::of_card(card).as_ref(), Ok(&map));
+            }
+            *if card == full { &mut with } else { &mut plain } += 1;
+            assert_eq!(card == full, !map.admits_all());
+        }
+        assert!(plain > 100 && with > 300, "{plain} plain, {with} with classes");
+    }
+
+    /// Bit c from the lowest.
+    #[test]
+    fn bits_from_the_lowest() {
+        for (access, classes) in [
+            (0, vec![]),
+            (1, vec![0]),
+            (128, vec![7]),
+            (254, vec![1, 2, 3, 4, 5, 6, 7]),
+            (0b1010, vec![1, 3]),
+        ] {
+            let road = Road { access, ..Road::new(0, 1, 5) };
+            assert_eq!((0..8).filter(|&class| road.admits(class)).collect::<Vec<_>>(), classes);
+        }
+        let map = map_p_with_classes();
+        assert_eq!(map.access(), [255, 254, 255, 255, 255]);
+        assert_eq!(map.met_by(0, &map.base()), [10, CLOSED, 15, 10, 20]);
+        assert_eq!(map.met_by(1, &map.base()), map.base());
     }
 
     #[test]

@@ -1,7 +1,7 @@
 //! The unit as one would write it in plain Rust: the same algorithms, over structures of its own.
 
-use crate::calls::{Calls, Previewed, Refusal, Stopped, Trip, FEWEST_STOPS, MOST_STOPS};
-use crate::card::{self, LONGEST};
+use crate::calls::{Calls, Previewed, Refusal, Stopped, Trip, CLASSES, FEWEST_STOPS, MOST_STOPS};
+use crate::card::LONGEST;
 use crate::graph::Graph;
 use crate::hierarchy::Hierarchy;
 use crate::maps::Map;
@@ -14,6 +14,8 @@ pub struct Router {
     graph: Graph,
     pub hierarchy: Hierarchy,
     base: Vec<Time>,
+    /// Of each road the classes that it lets in, a bit for each.
+    access: Vec<u8>,
     pub live: Vec<Time>,
     pub target: Option<u32>,
     pub down: Vec<Time>,
@@ -24,13 +26,13 @@ pub struct Router {
 impl Router {
     /// Questions 1 to 6 and 8: prepares a card, with room for so many pairs.
     pub fn new(card: &[u8], room: usize) -> Result<Router, Refusal> {
-        let (roads, order) = card::map(card)?;
-        let map = Map::of_rows(&roads, order);
+        let map = Map::of_card(card)?;
         let n = map.n();
         Ok(Router {
             hierarchy: Hierarchy::within(&map, room).ok_or(Refusal::Room)?,
             graph: Graph::new(&map),
             base: map.base(),
+            access: map.access(),
             live: map.base(),
             target: None,
             down: vec![NONE; n],
@@ -47,6 +49,15 @@ impl Router {
         }
     }
 
+    /// Question 18.
+    fn check_class(&self, class: u32) -> Result<(), Refusal> {
+        if class < CLASSES {
+            Ok(())
+        } else {
+            Err(Refusal::NoClass)
+        }
+    }
+
     /// Questions 10 and 11.
     fn check_time(&self, road: u32, time: Time) -> Result<(), Refusal> {
         let base = *self.base.get(road as usize).ok_or(Refusal::NoRoad)?;
@@ -58,10 +69,23 @@ impl Router {
     }
 
     /// The total of a go at the times in force, with the estimates that it asks for.
-    fn total(&mut self, start: u32, target: u32) -> Option<Time> {
-        search::total(&self.graph, &self.live, start, target, |junction| {
+    fn total(&mut self, class: u32, start: u32, target: u32) -> Option<Time> {
+        let live = times(&self.live, &self.access, class);
+        search::total(&self.graph, live, start, target, |junction| {
             self.hierarchy.estimate(&self.down, &mut self.estimates, junction)
         })
+    }
+}
+
+/// Each road's time as a class meets it.
+fn times<'a>(
+    live: &'a [Time],
+    access: &'a [u8],
+    class: u32,
+) -> impl Fn(u32) -> Time + Copy + use<'a> {
+    move |road| match access[road as usize] >> class & 1 {
+        1 => live[road as usize],
+        _ => CLOSED,
     }
 }
 
@@ -86,13 +110,21 @@ impl Calls for Router {
         Ok(self.hierarchy.estimate(&self.down, &mut self.estimates, junction))
     }
 
-    fn go(&mut self, start: u32, route: &mut [u32], log: &mut [u32]) -> Result<Trip, Refusal> {
+    fn go(
+        &mut self,
+        class: u32,
+        start: u32,
+        route: &mut [u32],
+        log: &mut [u32],
+    ) -> Result<Trip, Refusal> {
+        self.check_class(class)?;
         self.check_junction(start)?;
         let target = self.target.ok_or(Refusal::NoTarget)?;
         if route.len().min(log.len()) < self.graph.n() {
             return Err(Refusal::LentLengths);
         }
-        let search = search::search(&self.graph, &self.live, start, target, |junction| {
+        let live = times(&self.live, &self.access, class);
+        let search = search::search(&self.graph, live, start, target, |junction| {
             self.hierarchy.estimate(&self.down, &mut self.estimates, junction)
         });
         self.elapsed = search.elapsed;
@@ -106,6 +138,7 @@ impl Calls for Router {
     /// It needs no work area, and asks for its length alone.
     fn preview(
         &mut self,
+        class: u32,
         road: u32,
         time: Time,
         start: u32,
@@ -114,18 +147,20 @@ impl Calls for Router {
         if work.len() != 2 * self.graph.n() {
             return Err(Refusal::Lengths);
         }
+        self.check_class(class)?;
         self.check_time(road, time)?;
         self.check_junction(start)?;
         let target = self.target.ok_or(Refusal::NoTarget)?;
-        let present = self.total(start, target);
+        let present = self.total(class, start, target);
         let old = mem::replace(&mut self.live[road as usize], time);
-        let new = self.total(start, target);
+        let new = self.total(class, start, target);
         self.live[road as usize] = old;
         Ok(Previewed::of(present, new))
     }
 
     fn stops(
         &mut self,
+        class: u32,
         stops: &[u32],
         route: &mut [u32],
         log: &mut [u32],
@@ -134,6 +169,7 @@ impl Calls for Router {
         if !(FEWEST_STOPS..=MOST_STOPS).contains(&stops.len()) {
             return Err(Refusal::StopCount);
         }
+        self.check_class(class)?;
         stops.iter().try_for_each(|&stop| self.check_junction(stop))?;
         if route.len() < stops.len() * n || log.len() < n {
             return Err(Refusal::LentLengths);
@@ -141,7 +177,8 @@ impl Calls for Router {
         let (mut legs, mut at) = (Vec::new(), 0);
         for (leg, ends) in (0..).zip(stops.windows(2)) {
             self.aim(ends[1])?;
-            let trip = self.go(ends[0], &mut route[at..], log).map_err(|_| Refusal::NoLeg(leg))?;
+            let trip = self.go(class, ends[0], &mut route[at..], log);
+            let trip = trip.map_err(|_| Refusal::NoLeg(leg))?;
             legs.push((trip.total, trip.roads));
             at += trip.roads as usize;
         }

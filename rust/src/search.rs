@@ -17,11 +17,11 @@ pub struct Search {
     pub found: Option<(Time, Vec<u32>)>,
 }
 
-/// Searches from a start to a target. Asks for the estimates of the start and of every head of an
-/// open road from a logged junction other than the target, and for no others.
+/// Searches from a start to a target, over the roads whose time is not closed. Asks for the estimates of the start
+/// and of every head of an open road from a logged junction other than the target, and for no others.
 pub fn search(
     graph: &Graph,
-    live: &[Time],
+    live: impl Fn(u32) -> Time + Copy,
     start: u32,
     target: u32,
     estimate: impl FnMut(u32) -> Time,
@@ -35,7 +35,7 @@ pub fn search(
 /// The total alone of the same search, if there is a chain.
 pub fn total(
     graph: &Graph,
-    live: &[Time],
+    live: impl Fn(u32) -> Time,
     start: u32,
     target: u32,
     estimate: impl FnMut(u32) -> Time,
@@ -47,7 +47,7 @@ pub fn total(
 /// The log, and the times of what is logged.
 fn logged(
     graph: &Graph,
-    live: &[Time],
+    live: impl Fn(u32) -> Time,
     start: u32,
     target: u32,
     mut estimate: impl FnMut(u32) -> Time,
@@ -76,7 +76,7 @@ fn logged(
             break;
         }
         for arc in graph.out.of(junction) {
-            let live = live[arc.road as usize];
+            let live = live(arc.road);
             if live == CLOSED {
                 continue;
             }
@@ -92,7 +92,13 @@ fn logged(
 
 /// Back from the target: into each junction, the smallest-numbered open road from an earlier logged
 /// one that gives its time.
-fn route(graph: &Graph, live: &[Time], log: &[u32], elapsed: &[Time], target: u32) -> Vec<u32> {
+fn route(
+    graph: &Graph,
+    live: impl Fn(u32) -> Time,
+    log: &[u32],
+    elapsed: &[Time],
+    target: u32,
+) -> Vec<u32> {
     let mut places = vec![usize::MAX; graph.n()];
     for (place, &junction) in log.iter().enumerate() {
         places[junction as usize] = place;
@@ -103,7 +109,7 @@ fn route(graph: &Graph, live: &[Time], log: &[u32], elapsed: &[Time], target: u3
         let place = places[junction as usize];
         let time = elapsed[junction as usize];
         let leads = |road: u32, tail: u32| {
-            let live = live[road as usize];
+            let live = live(road);
             live != CLOSED && places[tail as usize] < place && elapsed[tail as usize] + live == time
         };
         let arc = graph.into.of(junction).iter().find(|arc| leads(arc.road, arc.end));
@@ -144,7 +150,8 @@ mod tests {
             let down = hierarchy.down_totals(self.target);
             let mut estimates = vec![UNASKED; self.map.n()];
             let graph = Graph::new(&self.map);
-            let search = search(&graph, &self.live, self.start, self.target, |junction| {
+            let live = |road: u32| self.live[road as usize];
+            let search = search(&graph, live, self.start, self.target, |junction| {
                 hierarchy.estimate(&down, &mut estimates, junction)
             });
             (search, estimates)
@@ -338,7 +345,7 @@ mod tests {
     /// All keys are 3. Junction 2 has the smaller time and is logged before 1; so road 0 leads into 1.
     #[test]
     fn equal_keys_by_time() {
-        let road = |(tail, head, base)| Road { tail, head, base };
+        let road = |(tail, head, base)| Road::new(tail, head, base);
         let roads = [(2, 1, 1), (0, 1, 2), (0, 2, 1), (1, 3, 1)].map(road).to_vec();
         let map = Map { roads, order: vec![0, 1, 2, 3] };
         let (search, _) = Trip { live: map.base(), map, start: 0, target: 3 }.go();

@@ -1,11 +1,13 @@
 //! A map as lines of text.
 //!
-//! A road is a line `road TAIL HEAD SECONDS`; roads are numbered from 0 as they come. Lines `order J J ..`
-//! have the junctions from lowest rank to highest, each once; without one, a good order is computed, for
+//! A road is a line `road TAIL HEAD SECONDS`; roads are numbered from 0 as they come. Where it lets only some
+//! vehicle classes in, `classes LIST` follows: numbers from 0 to 7 and rows of them, as `0,2-5`, or `none`. Lines
+//! `order J J ..` have the junctions from lowest rank to highest, each once; without one, a good order is computed, for
 //! as many junctions as the largest number in a road asks for. Empty lines and lines that begin with `#`
 //! say nothing.
 
-use crate::card::{LONGEST, MOST_JUNCTIONS, MOST_ROADS};
+use crate::calls::CLASSES;
+use crate::card::{EVERY_CLASS, LONGEST, MOST_JUNCTIONS, MOST_ROADS};
 use crate::maps::{Map, Road};
 use std::error::Error;
 use std::fmt::{self, Display, Formatter, Write};
@@ -45,8 +47,12 @@ pub fn parse(text: &[u8]) -> Result<Map, Fault> {
 pub fn print(map: &Map) -> String {
     let mut text = String::new();
     let mut line = |line: String| text.push_str(&(line + "\n"));
-    for Road { tail, head, base } in &map.roads {
-        line(format!("road {tail} {head} {base}"));
+    for &Road { tail, head, base, access } in &map.roads {
+        let classes = match access {
+            EVERY_CLASS => String::new(),
+            _ => format!(" classes {}", print_classes(access)),
+        };
+        line(format!("road {tail} {head} {base}{classes}"));
     }
     for junctions in map.order.chunks(16) {
         line(junctions.iter().fold("order".to_string(), |mut line, junction| {
@@ -55,6 +61,29 @@ pub fn print(map: &Map) -> String {
         }));
     }
     text
+}
+
+/// The classes that a byte lets in, in rows as long as they are.
+fn print_classes(access: u8) -> String {
+    let admits = |class: u32| access & 1 << class != 0;
+    let mut rows: Vec<String> = Vec::new();
+    let mut class = 0;
+    while class < CLASSES {
+        let first = class;
+        while class < CLASSES && admits(class) {
+            class += 1;
+        }
+        match class - first {
+            0 => (),
+            1 => rows.push(format!("{first}")),
+            _ => rows.push(format!("{first}-{}", class - 1)),
+        }
+        class += 1;
+    }
+    if rows.is_empty() {
+        return "none".to_string();
+    }
+    rows.join(",")
 }
 
 /// What was read so far. With each road and each place of the order comes its line.
@@ -81,10 +110,11 @@ impl Reader {
     }
 
     fn road(&mut self, words: &[&str]) -> Result<(), String> {
-        let &[tail, head, base] = words else {
+        let &[tail, head, base, ref rest @ ..] = words else {
             return Err(format!("a road has 3 numbers: TAIL HEAD SECONDS, not {}", words.len()));
         };
         let (tail, head, base) = (junction(tail)?, junction(head)?, number(base)?);
+        let access = access(rest)?;
         if tail == head {
             return Err(format!("the road leads from junction {tail} to itself"));
         }
@@ -94,7 +124,7 @@ impl Reader {
         if self.roads.len() == MOST_ROADS {
             return Err(format!("a map has no more than {MOST_ROADS} roads"));
         }
-        self.roads.push((self.at, Road { tail, head, base }));
+        self.roads.push((self.at, Road { tail, head, base, access }));
         Ok(())
     }
 
@@ -148,6 +178,49 @@ impl Reader {
     }
 }
 
+/// The byte of what stands behind a road's seconds.
+fn access(words: &[&str]) -> Result<u8, String> {
+    match words {
+        [] => Ok(EVERY_CLASS),
+        ["classes", list] => classes(list),
+        ["classes"] => Err("`classes` without a list, such as 0,2-5 or none".to_string()),
+        ["classes", list, more, ..] => {
+            Err(format!("a list of classes is one word, such as 0,2-5: `{more}` follows `{list}`"))
+        }
+        [word, ..] => Err(format!("`{word}` behind the seconds; only `classes` may stand there")),
+    }
+}
+
+/// The byte of a list: `none`, or classes and rows of them, each class once.
+fn classes(list: &str) -> Result<u8, String> {
+    let mut access = 0;
+    for item in list.split(',').filter(|_| list != "none") {
+        let (first, last) = item.split_once('-').unwrap_or((item, item));
+        let [first, last] = [class(list, first)?, class(list, last)?];
+        if first > last {
+            return Err(format!("`{item}` in the list `{list}` begins behind its end"));
+        }
+        for class in first..=last {
+            if access & 1 << class != 0 {
+                return Err(format!("class {class} stands twice in the list `{list}`"));
+            }
+            access |= 1 << class;
+        }
+    }
+    Ok(access)
+}
+
+fn class(list: &str, word: &str) -> Result<u32, String> {
+    if word.is_empty() {
+        return Err(format!("a class is missing in the list `{list}`"));
+    }
+    let class = number(word)?;
+    if class >= CLASSES {
+        return Err(format!("class {class} is not below {CLASSES}"));
+    }
+    Ok(class)
+}
+
 fn junction(word: &str) -> Result<u32, String> {
     let junction = number(word)?;
     if junction as usize >= MOST_JUNCTIONS {
@@ -172,10 +245,48 @@ mod tests {
     #[test]
     fn there_and_back() {
         let mut random = Random::new(1);
+        let (mut plain, mut barred) = (0, 0);
         for _ in 0..1_000 {
-            let map = maps::small(&mut random);
-            assert_eq!(parse(print(&map).as_bytes()), Ok(map));
+            let mut map = maps::small(&mut random);
+            maps::bar(&mut random, &mut map);
+            let text = print(&map);
+            assert_eq!(
+                text.matches("classes").count(),
+                map.access().iter().filter(|&&byte| byte < 255).count()
+            );
+            *if map.admits_all() { &mut plain } else { &mut barred } += 1;
+            assert_eq!(parse(text.as_bytes()), Ok(map));
         }
+        assert!(plain > 150 && barred > 500, "{plain} plain, {barred} with classes");
+    }
+
+    /// Every byte as a list and back; and lists that are not as they are printed.
+    #[test]
+    fn lists_of_classes() {
+        for byte in 0..=u8::MAX {
+            assert_eq!(classes(&print_classes(byte)), Ok(byte));
+        }
+        for (list, byte, printed) in [
+            ("none", 0, "none"),
+            ("0", 1, "0"),
+            ("7", 128, "7"),
+            ("0,2-5", 0b11_1101, "0,2-5"),
+            ("5,3,4,0", 0b11_1001, "0,3-5"),
+            ("3-3,1", 0b1010, "1,3"),
+            ("1-7", 254, "1-7"),
+            ("0-3,4-7", 255, "0-7"),
+            ("00,007", 129, "0,7"),
+        ] {
+            assert_eq!((classes(list), &print_classes(byte)[..]), (Ok(byte), printed), "{list}");
+        }
+        let text = "road 0 1 5\nroad 1 0 5 classes 1,3-4\nroad 1 2 5 classes none\nroad 2 1 5\tclasses  0-7 \n";
+        let map = parse(text.as_bytes()).unwrap();
+        assert_eq!(map.access(), [255, 0b1_1010, 0, 255]);
+        let lines: Vec<String> = print(&map).lines().take(4).map(str::to_string).collect();
+        assert_eq!(
+            lines,
+            ["road 0 1 5", "road 1 0 5 classes 1,3-4", "road 1 2 5 classes none", "road 2 1 5"]
+        );
     }
 
     #[test]
@@ -187,7 +298,41 @@ mod tests {
             ("road 0 1 5\nroads 1 0 5", "line 2: `roads` begins no line; `road` and `order` do"),
             ("Road 0 1 5", "line 1: `Road` begins no line; `road` and `order` do"),
             ("road 0 1", "line 1: a road has 3 numbers: TAIL HEAD SECONDS, not 2"),
-            ("road 0 1 5 6", "line 1: a road has 3 numbers: TAIL HEAD SECONDS, not 4"),
+            ("road 0 1 5 6", "line 1: `6` behind the seconds; only `classes` may stand there"),
+            (
+                "road 0 1 5 Classes 6",
+                "line 1: `Classes` behind the seconds; only `classes` may stand there",
+            ),
+            ("road 0 classes 1", "line 1: `classes` is no number"),
+            ("road 0 1 classes 1", "line 1: `classes` is no number"),
+            (
+                "road 0 1\nroad 0 1 classes",
+                "line 1: a road has 3 numbers: TAIL HEAD SECONDS, not 2",
+            ),
+            (
+                "road 0 1 5\nroad 0 1 5 classes",
+                "line 2: `classes` without a list, such as 0,2-5 or none",
+            ),
+            (
+                "road 0 1 5 classes 0, 2",
+                "line 1: a list of classes is one word, such as 0,2-5: `2` follows `0,`",
+            ),
+            ("road 0 1 5 classes 8", "line 1: class 8 is not below 8"),
+            ("\nroad 0 1 5 classes 0,2-8", "line 2: class 8 is not below 8"),
+            ("road 0 1 5 classes 255", "line 1: class 255 is not below 8"),
+            ("road 0 1 5 classes 4294967296", "line 1: 4294967296 is too large"),
+            ("road 0 1 5 classes ,", "line 1: a class is missing in the list `,`"),
+            ("road 0 1 5 classes 0,,1", "line 1: a class is missing in the list `0,,1`"),
+            ("road 0 1 5 classes 0,", "line 1: a class is missing in the list `0,`"),
+            ("road 0 1 5 classes -3", "line 1: a class is missing in the list `-3`"),
+            ("road 0 1 5 classes 2-", "line 1: a class is missing in the list `2-`"),
+            ("road 0 1 5 classes 5-2", "line 1: `5-2` in the list `5-2` begins behind its end"),
+            ("road 0 1 5 classes 1-2-3", "line 1: `2-3` is no number"),
+            ("road 0 1 5 classes 0,3,0", "line 1: class 0 stands twice in the list `0,3,0`"),
+            ("road 0 1 5 classes 2-5,4", "line 1: class 4 stands twice in the list `2-5,4`"),
+            ("road 0 1 5 classes all", "line 1: `all` is no number"),
+            ("road 0 1 5 classes none,1", "line 1: `none` is no number"),
+            ("road 0 1 0 classes 8", "line 1: class 8 is not below 8"),
             ("\n\nroad 0 x 5", "line 3: `x` is no number"),
             ("road 0 +1 5", "line 1: `+1` is no number"),
             ("road 0 1 5.5", "line 1: `5.5` is no number"),

@@ -15,6 +15,8 @@ pub struct Header {
     pub n: u32,
     pub m: u32,
     pub pairs: u32,
+    /// The card's length in bytes.
+    pub card: u32,
     /// 1 if there is a target, else 0.
     pub aimed: u32,
     /// 0 if there is none.
@@ -53,26 +55,28 @@ pub(crate) struct ReturnedStops {
     pub roads: [u32; MOST_LEGS],
 }
 
-const _: () = assert!(size_of::<Header>() == 20 && offset_of!(Header, target) == 16);
 const _: () = assert!(
-    size_of::<Returned>() == 64
-        && offset_of!(Returned, question) == 20
-        && offset_of!(Returned, place) == 24
-        && offset_of!(Returned, compared) == 28
-        && offset_of!(Returned, total) == 32
-        && offset_of!(Returned, count) == 40
-        && offset_of!(Returned, roads) == 44
-        && offset_of!(Returned, then) == 48
-        && offset_of!(Returned, change) == 56
+    size_of::<Header>() == 24 && offset_of!(Header, card) == 12 && offset_of!(Header, target) == 20
 );
 const _: () = assert!(
-    size_of::<ReturnedStops>() == 416
-        && offset_of!(ReturnedStops, question) == 20
-        && offset_of!(ReturnedStops, leg) == 24
-        && offset_of!(ReturnedStops, legs) == 28
-        && offset_of!(ReturnedStops, whole) == 32
-        && offset_of!(ReturnedStops, totals) == 40
-        && offset_of!(ReturnedStops, roads) == 288
+    size_of::<Returned>() == 72
+        && offset_of!(Returned, question) == 24
+        && offset_of!(Returned, place) == 28
+        && offset_of!(Returned, compared) == 32
+        && offset_of!(Returned, total) == 40
+        && offset_of!(Returned, count) == 48
+        && offset_of!(Returned, roads) == 52
+        && offset_of!(Returned, then) == 56
+        && offset_of!(Returned, change) == 64
+);
+const _: () = assert!(
+    size_of::<ReturnedStops>() == 424
+        && offset_of!(ReturnedStops, question) == 24
+        && offset_of!(ReturnedStops, leg) == 28
+        && offset_of!(ReturnedStops, legs) == 32
+        && offset_of!(ReturnedStops, whole) == 40
+        && offset_of!(ReturnedStops, totals) == 48
+        && offset_of!(ReturnedStops, roads) == 296
 );
 
 extern "C" {
@@ -88,18 +92,22 @@ extern "C" {
     ) -> u32;
 }
 
-/// Declares exports that take a header or none, slices, and words. Each slice is a pointer and a length.
+/// Declares exports that take a header or none, slices, words, and a list or none. Each slice is a pointer and a
+/// length.
 macro_rules! exports {
     ($(
-        fn $export:ident($($header:ident)?; $($slice:ident: $access:tt $word:ty),+; $($last:ident),*)
-            -> $returned:ident;
+        fn $export:ident(
+            $($header:ident)?; $($slice:ident: $access:tt $word:ty),+; $($last:ident),*
+            $(; $list:ident: $item:ty)?
+        ) -> $returned:ident;
     )+) => {
         extern "C" {
             $(
                 fn $export(
                     $($header: Header,)?
                     $($slice: *$access $word, _: usize,)+
-                    $($last: u32),*
+                    $($last: u32,)*
+                    $($list: *const $item, _: usize,)?
                 ) -> $returned;
             )+
         }
@@ -172,6 +180,7 @@ exports! {
         groups: const u32,
         route: mut u32,
         log: mut u32;
+        class,
         start
     ) -> Returned;
     fn unit_preview(
@@ -186,6 +195,7 @@ exports! {
         leaving: const u32,
         groups: const u32,
         work: mut Time;
+        class,
         road,
         time,
         start
@@ -202,8 +212,9 @@ exports! {
         leaving: const u32,
         groups: const u32,
         route: mut u32,
-        log: mut u32,
-        stops: const u32;
+        log: mut u32;
+        class;
+        stops: u32
     ) -> ReturnedStops;
     fn unit_replay(
         ;
@@ -284,6 +295,7 @@ fn refusal(number: u32, place: u32, count: u32) -> Refusal {
         (15, 0, count) => Refusal::NoPath(count),
         (16, 0, 0) => Refusal::StopCount,
         (17, leg, 0) => Refusal::NoLeg(leg),
+        (18, 0, 0) => Refusal::NoClass,
         _ => panic!("no refusal has the number {number}, the place {place} and the count {count}"),
     }
 }
@@ -359,12 +371,14 @@ pub fn spelled(calls: &[Call]) -> Vec<u32> {
             Call::Set { road, time } => words.extend([0, road, time]),
             Call::Aim { junction } => words.extend([1, junction]),
             Call::Estimate { junction } => words.extend([2, junction]),
-            Call::Go { start, route, log } => {
-                words.extend([3, start, entries(route), entries(log)]);
+            Call::Go { class, start, route, log } => {
+                words.extend([3, class, start, entries(route), entries(log)]);
             }
-            Call::Preview { road, time, start, .. } => words.extend([4, road, time, start]),
-            Call::Stops { stops, route, log } => {
-                words.extend([5, entries(stops.len()), entries(route), entries(log)]);
+            Call::Preview { class, road, time, start, .. } => {
+                words.extend([4, class, road, time, start]);
+            }
+            Call::Stops { class, stops, route, log } => {
+                words.extend([5, class, entries(stops.len()), entries(route), entries(log)]);
                 words.extend(&*stops);
             }
         }
@@ -406,10 +420,19 @@ pub struct Unit {
 
 /// Calls an export. Each slice is handed on as a pointer and a length.
 macro_rules! lend {
-    ($export:ident($($first:expr)?; $($slice:expr => $pointer:ident),+; $($last:expr),*)) => {
+    ($export:ident(
+        $($first:expr)?; $($slice:expr => $pointer:ident),+; $($last:expr),* $(; $list:expr)?
+    )) => {
         // SAFETY: each pointer and length are those of one slice, which is lent to be written where the
         // export writes; no two overlap.
-        unsafe { $export($($first,)? $($slice.$pointer(), $slice.len(),)+ $($last),*) }
+        unsafe {
+            $export(
+                $($first,)?
+                $($slice.$pointer(), $slice.len(),)+
+                $($last,)*
+                $($list.as_ptr(), $list.len(),)?
+            )
+        }
     };
 }
 
@@ -622,7 +645,13 @@ impl Calls for Unit {
         self.hand_back(returned)?.estimate()
     }
 
-    fn go(&mut self, start: u32, route: &mut [u32], log: &mut [u32]) -> Result<Trip, Refusal> {
+    fn go(
+        &mut self,
+        class: u32,
+        start: u32,
+        route: &mut [u32],
+        log: &mut [u32],
+    ) -> Result<Trip, Refusal> {
         let returned = lend!(unit_go(
             self.header;
             self.card => as_ptr,
@@ -636,6 +665,7 @@ impl Calls for Unit {
             self.groups => as_ptr,
             route => as_mut_ptr,
             log => as_mut_ptr;
+            class,
             start
         ));
         self.hand_back(returned)?.trip()
@@ -643,6 +673,7 @@ impl Calls for Unit {
 
     fn preview(
         &mut self,
+        class: u32,
         road: u32,
         time: Time,
         start: u32,
@@ -660,6 +691,7 @@ impl Calls for Unit {
             self.leaving => as_ptr,
             self.groups => as_ptr,
             work => as_mut_ptr;
+            class,
             road,
             time,
             start
@@ -669,6 +701,7 @@ impl Calls for Unit {
 
     fn stops(
         &mut self,
+        class: u32,
         stops: &[u32],
         route: &mut [u32],
         log: &mut [u32],
@@ -685,8 +718,9 @@ impl Calls for Unit {
             self.leaving => as_ptr,
             self.groups => as_ptr,
             route => as_mut_ptr,
-            log => as_mut_ptr,
-            stops => as_ptr;
+            log => as_mut_ptr;
+            class;
+            stops
         ));
         self.header = returned.header;
         returned.stopped()

@@ -31,9 +31,10 @@ fn spaced(text: &str) -> String {
     text.split_whitespace().collect::<Vec<_>>().join(" ").replace("( ", "(").replace(" )", ")")
 }
 
-/// A parameter or a field of an export, as C declares it.
+/// A parameter or a field of an export, as C declares it. In C++ `class` is no name.
 fn declared(item: &str) -> String {
     let (name, kind) = item.trim().trim_start_matches("pub ").split_once(": ").unwrap();
+    let name = if name == "class" { "vehicle_class" } else { name };
     let number = |kind: &str| match kind {
         "u8" | "u32" | "u64" => format!("uint{}_t", &kind[1..]),
         "i64" => "int64_t".to_string(),
@@ -170,12 +171,13 @@ fn map_p() {
     let output = run("right", &read("c/map_p.c"));
     let said = told(&output.stdout);
     assert_eq!(output.status.code(), Some(0), "{said}");
-    assert_eq!((said.matches(" ok\n").count(), said.lines().count()), (24, 24), "{said}");
+    assert_eq!((said.matches(" ok\n").count(), said.lines().count()), (27, 27), "{said}");
     for case in 1..=10 {
         assert!(said.contains(&format!("P{case} ")), "{said}");
     }
-    let requests = ["A1 ", "A2 ", "A3 ", "A5 "].map(|request| said.matches(request).count());
-    assert_eq!(requests, [1, 6, 4, 1], "{said}");
+    let requests = ["A1 ", "A2 ", "A3 ", "A5 ", "A6 "];
+    let requests = requests.map(|request| said.matches(request).count());
+    assert_eq!(requests, [1, 6, 4, 1, 3], "{said}");
 }
 
 /// The C program sees an answer that is not the one it waits for, in each case.
@@ -185,7 +187,12 @@ fn map_p_with_another_answer() {
     for (i, (case, old, new)) in [
         ("card", "2, 1, 28, 60,", "2, 1, 28, 61,"),
         ("P1 ", "2, 3, 20, 20,", "2, 3, 20, 21,"),
-        ("P2 ", "header.pairs == PAIRS ", "header.pairs == M - 1 "),
+        ("P2 ", "header.pairs == PAIRS && header.card == CARD", "header.pairs == M - 1"),
+        (
+            "P2 ",
+            "header.pairs == PAIRS && header.card == CARD",
+            "header.pairs == PAIRS && header.card == LONGER",
+        ),
         ("P3 ", "estimated(1, 10)", "estimated(1, 11)"),
         ("P4 ", "estimated(3, 30)", "estimated(3, 20)"),
         ("P5 ", "gone(0, 0, 20, 2, roads_01, 3,", "gone(0, 0, 20, 2, roads_01, 2,"),
@@ -196,7 +203,7 @@ fn map_p_with_another_answer() {
         ("P10 ", "gone(0, 15,", "gone(0, 0,"),
         ("A1 ", "{0, 2, 1, 3, 4}", "{0, 1, 2, 3, 4}"),
         ("A1 ", "{0, 2, 3, 4, 5}", "{0, 2, 3, 4, 4}"),
-        ("A2  road 1 at 15", "20, 25, 1, 5)", "20, 25, 1, -5)"),
+        ("A2  road 1 at 15", "foreseen(1, 15, 20, 25, 1, 5)", "foreseen(1, 15, 20, 25, 1, -5)"),
         ("A2  road 4", "20, 20, 1, 0)", "20, 20, 0, 0)"),
         ("A2  road 1 closed; at 10", "25, 20, 1, -5)", "25, 20, 1, 5)"),
         ("A2  road 1 closed; road 2", "25, UNIT_NONE, 0, 0)", "25, 0, 0, 0)"),
@@ -214,6 +221,43 @@ fn map_p_with_another_answer() {
         ("replay", "{0, 45, 0, 2}", "{0, 45, 2, 0}"),
         ("replay", "{25, 2, 20, 1}", "{25, 20, 2, 1}"),
         ("replay", "{17, 1, 0, 0}", "{17, 0, 1, 0}"),
+        ("replay", "{18, 0, 0, 0}", "{12, 0, 0, 0}"),
+        ("A6  a byte", "LONGER - 1, &first, &second) == 3", "LONGER - 1, &first, &second) == 4"),
+        (
+            "A6  a byte",
+            "card_read(card, 39, &first, &second) == 1",
+            "card_read(card, 39, &first, &second) == 2",
+        ),
+        ("A6  a byte", "header.card == LONGER;", "header.card == CARD;"),
+        ("A6  road 1", "{255, 254, 255, 255, 255}", "{255, 253, 255, 255, 255}"),
+        ("A6  road 1", "gone_as(7, 0, 0, 20, 2,", "gone_as(7, 0, 0, 25, 2,"),
+        ("A6  road 1", "1, 60, 0, 0, 25, 25, 1, 0)", "1, 60, 0, 0, 25, 20, 1, -5)"),
+        (
+            "A6  road 1",
+            "called_as(0, ends, 2, 2 * N, N, &round)",
+            "called_as(1, ends, 2, 2 * N, N, &round)",
+        ),
+        ("A6  class 8", "gone_as(8, N, 18, 0,", "gone_as(8, N, 12, 0,"),
+        (
+            "A6  class 8",
+            "previewed_as(8, 2 * N, M, 9, N, 18,",
+            "previewed_as(8, 2 * N, M, 9, N, 10,",
+        ),
+        (
+            "A6  class 8",
+            "called_as(8, ends, 1, 0, 0, &wrong_number)",
+            "called_as(8, ends, 2, 0, 0, &wrong_number)",
+        ),
+        (
+            "A6  class 8",
+            "called_as(8, ends, 2, 0, 0, &refused)",
+            "called_as(7, ends, 2, 0, 0, &refused)",
+        ),
+        (
+            "A6  class 8",
+            "called_as(8, ends, 1, 0, 0, &lengths)",
+            "!called_as(8, ends, 1, 0, 0, &lengths)",
+        ),
         ("A5 ", "gone(0, 0, 3, 3, roads, 4, log)", "gone(0, 0, 3, 2, roads, 4, log)"),
         ("A5 ", "log[] = {0, 2, 1, 3}, ends", "log[] = {0, 1, 2, 3}, ends"),
         ("A5 ", "{2, 0, 3}, 4, {0, 2, 1, 3}, 3}", "{2, 0, 3}, 4, {0, 1, 2, 3}, 3}"),

@@ -9,28 +9,29 @@
 use harness::both::{with_stack, Both};
 use harness::by_tail::Listed;
 use harness::calls::{
-    Accepted, Answer, Call, Calls, Lent, Previewed, Refusal, StopList, Stopped, MOST_STOPS,
+    Accepted, Answer, Call, Calls, Lent, Previewed, Refusal, StopList, Stopped, CLASSES, MOST_STOPS,
 };
-use harness::card::{LONGEST, MOST_JUNCTIONS, MOST_ROADS};
+use harness::card::{EVERY_CLASS, LONGEST, MOST_JUNCTIONS, MOST_ROADS};
 use harness::machine::Machine;
 use harness::maps::{self, Map, Streets};
 use harness::order::{self, MOST_PAIRS};
 use harness::random::{setting, Random};
 use harness::time::{Time, CLOSED, NONE, UNASKED};
-use harness::unit::{spelled, Area, LentAreas, Unit, ANSWER_WORDS};
+use harness::unit::{spelled, Area, Header, LentAreas, Unit, ANSWER_WORDS};
 use std::thread;
 
 /// How often each call was answered with each number, 0 for accepted, and estimates with none.
 #[derive(Debug, Default)]
 struct Tally {
-    set: [usize; 18],
-    aim: [usize; 18],
-    estimate: [usize; 18],
-    go: [usize; 18],
-    preview: [usize; 18],
-    stops: [usize; 18],
+    set: [usize; Refusal::NUMBERS],
+    aim: [usize; Refusal::NUMBERS],
+    estimate: [usize; Refusal::NUMBERS],
+    go: [usize; Refusal::NUMBERS],
+    preview: [usize; Refusal::NUMBERS],
+    stops: [usize; Refusal::NUMBERS],
     none: usize,
     previews: Previews,
+    classes: Classes,
     /// How often each area had a wrong length, and at last the card.
     lengths: [usize; 9],
     /// The roads by tail, which are compared after every call.
@@ -59,14 +60,16 @@ impl Tally {
 
     /// Each answer that a call can have was met at least so often.
     fn at_least(&self, least: usize) {
-        let met = |met: &[usize; 18], numbers: &[usize]| numbers.iter().all(|&i| met[i] >= least);
+        let met = |met: &[usize; Refusal::NUMBERS], numbers: &[usize]| {
+            numbers.iter().all(|&i| met[i] >= least)
+        };
         assert!(
             met(&self.set, &[0, 9, 10, 11])
                 && met(&self.aim, &[0, 9, 12])
                 && met(&self.estimate, &[0, 9, 12, 13])
-                && met(&self.go, &[0, 9, 12, 13, 14, 15])
-                && met(&self.preview, &[0, 9, 10, 11, 12, 13])
-                && met(&self.stops, &[0, 9, 12, 14, 16, 17])
+                && met(&self.go, &[0, 9, 12, 13, 14, 15, 18])
+                && met(&self.preview, &[0, 9, 10, 11, 12, 13, 18])
+                && met(&self.stops, &[0, 9, 12, 14, 16, 17, 18])
                 && self.none >= least
                 && self.lengths.iter().all(|&met| met >= least),
             "too few of one kind: {self:?}"
@@ -104,6 +107,53 @@ impl Previews {
     fn all(&self) -> [usize; 6] {
         let Previews { less, as_much, more, opened, closed, neither } = *self;
         [less, as_much, more, opened, closed, neither]
+    }
+}
+
+/// How often classes were met.
+#[derive(Debug, Default)]
+struct Classes {
+    /// Calls by class, below 8.
+    calls: [usize; CLASSES as usize],
+    /// Goes, previews and lists of stops, with a class that some road bars, that are answered otherwise than if
+    /// every road let every class in.
+    told: [usize; 3],
+    /// Maps where every class passes, on cards without bytes and with them; and others.
+    maps: [usize; 3],
+}
+
+impl Classes {
+    fn count(&mut self, call: Call, otherwise: bool) {
+        let (which, class) = match call {
+            Call::Go { class, .. } => (0, class),
+            Call::Preview { class, .. } => (1, class),
+            Call::Stops { class, .. } => (2, class),
+            _ => return,
+        };
+        if let Some(met) = self.calls.get_mut(class as usize) {
+            *met += 1;
+        }
+        self.told[which] += otherwise as usize;
+    }
+
+    fn all(&self) -> Vec<usize> {
+        [&self.calls[..], &self.told, &self.maps].concat()
+    }
+}
+
+/// The map with every road open to every class.
+fn opened(map: &Map) -> Map {
+    let mut map = map.clone();
+    map.roads.iter_mut().for_each(|road| road.access = EVERY_CLASS);
+    map
+}
+
+/// A class below 8, or now and then one that is not.
+fn class(random: &mut Random) -> u32 {
+    match random.below(24) {
+        0 => random.pick(&[8, 9, 16, 255, 256, 1 << 31, u32::MAX - 7, u32::MAX]),
+        1..12 => 0,
+        _ => random.below(CLASSES as usize) as u32,
     }
 }
 
@@ -163,7 +213,8 @@ fn stops(random: &mut Random, n: usize) -> Call {
     }
     let (more, less) = (random.below(8) * random.below(8), random.below(20) / 19);
     let route = (count * n + more).saturating_sub(less * (more + 1));
-    Call::Stops { stops: StopList::of(&stops), route, log: lent(random, n) }
+    let class = class(random);
+    Call::Stops { class, stops: StopList::of(&stops), route, log: lent(random, n) }
 }
 
 /// A road, and a time for it. Where a junction is given, often one that leaves it.
@@ -188,13 +239,14 @@ fn random_call(random: &mut Random, map: &Map) -> Call {
         35..45 => Call::Aim { junction: number(random, n) },
         45..60 => Call::Estimate { junction: number(random, n) },
         60..80 => {
-            Call::Go { start: number(random, n), route: lent(random, n), log: lent(random, n) }
+            let (class, start) = (class(random), number(random, n));
+            Call::Go { class, start, route: lent(random, n), log: lent(random, n) }
         }
         100.. => stops(random, n),
         _ => {
             let start = number(random, n);
             let (road, time) = change(random, map, Some(start));
-            Call::Preview { road, time, start, work: work(random, n) }
+            Call::Preview { class: class(random), road, time, start, work: work(random, n) }
         }
     }
 }
@@ -237,9 +289,16 @@ fn refused_lengths(unit: &mut Unit, call: Call) -> Answer {
 fn run_list(random: &mut Random, map: &Map, calls: usize, tally: &mut Tally) {
     let pairs = order::pairs(map);
     let room = random.pick(&[pairs, pairs + 1, pairs + 100, MOST_PAIRS]).min(MOST_PAIRS);
-    let mut both = Both::prepare(map, room).unwrap();
+    let with_access = random.chance(30);
+    let mut both = match with_access {
+        true => Both::prepare_with_access(map, room),
+        false => Both::prepare(map, room),
+    }
+    .unwrap();
     let mut machine = Machine::new(map);
+    let open = opened(map);
     tally.listed.count(map);
+    tally.classes.maps[if open == *map { with_access as usize } else { 2 }] += 1;
     for _ in 0..calls {
         let call = random_call(random, map);
         if random.chance(3) {
@@ -252,18 +311,20 @@ fn run_list(random: &mut Random, map: &Map, calls: usize, tally: &mut Tally) {
             both = Both::prepare_on(both.unit).unwrap();
             machine = Machine::new(map);
         }
+        let without = (map.n() <= 200).then(|| machine.on(&open).answer(call));
         let reply = both.call(call);
         assert_eq!(reply, machine.answer(call), "{call:?}: proved (left), machine (right)");
+        tally.classes.count(call, without.is_some_and(|without| without != reply));
         tally.count(call, reply.answer);
     }
 }
 
-/// A map of up to `most` junctions whose pairs fit.
+/// A map of up to `most` junctions whose pairs fit; most have roads that bar classes.
 fn random_map(random: &mut Random, most: usize) -> Map {
     loop {
         let n = 1 + random.below(most);
         let side = 1 + random.below((most as f64).sqrt() as usize);
-        let map = match random.below(8) {
+        let mut map = match random.below(8) {
             0 => maps::even_grid(random, side, n.div_ceil(side).min(most / side)),
             1 => maps::line(n),
             2 => maps::ring(n.max(2)),
@@ -282,6 +343,9 @@ fn random_map(random: &mut Random, most: usize) -> Map {
             }
         };
         if order::pairs(&map) <= MOST_PAIRS {
+            if random.chance(70) {
+                maps::bar(random, &mut map);
+            }
             return map;
         }
     }
@@ -308,6 +372,7 @@ fn lists() {
         // The rarest answer comes about once in 1,000 calls; other seeds meet this count too.
         tally.at_least(length / 1_500);
         assert!(tally.previews.all().iter().all(|&met| met > length / 1_000), "{tally:?}");
+        assert!(tally.classes.all().iter().all(|&met| met > length / 1_000), "{tally:?}");
         let Listed { empty, several, moved, not_by_head, .. } = tally.listed;
         assert!(
             empty.iter().all(|&met| met > length / 2_000)
@@ -338,7 +403,10 @@ fn lists_on_the_largest_maps() {
             (maps::random(&mut random, 2, MOST_ROADS, LONGEST), 500),
             (maps::random(&mut random, 1, 0, 1), 500),
         ] {
+            let mut barred = map.clone();
+            maps::bar(&mut random, &mut barred);
             run_list(&mut random, &map, calls, &mut tally);
+            run_list(&mut random, &barred, calls, &mut tally);
         }
         tally.at_least(5);
     });
@@ -348,14 +416,16 @@ fn lists_on_the_largest_maps() {
 /// all of them, a preview the whole of its own.
 fn lent_of(call: Call, LentAreas { route: route_area, log: log_area, work }: &LentAreas) -> Call {
     match call {
-        Call::Go { start, route, log } => {
-            Call::Go { start, route: route.min(route_area.len()), log: log.min(log_area.len()) }
+        Call::Go { class, start, route, log } => {
+            let (route, log) = (route.min(route_area.len()), log.min(log_area.len()));
+            Call::Go { class, start, route, log }
         }
-        Call::Stops { stops, route, log } => {
-            Call::Stops { stops, route: route.min(route_area.len()), log: log.min(log_area.len()) }
+        Call::Stops { class, stops, route, log } => {
+            let (route, log) = (route.min(route_area.len()), log.min(log_area.len()));
+            Call::Stops { class, stops, route, log }
         }
-        Call::Preview { road, time, start, .. } => {
-            Call::Preview { road, time, start, work: work.len() }
+        Call::Preview { class, road, time, start, .. } => {
+            Call::Preview { class, road, time, start, work: work.len() }
         }
         call => call,
     }
@@ -523,7 +593,7 @@ fn scripts() {
         let mut previews = Previews::default();
         let (mut foreseen, mut refused_by_9) = (0, 0);
         // Lists of stops, by the number of their answer.
-        let mut stopped = [0; 18];
+        let mut stopped = [0; Refusal::NUMBERS];
         // How many scripts of each tail were made to their last call, with room for an answer more.
         let mut ended = [0; 3];
         for most in [12; 400].into_iter().chain([200; 20]).chain([MOST_JUNCTIONS]) {
@@ -538,15 +608,15 @@ fn scripts() {
             let lent = LentAreas { route, log, work: any_area(&mut random, len_of_work) };
             let calls: Vec<Call> = (0..len)
                 .map(|_| match random_call(&mut random, &map) {
-                    Call::Go { start, .. } => {
+                    Call::Go { class, start, .. } => {
                         let [route, log] =
                             [&lent.route, &lent.log].map(|area| asked(&mut random, n, area.len()));
-                        Call::Go { start, route, log }
+                        Call::Go { class, start, route, log }
                     }
-                    Call::Stops { stops, .. } => {
+                    Call::Stops { class, stops, .. } => {
                         let route = asked(&mut random, stops.len() * n, lent.route.len());
                         let log = asked(&mut random, n, lent.log.len());
-                        Call::Stops { stops, route, log }
+                        Call::Stops { class, stops, route, log }
                     }
                     call => call,
                 })
@@ -572,7 +642,7 @@ fn scripts() {
                 previews.count(answer);
             }
         }
-        let enough = [0, 12, 14, 16, 17].iter().all(|&number| stopped[number] >= 5);
+        let enough = [0, 12, 14, 16, 17, 18].iter().all(|&number| stopped[number] >= 5);
         assert!(enough, "lists of stops by their answers: {stopped:?}");
         assert!(
             foreseen > 1_000 && refused_by_9 > 50 && previews.all().iter().all(|&met| met > 10),
@@ -587,25 +657,43 @@ fn scripts() {
             "too few of one kind: {gos:?}"
         );
         assert!(ended.iter().all(|&met| met > 60), "too few of one end: {ended:?}");
-        let mut refused = Unit::new(&[0; 28], 0, 0, 0);
-        let calls = [
-            Call::Set { road: 0, time: 0 },
-            Call::Go { start: 0, route: 0, log: 0 },
-            Call::Preview { road: 0, time: 0, start: 0, work: 0 },
-            Call::Stops { stops: StopList::of(&[0, 0]), route: 0, log: 0 },
-            Call::Stops { stops: StopList::of(&[0]), route: 0, log: 0 },
-        ];
-        for (work, question) in [(0, 10), (1, 9)] {
-            let mut lent = LentAreas::of(Call::Preview { road: 0, time: 0, start: 0, work });
-            let mut out = [1; 5 * ANSWER_WORDS];
-            let answer = refused.replay(lent.lend(), &spelled(&calls), &mut out);
-            let mut want = [0; 5 * ANSWER_WORDS];
-            for (call, number) in [10, 12, question, 12, 16].into_iter().enumerate() {
-                want[ANSWER_WORDS * call] = number;
-            }
-            assert_eq!((answer, out), (Err(Refusal::Kinds), want));
-        }
     });
+}
+
+/// After a refused preparing the calls of a script are made on its header of zeros, which an empty card fits alone.
+#[test]
+fn script_after_a_refused_preparing() {
+    let list =
+        |class, stops: &[u32]| Call::Stops { class, stops: StopList::of(stops), route: 0, log: 0 };
+    let preview = |class, work| Call::Preview { class, road: 0, time: 0, start: 0, work };
+    let calls = [
+        Call::Set { road: 0, time: 0 },
+        Call::Go { class: 7, start: 0, route: 0, log: 0 },
+        Call::Go { class: 8, start: 0, route: 0, log: 0 },
+        preview(0, 0),
+        preview(8, 0),
+        list(0, &[0, 0]),
+        list(8, &[0, 0]),
+        list(8, &[0]),
+    ];
+    let nine = [9; 8];
+    for (card, refusal, work, numbers) in [
+        (&[][..], Refusal::Short, 0, [10, 12, 18, 10, 18, 12, 18, 16]),
+        (&[], Refusal::Short, 1, [10, 12, 18, 9, 9, 12, 18, 16]),
+        (&[0; 3], Refusal::Short, 0, nine),
+        (&[0; 28], Refusal::Kinds, 0, nine),
+        (&[2, 0, 0, 0], Refusal::Short, 0, nine),
+    ] {
+        let mut refused = Unit::new(card, 0, 0, 0);
+        let mut lent = LentAreas::of(preview(0, work));
+        let mut out = [1; 8 * ANSWER_WORDS];
+        let answer = refused.replay(lent.lend(), &spelled(&calls), &mut out);
+        let mut want = [0; 8 * ANSWER_WORDS];
+        for (call, number) in numbers.into_iter().enumerate() {
+            want[ANSWER_WORDS * call] = number;
+        }
+        assert_eq!((answer, out), (Err(refusal), want), "{card:?}");
+    }
 }
 
 /// A go of each pair of lengths, in one script: none, too few by one, n, more than n, all, more than there
@@ -627,7 +715,8 @@ fn scripts_of_each_length() {
             let mut calls = vec![Call::Aim { junction: random.below(n) as u32 }];
             for route in lengths(route_len) {
                 for log in lengths(log_len) {
-                    calls.push(Call::Go { start: random.below(n) as u32, route, log });
+                    let class = random.below(CLASSES as usize) as u32;
+                    calls.push(Call::Go { class, start: random.below(n) as u32, route, log });
                 }
             }
             let last = ANSWER_WORDS * calls.len();
@@ -657,8 +746,13 @@ fn scripts_of_each_length() {
 #[test]
 fn scripts_that_end_early() {
     let map = maps::map_p();
-    let go = |start, route, log| Call::Go { start, route, log };
-    let list = |stops: &[u32], route, log| Call::Stops { stops: StopList::of(stops), route, log };
+    let go = |start, route, log| Call::Go { class: 1, start, route, log };
+    let list = |stops: &[u32], route, log| Call::Stops {
+        class: 7,
+        stops: StopList::of(stops),
+        route,
+        log,
+    };
     let calls = [
         Call::Estimate { junction: 0 },
         Call::Aim { junction: 3 },
@@ -668,10 +762,10 @@ fn scripts_that_end_early() {
         Call::Estimate { junction: 0 },
         Call::Set { road: 0, time: 9 },
         go(0, 9, 4),
-        Call::Preview { road: 1, time: 15, start: 0, work: 8 },
+        Call::Preview { class: 2, road: 1, time: 15, start: 0, work: 8 },
         Call::Aim { junction: 1 },
         go(3, 4, 4),
-        Call::Preview { road: 4, time: CLOSED, start: 3, work: 8 },
+        Call::Preview { class: 8, road: 4, time: CLOSED, start: 3, work: 8 },
         list(&[3, 0, 2, 2], 16, 4),
         list(&[], 16, 4),
         list(&[3, 0, 3], 16, 4),
@@ -679,7 +773,7 @@ fn scripts_that_end_early() {
         Call::Aim { junction: 2 },
     ];
     let script = spelled(&calls);
-    assert_eq!(script.len(), 2 * 3 + 5 * 2 + 4 * 4 + 2 * 4 + 4 * 4 + 8);
+    assert_eq!(script.len(), 2 * 3 + 5 * 2 + 4 * 5 + 2 * 5 + 4 * 5 + 8);
     let lent = || LentAreas { route: Area::new(16), log: Area::new(5), work: Area::new(8) };
     let room = ANSWER_WORDS * (calls.len() + 1);
     let (mut cuts, mut kinds, mut lists, mut made) = (0, 0, 0, 0);
@@ -698,13 +792,13 @@ fn scripts_that_end_early() {
         }
         // A list of more stops than there are words.
         for count in [rest.len() as u32 + 1, rest.len() as u32 + 9, u32::MAX - 3, u32::MAX] {
-            let tail = [&[5, count, 16, 4][..], &rest].concat();
+            let tail = [&[5, 0, count, 16, 4][..], &rest].concat();
             made += run_script(&map, before, &tail, lent(), room).len();
             lists += 1;
         }
     }
     assert_eq!((cuts, kinds, lists), (script.len() + 1, 18 * 5, 18 * 4));
-    assert_eq!(made, 9 * 153 + 595);
+    assert_eq!(made, 9 * 153 + 691);
 }
 
 /// Changes to lengths, each of which question 9 refuses, by the call's header.
@@ -741,6 +835,7 @@ fn wrong_lengths_are_refused_first() {
     let mut refusals = 0;
     for map in [
         maps::map_p(),
+        maps::map_p_with_classes(),
         maps::random(&mut random, 9, 20, 7),
         maps::town(&mut random, 20, 20, Streets::USUAL),
     ] {
@@ -748,18 +843,20 @@ fn wrong_lengths_are_refused_first() {
         for _ in 0..2 {
             for (_, mut unit) in wrong_lengths(&both.unit) {
                 let n = map.n();
-                for [road, junction, entries, work] in [[0, 0, n, 2 * n], [map.m(), n, n - 1, 0]] {
-                    let (road, junction) = (road as u32, junction as u32);
+                for [road, junction, entries, work, class] in
+                    [[0, 0, n, 2 * n, 0], [map.m(), n, n - 1, 0, 8]]
+                {
+                    let [road, junction, class] = [road, junction, class].map(|word| word as u32);
                     let list = |count| StopList::of(&vec![junction; count]);
                     for call in [
                         Call::Set { road, time: CLOSED },
                         Call::Set { road, time: 0 },
                         Call::Aim { junction },
                         Call::Estimate { junction },
-                        Call::Go { start: junction, route: entries, log: entries },
-                        Call::Preview { road, time: CLOSED, start: junction, work },
-                        Call::Stops { stops: list(3), route: 3 * entries, log: entries },
-                        Call::Stops { stops: list(1), route: entries, log: entries },
+                        Call::Go { class, start: junction, route: entries, log: entries },
+                        Call::Preview { class, road, time: CLOSED, start: junction, work },
+                        Call::Stops { class, stops: list(3), route: 3 * entries, log: entries },
+                        Call::Stops { class, stops: list(1), route: entries, log: entries },
                     ] {
                         refused_lengths(&mut unit, call).unwrap_err();
                         refusals += 1;
@@ -769,7 +866,7 @@ fn wrong_lengths_are_refused_first() {
             both.call(Call::Aim { junction: 1 });
         }
     }
-    assert_eq!(refusals, 3 * 2 * (10 + 8 * 8) * 2 * 8);
+    assert_eq!(refusals, 4 * 2 * (10 + 8 * 8) * 2 * 8);
 }
 
 /// The deepest map, a line in rank order, with no more stack than c/route_unit.h says.
@@ -784,55 +881,72 @@ fn on_a_small_stack() {
         for _ in 0..2 {
             unit.aim(last).unwrap();
             let (mut route, mut log) = (vec![0; map.n()], vec![0; map.n()]);
-            let trip = unit.go(first, &mut route, &mut log).unwrap();
+            let trip = unit.go(0, first, &mut route, &mut log).unwrap();
             assert_eq!((trip.count, trip.roads), (4_096, 4_095));
             unit.aim(last).unwrap();
             assert_eq!(u64::from(unit.estimate(first).unwrap()), trip.total);
             unit.aim(last).unwrap();
             let mut work = vec![0; 2 * map.n()];
-            let previewed = unit.preview(0, CLOSED, first, &mut work).unwrap();
+            let previewed = unit.preview(0, 0, CLOSED, first, &mut work).unwrap();
             let want = Previewed { present: Some(trip.total), new: None, change: None };
             assert_eq!(previewed, want, "a line without its first road");
             let mut route = vec![0; 3 * map.n()];
-            let stopped = unit.stops(&[first, last, first], &mut route, &mut log).unwrap();
+            let stopped = unit.stops(0, &[first, last, first], &mut route, &mut log).unwrap();
             assert_eq!(stopped, Stopped::of(&[(trip.total, 4_095); 2]));
         }
     };
     thread::Builder::new().stack_size(2 << 20).spawn(calls).unwrap().join().unwrap();
 }
 
-/// A refused preparing of a card without a body leaves a header of zeros, which that card and empty areas
-/// fit, with one word for where groups start: the plain questions answer. With another number of words, 9.
+/// A refused preparing leaves a header of zeros, the card's length too. An empty card and empty areas fit it, with one
+/// word for where groups start: the plain questions answer. With another number of words, or bytes of a card, 9.
 #[test]
 fn after_a_refused_preparing() {
     for room in [0, 1, MOST_PAIRS] {
-        let mut unit = Unit::new(&[0; 28], 0, 0, room);
-        assert_eq!(unit.prepare(), Err(Refusal::Kinds));
+        let mut unit = Unit::new(&[], 0, 0, room);
+        assert_eq!(unit.prepare(), Err(Refusal::Short));
+        assert_eq!(unit.header, Header::default());
         let before = unit.clone();
         for argument in [0, 1, u32::MAX] {
             assert_eq!(unit.set(argument, CLOSED), Err(Refusal::NoRoad));
             assert_eq!(unit.aim(argument), Err(Refusal::NoJunction));
             assert_eq!(unit.estimate(argument), Err(Refusal::NoJunction));
-            assert_eq!(unit.go(argument, &mut [], &mut []), Err(Refusal::NoJunction));
-            let answer = unit.preview(argument, CLOSED, argument, &mut []);
-            assert_eq!(answer, Err(Refusal::NoRoad));
-            let answer = unit.preview(argument, CLOSED, argument, &mut [1, 2]);
-            assert_eq!(answer, Err(Refusal::Lengths));
-            let answer = unit.stops(&[argument; 2], &mut [], &mut []);
-            assert_eq!(answer, Err(Refusal::NoJunction));
-            assert_eq!(unit.stops(&[argument], &mut [], &mut []), Err(Refusal::StopCount));
+            for (class, question) in [
+                (0, None),
+                (7, None),
+                (8, Some(Refusal::NoClass)),
+                (u32::MAX, Some(Refusal::NoClass)),
+            ] {
+                let or = |refusal| Some(question.unwrap_or(refusal));
+                let go = unit.go(class, argument, &mut [], &mut []);
+                assert_eq!(go.err(), or(Refusal::NoJunction));
+                let preview = unit.preview(class, argument, CLOSED, argument, &mut []);
+                assert_eq!(preview.err(), or(Refusal::NoRoad));
+                let preview = unit.preview(class, argument, CLOSED, argument, &mut [1, 2]);
+                assert_eq!(preview, Err(Refusal::Lengths));
+                let stops = unit.stops(class, &[argument; 2], &mut [], &mut []);
+                assert_eq!(stops.err(), or(Refusal::NoJunction));
+                let stops = unit.stops(class, &[argument], &mut [], &mut []);
+                assert_eq!(stops, Err(Refusal::StopCount));
+            }
         }
         assert!(unit == before, "a refused call alters the unit");
-        for len in [0, 2] {
+        let other = |len: usize, card: &[u8]| {
+            let mut unit = unit.clone();
             unit.groups.resize(len);
+            unit.card = card.to_vec();
+            unit
+        };
+        for mut unit in [other(0, &[]), other(2, &[]), other(1, &[0]), other(1, &[0; 28])] {
             for call in [
                 Call::Set { road: 0, time: CLOSED },
                 Call::Aim { junction: 0 },
                 Call::Estimate { junction: 0 },
-                Call::Go { start: 0, route: 0, log: 0 },
-                Call::Preview { road: 0, time: CLOSED, start: 0, work: 0 },
-                Call::Stops { stops: StopList::of(&[0, 0]), route: 0, log: 0 },
-                Call::Stops { stops: StopList::of(&[]), route: 0, log: 0 },
+                Call::Go { class: 0, start: 0, route: 0, log: 0 },
+                Call::Go { class: 8, start: 0, route: 0, log: 0 },
+                Call::Preview { class: 0, road: 0, time: CLOSED, start: 0, work: 0 },
+                Call::Stops { class: 0, stops: StopList::of(&[0, 0]), route: 0, log: 0 },
+                Call::Stops { class: 8, stops: StopList::of(&[]), route: 0, log: 0 },
             ] {
                 refused_lengths(&mut unit, call).unwrap_err();
             }

@@ -1,8 +1,8 @@
 //! The proved reader and writer of cards beside the plain ones, and both beside known answers.
 
 use harness::calls::Refusal;
-use harness::card::{self, LONGEST, MOST_JUNCTIONS, MOST_ROADS};
-use harness::damage::{CardDamage, Lent, MapDamage};
+use harness::card::{self, EVERY_CLASS, LONGEST, MOST_JUNCTIONS, MOST_ROADS};
+use harness::damage::{CardDamage, Layout, Lent, MapDamage};
 use harness::maps::{self, Map, Streets};
 use harness::random::Random;
 use harness::unit;
@@ -43,11 +43,14 @@ fn write_amid(writer: Writer, roads: &[u32], order: &[u32], len: usize, fill: u8
 }
 
 /// Reads the card of two rows and writes them into an area of its length: questions 4 to 6 are
-/// answered alike, and the card comes back.
+/// answered alike, and the card comes back. With a byte for each road too, it is read alike.
 fn read_and_write(roads: &[u32], order: &[u32]) -> Reading {
     let card = laid_out(roads, order);
     let (reading, writing) = (read(&card), write(roads, order, card.len()));
     assert_eq!(reading.err(), writing.as_ref().err().copied(), "reading (left), writing (right)");
+    let bytes: Vec<u8> = (0..roads.len() / 3).map(|road| (7 * road) as u8).collect();
+    let with_access = card::with_access(&card, &bytes);
+    assert_eq!(read(&with_access), reading, "with a byte for each road (left), without (right)");
     assert!(writing.is_err() || writing == Ok(card), "another card is written");
     reading
 }
@@ -77,7 +80,7 @@ impl Tally {
 /// A card's table and the bytes of its bodies, for a case to spoil.
 #[derive(Clone)]
 struct Parts {
-    table: [u32; 7],
+    table: Vec<u32>,
     bodies: Vec<u8>,
 }
 
@@ -85,7 +88,13 @@ impl Parts {
     /// Map P: 4 junctions, 5 roads, a table of 2, 1, 28, 60, 2, 88, 16.
     fn of_map_p() -> Parts {
         let mut card = maps::map_p().card().unwrap();
-        Parts { bodies: card.split_off(28), table: [2, 1, 28, 60, 2, 88, 16] }
+        Parts { bodies: card.split_off(28), table: vec![2, 1, 28, 60, 2, 88, 16] }
+    }
+
+    /// With a byte for each road: a table of 3, 1, 40, 60, 2, 100, 16, 3, 116, 5.
+    fn with_access() -> Parts {
+        let mut card = maps::map_p_with_classes().card().unwrap();
+        Parts { bodies: card.split_off(40), table: vec![3, 1, 40, 60, 2, 100, 16, 3, 116, 5] }
     }
 
     fn card(&self) -> Vec<u8> {
@@ -97,9 +106,14 @@ impl Parts {
     }
 
     /// Bodies of other lengths in bytes, with a table that says so.
-    fn lengths(&mut self, roads: u32, order: u32) {
-        self.table = [2, 1, 28, roads, 2, 28 + roads, order];
-        self.bodies.resize((roads + order) as usize, 0);
+    fn lengths(&mut self, lengths: &[u32]) {
+        let mut at = card::table_len(lengths.len()) as u32;
+        self.table = vec![lengths.len() as u32];
+        for (kind, &len) in (1..).zip(lengths) {
+            self.table.extend([kind, at, len]);
+            at += len;
+        }
+        self.bodies.resize(lengths.iter().sum::<u32>() as usize, 0);
     }
 
     /// Another word in the bodies: 0 to 14 are map P's roads, 15 to 18 its order.
@@ -108,16 +122,80 @@ impl Parts {
     }
 }
 
+/// Question 1 asks for 4 bytes, and for the table where the first word is 2 or 3; with any other, 2 refuses.
 #[test]
 fn shorter_than_the_table() {
-    let card = maps::map_p().card().unwrap();
-    for len in 0..28 {
-        for bytes in [&card[..len], &[0; 28][..len], &[0xff; 28][..len]] {
-            assert_eq!(read(bytes), Err(Refusal::Short), "{len} bytes");
+    let [card, with_access] =
+        [maps::map_p(), maps::map_p_with_classes()].map(|map| map.card().unwrap());
+    for len in 0..=40 {
+        let want = |table| if len < table { Refusal::Short } else { Refusal::Starts };
+        assert_eq!(read(&card[..len]), Err(want(28)), "{len} bytes");
+        assert_eq!(read(&with_access[..len]), Err(want(40)), "{len} bytes with a third entry");
+        let want = if len < 4 { Refusal::Short } else { Refusal::Kinds };
+        for bytes in [&[0; 40][..len], &[0xff; 40][..len]] {
+            assert_eq!(read(bytes), Err(want), "{len} bytes");
         }
     }
-    assert_eq!(read(&card[..28]), Err(Refusal::Starts));
-    assert_eq!(read(&[0; 28]), Err(Refusal::Kinds));
+    // As many bytes as a table of 2 sections has, and a first word that asks for one of 3; and the other way round.
+    let mut asks_for_more = card.clone();
+    asks_for_more[0] = 3;
+    assert_eq!(read(&asks_for_more[..39]), Err(Refusal::Short));
+    assert_eq!(read(&asks_for_more[..40]), Err(Refusal::Kinds));
+    let mut asks_for_less = with_access.clone();
+    asks_for_less[0] = 2;
+    assert_eq!(read(&asks_for_less[..28]), Err(Refusal::Starts));
+}
+
+/// Every card of up to 48 bytes whose words are of a few values, by the first of them.
+#[test]
+fn short_cards() {
+    const FIRST: [u32; 10] = [0, 1, 2, 3, 4, 5, 255, 256, 1 << 31, u32::MAX];
+    // What may stand in the words behind it; only those are varied that the first word makes a table of, and a body's first.
+    const WORDS: [&[u32]; 11] = [
+        &[1, 2, 3, 0],
+        &[28, 40],
+        &[0, 12, 4],
+        &[2, 3, 1],
+        &[28, 40, 32],
+        &[4, 0, 8, minus(28)],
+        &[3, 4, 0],
+        &[44, 40],
+        &[0, 1, minus(44)],
+        &[0, 1],
+        &[0],
+    ];
+    let mut tally = Tally::default();
+    let mut accepted = [0; 2];
+    for first in FIRST {
+        let varied = match first {
+            2 => 7,
+            3 => 10,
+            _ => 2,
+        };
+        for len in 0..=48 {
+            // Words that are not whole have nothing to vary.
+            let places = varied.min((len / 4_usize).saturating_sub(1));
+            let mut choice = vec![0; places];
+            loop {
+                let value = |place: usize| WORDS[place][choice.get(place).copied().unwrap_or(0)];
+                let words = [first].into_iter().chain((0..11).map(value));
+                let bytes: Vec<u8> = words.flat_map(u32::to_le_bytes).collect();
+                let answer = read(&bytes[..len]);
+                tally.count(&answer);
+                accepted[(first == 3) as usize] += answer.is_ok() as usize;
+                // The next choice, as a number's digits.
+                let next = (0..places).find(|&place| {
+                    choice[place] = (choice[place] + 1) % WORDS[place].len();
+                    choice[place] > 0
+                });
+                if next.is_none() {
+                    break;
+                }
+            }
+        }
+    }
+    tally.at_least([2, 30_000, 200_000, 9_000, 15, 5, 5, 0]);
+    assert_eq!(accepted, [1, 1], "the smallest map, on 32 bytes and on 44");
 }
 
 /// What is done to map P's card.
@@ -139,9 +217,9 @@ const KINDS: &[Case] = &[
     ("second kind 3", |p| p.table[4] = 3),
     ("second kind and the highest bit", |p| p.table[4] |= 1 << 31),
     ("kinds swapped", |p| p.table.swap(1, 4)),
-    ("entries swapped", |p| p.table = [2, 2, 88, 16, 1, 28, 60]),
+    ("entries swapped", |p| p.table = vec![2, 2, 88, 16, 1, 28, 60]),
     ("entries and bodies swapped", |p| {
-        p.table = [2, 2, 28, 16, 1, 44, 60];
+        p.table = vec![2, 2, 28, 16, 1, 44, 60];
         p.bodies.rotate_left(60);
     }),
 ];
@@ -175,7 +253,7 @@ const STARTS: &[Case] = &[
     ("a byte more", |p| p.bodies.push(0)),
     ("a word more", |p| p.bodies.extend([0; 4])),
     ("a gap after the table", |p| {
-        p.table = [2, 1, 32, 60, 2, 92, 16];
+        p.table = vec![2, 1, 32, 60, 2, 92, 16];
         p.bodies.splice(..0, [0; 4]);
     }),
     ("a gap between the bodies", |p| {
@@ -186,13 +264,88 @@ const STARTS: &[Case] = &[
         p.table[5] = 76;
         p.bodies.truncate(64);
     }),
-    ("roads in the table", |p| p.table = [2, 1, 0, 12, 2, 12, 92]),
+    ("roads in the table", |p| p.table = vec![2, 1, 0, 12, 2, 12, 92]),
     // The card has 104 bytes: only a sum that wraps is its length or the second start.
-    ("roads to 2^32", |p| p.table = [2, 1, 28, minus(28), 2, 0, 104]),
-    ("roads past 2^32", |p| p.table = [2, 1, 28, minus(12), 2, 16, 88]),
-    ("order past 2^32", |p| p.table = [2, 1, 28, 60, 2, 88, minus(88)]),
-    ("order past 2^32 to the end", |p| p.table = [2, 1, 28, 120, 2, 148, minus(44)]),
-    ("order all past 2^32", |p| p.table = [2, 1, 28, minus(40), 2, minus(12), 116]),
+    ("roads to 2^32", |p| p.table = vec![2, 1, 28, minus(28), 2, 0, 104]),
+    ("roads past 2^32", |p| p.table = vec![2, 1, 28, minus(12), 2, 16, 88]),
+    ("order past 2^32", |p| p.table = vec![2, 1, 28, 60, 2, 88, minus(88)]),
+    ("order past 2^32 to the end", |p| p.table = vec![2, 1, 28, 120, 2, 148, minus(44)]),
+    ("order all past 2^32", |p| p.table = vec![2, 1, 28, minus(40), 2, minus(12), 116]),
+];
+
+/// The same of map P's card with a byte for each road.
+const KINDS_OF_3: &[Case] = &[
+    ("no section", |p| p.table[0] = 0),
+    ("1 section", |p| p.table[0] = 1),
+    ("4 sections", |p| p.table[0] = 4),
+    ("3 in the second byte", |p| p.table[0] = 3 << 8),
+    ("3 and the highest bit", |p| p.table[0] |= 1 << 31),
+    ("first kind 0", |p| p.table[1] = 0),
+    ("first kind 2", |p| p.table[1] = 2),
+    ("first kind 257", |p| p.table[1] = 257),
+    ("second kind 1", |p| p.table[4] = 1),
+    ("second kind 3", |p| p.table[4] = 3),
+    ("third kind 0", |p| p.table[7] = 0),
+    ("third kind 1", |p| p.table[7] = 1),
+    ("third kind 2", |p| p.table[7] = 2),
+    ("third kind 4", |p| p.table[7] = 4),
+    ("third kind 259", |p| p.table[7] = 259),
+    ("third kind and the highest bit", |p| p.table[7] |= 1 << 31),
+    ("kinds 1, 3, 2", |p| p.table.swap(4, 7)),
+    ("kinds 3, 2, 1", |p| p.table.swap(1, 7)),
+    ("kinds 1, 2, 2", |p| p.table[7] = 2),
+    ("kinds 1, 3, 3", |p| p.table[4] = 3),
+    ("kinds 2, 3, 4", |p| (p.table[1], p.table[4], p.table[7]) = (2, 3, 4)),
+    ("2 sections, of kinds 1 and 3", |p| {
+        p.table = vec![2, 1, 28, 60, 3, 88, 5];
+        p.bodies.drain(60..76);
+    }),
+    ("2 sections, of kinds 2 and 3", |p| {
+        p.table = vec![2, 2, 28, 16, 3, 44, 5];
+        p.bodies.drain(..60);
+    }),
+    ("the third body first", |p| {
+        p.table = vec![3, 3, 40, 5, 1, 45, 60, 2, 105, 16];
+        p.bodies.rotate_right(5);
+    }),
+];
+
+const STARTS_OF_3: &[Case] = &[
+    ("first start 28", |p| p.table[2] = 28),
+    ("first start 39", |p| p.table[2] = 39),
+    ("first start 41", |p| p.table[2] = 41),
+    ("second start 99", |p| p.table[5] = 99),
+    ("second start 101", |p| p.table[5] = 101),
+    ("third start 0", |p| p.table[8] = 0),
+    ("third start 40", |p| p.table[8] = 40),
+    ("third start 115", |p| p.table[8] = 115),
+    ("third start 117", |p| p.table[8] = 117),
+    ("third start largest", |p| p.table[8] = u32::MAX),
+    ("second length 15", |p| p.table[6] = 15),
+    ("third length 0", |p| p.table[9] = 0),
+    ("third length 4", |p| p.table[9] = 4),
+    ("third length 6", |p| p.table[9] = 6),
+    ("third length largest", |p| p.table[9] = u32::MAX),
+    ("third entry the second's", |p| (p.table[8], p.table[9]) = (100, 16)),
+    ("a byte less", |p| p.bodies.truncate(80)),
+    ("a byte more", |p| p.bodies.push(255)),
+    ("no third body", |p| p.bodies.truncate(76)),
+    ("no bodies", |p| p.bodies.clear()),
+    ("a gap before the third", |p| {
+        p.table[8] = 120;
+        p.bodies.splice(76..76, [0; 4]);
+    }),
+    ("a table of 2 entries and a body more", |p| {
+        p.table = vec![2, 1, 28, 60, 2, 88, 16];
+    }),
+    ("bodies that begin in the table", |p| {
+        p.table = vec![3, 1, 28, 60, 2, 88, 16, 3, 104, 5];
+        p.bodies.drain(..12);
+    }),
+    // The card has 121 bytes: only a sum that wraps is its length or a start.
+    ("roads to 2^32", |p| p.table = vec![3, 1, 40, minus(40), 2, 0, 16, 3, 16, 105]),
+    ("order past 2^32", |p| p.table = vec![3, 1, 40, 60, 2, 100, minus(84), 3, 16, 105]),
+    ("third past 2^32", |p| p.table = vec![3, 1, 40, 60, 2, 100, minus(200), 3, minus(100), 221]),
 ];
 
 /// 2^32 less `by`.
@@ -202,13 +355,22 @@ const fn minus(by: u32) -> u32 {
 
 #[test]
 fn kinds_and_starts() {
-    for (cases, want) in [(KINDS, Refusal::Kinds), (STARTS, Refusal::Starts)] {
+    let (mut cases_met, of_map_p) = (0, Parts::of_map_p as fn() -> Parts);
+    assert_eq!(read(&Parts::with_access().card()), Ok((4, 5)));
+    for (cases, parts, want) in [
+        (KINDS, of_map_p, Refusal::Kinds),
+        (STARTS, of_map_p, Refusal::Starts),
+        (KINDS_OF_3, Parts::with_access, Refusal::Kinds),
+        (STARTS_OF_3, Parts::with_access, Refusal::Starts),
+    ] {
         for (name, spoil) in cases {
-            let mut parts = Parts::of_map_p();
+            let mut parts = parts();
             spoil(&mut parts);
             assert_eq!(read(&parts.card()), Err(want), "{name}");
+            cases_met += 1;
         }
     }
+    assert_eq!(cases_met, 17 + 36 + 24 + 26);
 }
 
 #[test]
@@ -218,7 +380,7 @@ fn lengths_of_the_bodies() {
     for roads in (0..=60).chain(most[0] - 13..=most[0] + 13).chain([2 * most[0], 1 << 20]) {
         for order in (0..=20).chain(most[1] - 5..=most[1] + 5).chain([2 * most[1], 1 << 20]) {
             let mut parts = Parts::of_map_p();
-            parts.lengths(roads, order);
+            parts.lengths(&[roads, order]);
             let answer = read(&parts.card());
             let fits = roads % 12 == 0
                 && roads <= most[0]
@@ -229,6 +391,50 @@ fn lengths_of_the_bodies() {
         }
     }
     tally.at_least([3, 0, 0, 0, 3_000, 20, 20, 0]);
+}
+
+/// The third length is to be m, with the other two in their ranges and out of them.
+#[test]
+fn lengths_of_the_third_body() {
+    let mut tally = Tally::default();
+    let most = [12 * MOST_ROADS as u32, 4 * MOST_JUNCTIONS as u32];
+    for roads in (0..=60).chain([most[0] - 12, most[0], most[0] + 12]) {
+        for order in [0, 4, 8, 16, 17, most[1], most[1] + 4] {
+            let m = roads / 12;
+            let near =
+                [0, m.saturating_sub(1), m, m + 1, 4 * m, 12 * m, roads, m + 256, m + 65_536];
+            for access in near.into_iter().chain(0..=7) {
+                let mut parts = Parts::with_access();
+                parts.lengths(&[roads, order, access]);
+                let answer = read(&parts.card());
+                let fits = roads % 12 == 0
+                    && roads <= most[0]
+                    && order % 4 == 0
+                    && (4..=most[1]).contains(&order)
+                    && access == m;
+                assert_eq!(answer != Err(Refusal::Sizes), fits, "{roads}, {order}, {access} bytes");
+                tally.count(&answer);
+            }
+        }
+    }
+    tally.at_least([10, 0, 0, 0, 5_000, 20, 20, 0]);
+}
+
+/// No byte of a road is refused, whatever it is, and the map has it.
+#[test]
+fn every_byte_of_a_road() {
+    for byte in 0..=u8::MAX {
+        let mut parts = Parts::with_access();
+        parts.bodies[76..].copy_from_slice(&[byte, !byte, 0, 255, byte]);
+        let card = parts.card();
+        assert_eq!(read(&card), Ok((4, 5)));
+        assert_eq!(card::map(&card).unwrap().2, [byte, !byte, 0, 255, byte]);
+    }
+    let plain = maps::map_p().card().unwrap();
+    assert_eq!(card::map(&plain).unwrap().2, [EVERY_CLASS; 5], "255 where there are none");
+    // An empty third section, where there is no road.
+    let map = maps::random(&mut Random::new(8), 3, 0, 1);
+    assert_eq!(read(&map.card_with_access().unwrap()), Ok((3, 0)));
 }
 
 /// `m` roads to and fro between two junctions, with the shortest and the longest base times, and an
@@ -376,7 +582,7 @@ fn the_first_question_that_fails_answers() {
     let faults: [fn(&mut Parts); 5] = [
         |p| p.word(18, 1),
         |p| p.word(14, 0),
-        |p| p.lengths(61, 16),
+        |p| p.lengths(&[61, 16]),
         |p| p.table[2] = 29,
         |p| p.table[0] = 3,
     ];
@@ -398,6 +604,51 @@ fn the_first_question_that_fails_answers() {
         tally.count(&answer);
     }
     tally.at_least([1, 32, 16, 8, 4, 2, 1, 0]);
+}
+
+/// The same with both halves of 1 and 2, on cards of two sections and of three.
+#[test]
+fn the_first_half_that_fails_answers() {
+    // From the last that is asked to the first.
+    const ASKED: [u32; 8] = [6, 5, 4, 3, 2, 1, 2, 1];
+    let mut tally = Tally::default();
+    for sections in [2, 3] {
+        for subset in 0..1 << ASKED.len() {
+            let fails = |i: usize| subset >> i & 1 == 1;
+            let mut parts = if sections == 2 { Parts::of_map_p() } else { Parts::with_access() };
+            if fails(0) {
+                parts.word(18, 1);
+            }
+            if fails(1) {
+                parts.word(14, 0);
+            }
+            if fails(2) {
+                let lengths = [&[61, 16][..], &[60, 16, 6]][sections - 2];
+                parts.lengths(lengths);
+            }
+            if fails(3) {
+                parts.table[3 * sections - 1] += 1;
+            }
+            if fails(4) {
+                parts.table[3 * sections - 2] += 1;
+            }
+            if fails(6) {
+                parts.table[0] = 4;
+            }
+            let mut card = parts.card();
+            if fails(5) {
+                card.truncate(card::table_len(sections) - 1);
+            }
+            if fails(7) {
+                card.truncate(3);
+            }
+            let first = (0..ASKED.len()).rev().find(|&i| fails(i)).map_or(0, |i| ASKED[i]);
+            let answer = read(&card);
+            assert_eq!(answer.map_or_else(Refusal::number, |_| 0), first, "{sections}: {subset:b}");
+            tally.count(&answer);
+        }
+    }
+    tally.at_least([2, 256 + 64, 128 + 32, 16, 8, 4, 2, 0]);
 }
 
 #[test]
@@ -459,8 +710,14 @@ fn areas_of_another_length() {
 #[ignore = "lends 4 GiB, of which only the first page is touched"]
 fn lengths_past_32_bits() {
     let mut card = vec![0; 1 << 32];
-    card[..28]
-        .copy_from_slice(&Parts { table: [2, 1, 28, 0, 2, 28, minus(28)], bodies: vec![] }.card());
+    card[..28].copy_from_slice(
+        &Parts { table: vec![2, 1, 28, 0, 2, 28, minus(28)], bodies: vec![] }.card(),
+    );
+    for read in [unit::read, card::read] {
+        assert_eq!(read(&card), Err(Refusal::Starts));
+    }
+    let table = vec![3, 1, 40, 0, 2, 40, 4, 3, 44, minus(44)];
+    card[..40].copy_from_slice(&Parts { table, bodies: vec![] }.card());
     for read in [unit::read, card::read] {
         assert_eq!(read(&card), Err(Refusal::Starts));
     }
@@ -504,45 +761,81 @@ fn there_and_back() {
         let (roads, order) = map.rows();
         let card = write(&roads, &order, card::len(map.n(), map.m())).unwrap();
         assert_eq!(read(&card), Ok((map.n() as u32, map.m() as u32)));
-        assert!(card::map(&card) == Ok((roads, order)), "another map comes back");
+        let every_class = vec![EVERY_CLASS; map.m()];
+        assert!(card::map(&card) == Ok((roads, order, every_class)), "another map comes back");
         // The same at each alignment.
-        for offset in 0..4 {
-            let bytes = [&[0xff; 4][..offset], &card, &[0xff; 4]].concat();
-            read(&bytes[offset..][..card.len()]).unwrap();
+        for card in [&card, &map.card_with_access().unwrap()] {
+            for offset in 0..4 {
+                let bytes = [&[0xff; 4][..offset], card, &[0xff; 4]].concat();
+                read(&bytes[offset..][..card.len()]).unwrap();
+            }
         }
     }
     assert!(maps.iter().filter(|map| map.m() == 0).count() >= 10);
     assert!(maps.iter().filter(|map| map.n() > 100).count() >= 100);
 }
 
-/// Damages maps' cards in each way in turn, some in a second way too.
-#[test]
-fn damaged_cards() {
-    let mut random = Random::new(2);
-    let maps: Vec<_> = varied(&mut random, 1_000)
-        .iter()
-        .map(|map| (map.card().unwrap(), map.n(), map.m()))
-        .collect();
-    let mut tally = Tally::default();
-    let mut damaged = [0; CardDamage::ALL.len()];
+/// How often a kind of damage was met, and each answer, on cards without bytes for classes or with them.
+struct Damaged {
+    kinds: [usize; CardDamage::ALL.len()],
+    tally: Tally,
+    /// Accepted, with two sections and with three.
+    accepted: [usize; 2],
+}
+
+/// Damages maps' cards in each way in turn, some in a second way too. An accepted one of two sections comes back when
+/// its map is written, one of three without its third.
+fn damaged(seed: u64, access: bool) -> Damaged {
+    let mut random = Random::new(seed);
+    let mut varied = varied(&mut random, 1_000);
+    if access {
+        varied.iter_mut().for_each(|map| maps::bar(&mut random, map));
+    }
+    let card = |map: &Map| if access { map.card_with_access() } else { map.card() }.unwrap();
+    let cards: Vec<(Vec<u8>, Layout)> =
+        varied.iter().map(|map| (card(map), Layout { access, ..Layout::of(map) })).collect();
+    let (kinds, tally) = ([0; CardDamage::ALL.len()], Tally::default());
+    let mut met = Damaged { kinds, tally, accepted: [0; 2] };
     for i in 0..100_000 {
-        let (whole, n, m) = &maps[random.below(maps.len())];
+        let (whole, layout) = &cards[random.below(cards.len())];
         let kind = i % CardDamage::ALL.len();
         let mut card = whole.clone();
-        CardDamage::ALL[kind].apply(&mut random, &mut card, *n, *m);
-        damaged[kind] += (card != *whole) as usize;
+        CardDamage::ALL[kind].apply(&mut random, &mut card, *layout);
+        met.kinds[kind] += (card != *whole) as usize;
         if random.chance(25) {
-            random.pick(&CardDamage::ALL).apply(&mut random, &mut card, *n, *m);
+            random.pick(&CardDamage::ALL).apply(&mut random, &mut card, *layout);
         }
         let answer = read(&card);
-        tally.count(&answer);
-        if answer.is_ok() {
-            let (roads, order) = card::map(&card).unwrap();
-            assert!(write(&roads, &order, card.len()) == Ok(card), "another card comes back");
+        met.tally.count(&answer);
+        if let Ok((n, m)) = answer {
+            let (roads, order, access) = card::map(&card).unwrap();
+            let written = write(&roads, &order, card::len(n as usize, m as usize)).unwrap();
+            let with_access = card::with_access(&written, &access);
+            let three = card[0] == 3;
+            assert!(card == if three { with_access } else { written }, "another card comes back");
+            assert!(three || access.iter().all(|&byte| byte == EVERY_CLASS));
+            met.accepted[three as usize] += 1;
         }
     }
-    assert!(damaged.iter().all(|&met| met >= 7_000), "{damaged:?}");
-    tally.at_least([10_000, 5_000, 10_000, 20_000, 5_000, 10_000, 10_000, 0]);
+    met
+}
+
+#[test]
+fn damaged_cards() {
+    let Damaged { kinds, tally, accepted } = damaged(2, false);
+    let bytes = CardDamage::ALL.iter().position(|&kind| kind == CardDamage::AccessByte).unwrap();
+    let enough = |(i, &met): (usize, &usize)| met >= 5_000 || i == bytes;
+    assert!(kinds.iter().enumerate().all(enough), "{kinds:?}");
+    tally.at_least([10_000, 5_000, 10_000, 15_000, 5_000, 10_000, 10_000, 0]);
+    assert!(accepted[0] > 10_000 && accepted[1] > 2_000, "{accepted:?}");
+}
+
+#[test]
+fn damaged_cards_with_classes() {
+    let Damaged { kinds, tally, accepted } = damaged(4, true);
+    assert!(kinds.iter().all(|&met| met >= 5_000), "{kinds:?}");
+    tally.at_least([10_000, 5_000, 10_000, 15_000, 5_000, 10_000, 10_000, 0]);
+    assert!(accepted[0] > 2_000 && accepted[1] > 10_000, "{accepted:?}");
 }
 
 /// Damages what is lent for maps' cards in each way in turn, some in a second way too.

@@ -1,5 +1,5 @@
 //! The search effort of the proved unit as an exact figure (document 02, A5), with no search: least times from the
-//! start and estimates by rounds over all roads. A found route's log is the junctions whose two add up to no more than
+//! start over open roads of the class (A6) and estimates over all roads, by rounds over all roads. A found route's log is the junctions whose two add up to no more than
 //! the total, by key, time and number; where no chain exists, those that have both. Roads, times and filled estimates
 //! follow from that log; only what lies above a junction is shared, with `Literal`. Beside it stands the search of document 01, equal keys by number alone, to count how often
 //! the two part.
@@ -7,7 +7,9 @@
 use harness::areas;
 use harness::both::{same, with_stack, Both};
 use harness::brute;
-use harness::calls::{Accepted, Answer, Call, Calls, Previewed, Refusal, StopList, Stopped, Trip};
+use harness::calls::{
+    Accepted, Answer, Call, Calls, Previewed, Refusal, StopList, Stopped, Trip, CLASSES,
+};
 use harness::graph::Graph;
 use harness::literal::{Literal, Searched};
 use harness::machine::{Machine, Reply};
@@ -41,6 +43,14 @@ impl Chart {
     /// Each junction's least base total to a target.
     fn estimates(&self, target: u32) -> Vec<Time> {
         brute::least(&self.turned, &self.turned.base(), target)
+    }
+
+    /// The times that a class meets: each of its roads is one that stands in the list of those that let it in.
+    fn met_by(&self, class: u32, live: &[Time]) -> Vec<Time> {
+        let lets_in =
+            |access: u8| (0..8).filter(|bit| access >> bit & 1 == 1).any(|bit| bit == class);
+        let roads = self.map().roads.iter().zip(live);
+        roads.map(|(road, &live)| if lets_in(road.access) { live } else { CLOSED }).collect()
     }
 
     /// What A5's figure says of a search.
@@ -180,9 +190,11 @@ impl Trial {
                 self.fill(&fills);
                 return Ok(Accepted::Estimate(self.estimates[junction as usize]));
             }
-            Call::Go { start, .. } => {
-                let [new, old] = self.searches(&self.live, start);
-                met.go.count(&self.chart, &self.live, self.target, &new, &old);
+            Call::Go { class, start, .. } => {
+                let [new, old] = self.searches(class, &self.live, start);
+                let live = self.chart.met_by(class, &self.live);
+                met.go.count(&self.chart, &live, self.target, &new, &old);
+                met.bars.count(&self.chart, &self.live, class, start, self.target, &new);
                 met.go.other_fills += self.shown(&new.fills, &old.fills) as usize;
                 met.changed += (self.live != self.chart.map().base()) as usize;
                 met.closed += self.live.contains(&CLOSED) as usize;
@@ -192,10 +204,11 @@ impl Trial {
                 let total = new.total.ok_or(Refusal::NoPath(count))?;
                 return Ok(Accepted::Trip(Trip { total, count, roads }));
             }
-            Call::Preview { road, time, start, .. } => {
+            Call::Preview { class, road, time, start, .. } => {
                 let mut replaced = self.live.clone();
                 replaced[road as usize] = time;
-                let [now, then] = [&self.live, &replaced].map(|live| self.searches(live, start));
+                let [now, then] =
+                    [&self.live, &replaced].map(|live| self.searches(class, live, start));
                 let [new, old] = [0, 1].map(|order| {
                     let fills = now[order].fills.iter().zip(&then[order].fills);
                     fills.map(|(now, then)| now | then).collect::<Vec<bool>>()
@@ -207,7 +220,7 @@ impl Trial {
                 let change = present.zip(new).map(|(present, new)| new as i64 - present as i64);
                 return Ok(Accepted::Previewed(Previewed { present, new, change }));
             }
-            Call::Stops { stops, .. } => return self.journey(&stops, lent, met),
+            Call::Stops { class, stops, .. } => return self.journey(class, &stops, lent, met),
         }
         Ok(Accepted::Done)
     }
@@ -217,12 +230,13 @@ impl Trial {
         self.estimates.fill(UNASKED);
     }
 
-    /// A search by A5's figure, and by document 01's order of ties.
-    fn searches(&self, live: &[Time], start: u32) -> [Searched; 2] {
-        let new = self.chart.figure(live, start, self.target);
-        let literal = self.chart.literal.search(live, start, self.target);
+    /// A search of a class by A5's figure, and by document 01's order of ties.
+    fn searches(&self, class: u32, live: &[Time], start: u32) -> [Searched; 2] {
+        let literal = self.chart.literal.search(class, live, start, self.target);
+        let live = self.chart.met_by(class, live);
+        let new = self.chart.figure(&live, start, self.target);
         assert_eq!(literal, new, "as the sentences have it (left), figure (right)");
-        [new, self.chart.by_number(live, start, self.target)]
+        [new, self.chart.by_number(&live, start, self.target)]
     }
 
     /// Would the estimates be left otherwise?
@@ -248,13 +262,20 @@ impl Trial {
     }
 
     /// Each leg is an aim and a go; the last one's log is the last to be written.
-    fn journey(&mut self, stops: &[u32], lent: &mut LentAreas, met: &mut Met) -> Answer {
+    fn journey(
+        &mut self,
+        class: u32,
+        stops: &[u32],
+        lent: &mut LentAreas,
+        met: &mut Met,
+    ) -> Answer {
         let (mut legs, mut roads) = (Vec::new(), 0);
         for (leg, ends) in (0..).zip(stops.windows(2)) {
             self.aim(ends[1]);
-            let [new, old] = self.searches(&self.live, ends[0]);
+            let [new, old] = self.searches(class, &self.live, ends[0]);
             if new.total.is_none() || leg as usize == stops.len() - 2 {
-                met.last_leg.count(&self.chart, &self.live, self.target, &new, &old);
+                let live = self.chart.met_by(class, &self.live);
+                met.last_leg.count(&self.chart, &live, self.target, &new, &old);
                 met.last_leg.other_fills += self.shown(&new.fills, &old.fills) as usize;
             }
             self.made(&new, lent, roads);
@@ -279,6 +300,68 @@ struct Met {
     previews: usize,
     /// Previews that would fill other estimates by document 01's order.
     other_fills: usize,
+    bars: Bars,
+}
+
+/// How often roads that bar the class of a go tell.
+#[derive(Debug, Default)]
+struct Bars {
+    /// Of the goes where some do: a larger total than if none did, and no chain where there would be one.
+    longer: usize,
+    lost: usize,
+    /// With the same total, a log of fewer junctions, of other ones as many or more, and other roads.
+    fewer: usize,
+    other_log: usize,
+    other_roads: usize,
+    /// More junctions are logged, with a larger total.
+    more: usize,
+    /// Fewer estimates are filled, if all were unasked.
+    fewer_fills: usize,
+    /// The start's estimate, which is over all roads, is below the least base total of the class, or this has none.
+    below: usize,
+}
+
+impl Bars {
+    fn count(
+        &mut self,
+        chart: &Chart,
+        live: &[Time],
+        class: u32,
+        start: u32,
+        target: u32,
+        new: &Searched,
+    ) {
+        let met = chart.met_by(class, live);
+        if met == live {
+            return;
+        }
+        let open = chart.figure(live, start, target);
+        match (open.total, new.total) {
+            (Some(open), Some(new)) if open < new => self.longer += 1,
+            (Some(_), None) => self.lost += 1,
+            _ => {
+                self.fewer += (new.log.len() < open.log.len()) as usize;
+                self.other_log += (new.log.len() >= open.log.len() && new.log != open.log) as usize;
+                self.other_roads += (new.route != open.route) as usize;
+            }
+        }
+        self.more += (new.log.len() > open.log.len()) as usize;
+        let fills = |searched: &Searched| searched.fills.iter().filter(|&&fills| fills).count();
+        self.fewer_fills += (fills(new) < fills(&open)) as usize;
+        let estimates = chart.estimates(target);
+        let base = chart.met_by(class, &chart.map().base());
+        let of_class = |junction: u32| brute::least(chart.map(), &base, junction)[target as usize];
+        let first = new.log.first();
+        self.below +=
+            first.is_some_and(|&first| estimates[first as usize] < of_class(first)) as usize;
+    }
+
+    /// Each was met at least so often; another log as long, which is rare, a tenth as often.
+    fn at_least(&self, least: usize) -> bool {
+        let Bars { longer, lost, fewer, other_log, other_roads, more, fewer_fills, below } = *self;
+        let all = [longer, lost, fewer, 10 * other_log, other_roads, more, fewer_fills, below];
+        all.iter().all(|&met| met >= least)
+    }
 }
 
 #[derive(Debug, Default)]
@@ -394,6 +477,9 @@ fn tied_map(random: &mut Random, side: usize) -> Map {
         map.roads.push(Road { base: road.base + random.pick(&[0, 0, 1]), ..road });
     }
     random.shuffle(&mut map.roads);
+    if random.chance(50) {
+        maps::bar(random, &mut map);
+    }
     map
 }
 
@@ -428,7 +514,8 @@ fn every_trip() {
         for junction in 0..n as u32 {
             for start in 0..n as u32 {
                 trial.call(Call::Aim { junction }, &mut met);
-                trial.call(Call::Go { start, route: n, log: n }, &mut met);
+                let class = random.below(CLASSES as usize) as u32;
+                trial.call(Call::Go { class, start, route: n, log: n }, &mut met);
             }
         }
     }
@@ -447,6 +534,7 @@ fn every_trip() {
         other_fills: 1_200,
     };
     assert!(met.go.at_least(least), "{met:?}");
+    assert!(met.bars.at_least(400), "{met:?}");
 }
 
 /// Any of the six calls, which no question before 15 and 17 refuses.
@@ -455,17 +543,18 @@ fn any_call(random: &mut Random, map: &Map) -> Call {
     let junction = random.below(n) as u32;
     let road = random.below(map.m().max(1)) as u32;
     let time = time(random, map.roads.get(road as usize).map_or(1, |road| road.base));
+    let class = random.below(CLASSES as usize) as u32;
     match random.below(20) {
         0..5 if map.m() > 0 => Call::Set { road, time },
         5..8 => Call::Aim { junction },
         8 => Call::Estimate { junction },
-        9..12 if map.m() > 0 => Call::Preview { road, time, start: junction, work: 2 * n },
+        9..12 if map.m() > 0 => Call::Preview { class, road, time, start: junction, work: 2 * n },
         12..14 => {
             let count = 2 + random.below(4);
             let stops: Vec<u32> = (0..count).map(|_| random.below(n) as u32).collect();
-            Call::Stops { stops: StopList::of(&stops), route: count * n, log: n }
+            Call::Stops { class, stops: StopList::of(&stops), route: count * n, log: n }
         }
-        _ => Call::Go { start: junction, route: n, log: n },
+        _ => Call::Go { class, start: junction, route: n, log: n },
     }
 }
 
@@ -513,6 +602,7 @@ fn lists() {
         other_fills: 150,
     };
     assert!(met.last_leg.at_least(least), "{met:?}");
+    assert!(met.bars.at_least(200), "{met:?}");
     assert!(
         met.changed > 20_000
             && met.closed > 15_000
@@ -546,7 +636,7 @@ fn grids() {
                         trial.call(Call::Set { road, time: CLOSED }, &mut met);
                     }
                 }
-                trial.call(Call::Go { start, route: n, log: n }, &mut met);
+                trial.call(Call::Go { class: 0, start, route: n, log: n }, &mut met);
             }
         }
         let least = Searches {
@@ -569,7 +659,7 @@ fn grids() {
 
 /// Roads by number, in an order that ranks junction 0 highest.
 fn map(n: u32, roads: &[(u32, u32, Time)]) -> Map {
-    let road = |&(tail, head, base): &(u32, u32, Time)| Road { tail, head, base };
+    let road = |&(tail, head, base): &(u32, u32, Time)| Road::new(tail, head, base);
     Map { roads: roads.iter().map(road).collect(), order: (0..n).rev().collect() }
 }
 
@@ -588,8 +678,8 @@ fn a_tie_that_changes_the_route() {
     let (log, route) = (vec![0, 2, 1, 3], vec![2, 0, 3]);
     let (mut both, mut machine) = (aimed(&map, 3), Machine::new(&map));
     machine.answer(Call::Aim { junction: 3 });
-    let go = Call::Go { start: 0, route: 4, log: 4 };
-    let stops = Call::Stops { stops: StopList::of(&[0, 3]), route: 8, log: 4 };
+    let go = Call::Go { class: 0, start: 0, route: 4, log: 4 };
+    let stops = Call::Stops { class: 0, stops: StopList::of(&[0, 3]), route: 8, log: 4 };
     let stopped = Stopped::of(&[(3, 3)]);
     for (call, answer) in [
         (go, Accepted::Trip(Trip { total: 3, count: 4, roads: 3 })),
@@ -600,19 +690,54 @@ fn a_tie_that_changes_the_route() {
         assert_eq!(machine.answer(call), want);
     }
     let mut lent = LentAreas::of(stops);
-    let answer = areas::stops(&mut both.unit, &[0, 3], &mut lent.route, &mut lent.log);
+    let answer = areas::stops(&mut both.unit, 0, &[0, 3], &mut lent.route, &mut lent.log);
     assert_eq!(answer, Ok(stopped));
     assert_eq!((&lent.route[..3], &lent.log[..]), (&route[..], &log[..]));
 
     let chart = Chart::new(map);
     let (live, estimates) = (chart.map().base(), chart.estimates(3));
-    let by_heap = search(&Graph::new(chart.map()), &live, 0, 3, |at| estimates[at as usize]);
+    let time = |road: u32| live[road as usize];
+    let by_heap = search(&Graph::new(chart.map()), time, 0, 3, |at| estimates[at as usize]);
     assert_eq!((by_heap.log, by_heap.found), (log.clone(), Some((3, route.clone()))));
-    for searched in [chart.figure(&live, 0, 3), chart.literal.search(&live, 0, 3)] {
+    for searched in [chart.figure(&live, 0, 3), chart.literal.search(0, &live, 0, 3)] {
         assert_eq!((searched.log, searched.route), (log.clone(), route.clone()));
     }
     let old = chart.by_number(&live, 0, 3);
     assert_eq!((old.log, old.route), (vec![0, 1, 2, 3], vec![1, 3]));
+}
+
+/// Map P with road 1 barred to class 0 and road 3 to class 1. The count is the number of junctions whose least time over
+/// open roads of the class plus estimate is within the total; the estimates are over all roads.
+#[test]
+fn effort_of_classes() {
+    let mut map = maps::map_p_with_classes();
+    map.roads[3].access = !2;
+    let mut both = aimed(&map, 3);
+    let chart = Chart::new(map);
+    for (class, start, total, log) in [
+        // 1 and 2 have the keys 20 and 25.
+        (0, 0, Some(25), &[0, 1, 2, 3][..]),
+        (1, 0, Some(20), &[0, 1, 3]),
+        (2, 0, Some(20), &[0, 1, 3]),
+        // From 1 and from 2 one class alone gets on; the estimate of 10 stays.
+        (0, 1, None, &[1]),
+        (1, 1, Some(10), &[1, 3]),
+        (0, 2, Some(10), &[2, 3]),
+        (1, 2, None, &[2]),
+    ] {
+        let reply = both.call(Call::Go { class, start, route: 4, log: 4 });
+        assert_eq!(reply.log, log, "class {class} from {start}");
+        let found = match reply.answer {
+            Ok(Accepted::Trip(trip)) => Some(trip.total),
+            Err(Refusal::NoPath(count)) if count as usize == log.len() => None,
+            answer => panic!("{answer:?}"),
+        };
+        assert_eq!(found, total, "class {class} from {start}");
+        let live = chart.met_by(class, &chart.map().base());
+        assert_eq!(chart.figure(&live, start, 3).log, log);
+        assert_eq!(chart.estimates(3), [20, 10, 10, 0]);
+    }
+    assert_eq!(both.unit.estimates[..], [20, 10, 10, 0]);
 }
 
 /// From 3 by 1 or by 2 to 0: all keys are 2, and both are logged before the target, which has the smallest number.
@@ -620,15 +745,15 @@ fn a_tie_that_changes_the_route() {
 #[test]
 fn a_tie_that_fills_an_estimate() {
     let map = map(5, &[(3, 1, 1), (1, 0, 1), (3, 2, 1), (2, 0, 1), (2, 4, 1)]);
-    let go = Call::Go { start: 3, route: 5, log: 5 };
+    let go = Call::Go { class: 0, start: 3, route: 5, log: 5 };
     let reply = aimed(&map, 0).call(go);
     assert_eq!(reply.answer, Ok(Accepted::Trip(Trip { total: 2, count: 4, roads: 2 })));
     assert_eq!((&reply.route[..], &reply.log[..]), (&[0, 1][..], &[3, 1, 2, 0][..]));
     for call in [
         go,
-        Call::Preview { road: 4, time: 2, start: 3, work: 10 },
-        Call::Preview { road: 1, time: CLOSED, start: 3, work: 10 },
-        Call::Stops { stops: StopList::of(&[3, 0]), route: 10, log: 5 },
+        Call::Preview { class: 0, road: 4, time: 2, start: 3, work: 10 },
+        Call::Preview { class: 0, road: 1, time: CLOSED, start: 3, work: 10 },
+        Call::Stops { class: 0, stops: StopList::of(&[3, 0]), route: 10, log: 5 },
     ] {
         let mut both = aimed(&map, 0);
         both.call(call);
@@ -654,10 +779,10 @@ fn without_a_chain() {
     for (start, log) in [(0, vec![0, 2, 1]), (4, vec![]), (1, vec![1]), (5, vec![])] {
         let answer = Err(Refusal::NoPath(log.len() as u32));
         let want = Reply { answer, route: vec![], log };
-        assert_eq!(both.call(Call::Go { start, route: 6, log: 6 }), want);
+        assert_eq!(both.call(Call::Go { class: 0, start, route: 6, log: 6 }), want);
         let want = Reply { answer: Err(Refusal::NoLeg(0)), ..want };
         let stops = StopList::of(&[start, 3]);
-        assert_eq!(both.call(Call::Stops { stops, route: 12, log: 6 }), want);
+        assert_eq!(both.call(Call::Stops { class: 0, stops, route: 12, log: 6 }), want);
     }
     let chart = Chart::new(map);
     let live = both.unit.live.to_vec();

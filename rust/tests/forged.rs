@@ -3,14 +3,15 @@
 //! each estimate that is filled, but for an aim and a list of stops, and hands the header back as it was, but for
 //! its target. A preview's change is right wherever both totals are answered, and its questions are asked of
 //! whatever words there are. A list of stops asks its questions so, and is then an aim and a go for each leg, up to
-//! one whose go answers no route. A header out of range is refused, by 9, whatever the lengths.
+//! one whose go answers no route. A header out of range is refused, by 9, whatever the lengths; so is a card whose
+//! table does not name bodies for the header's numbers inside the card (document 02, A6).
 
 use harness::both::with_stack;
 use harness::calls::{
-    Accepted, Answer, Call, Calls, Previewed, Refusal, StopList, Stopped, MOST_STOPS,
+    Accepted, Answer, Call, Calls, Previewed, Refusal, StopList, Stopped, CLASSES, MOST_STOPS,
 };
 use harness::card::{self, LONGEST, MOST_JUNCTIONS, MOST_ROADS};
-use harness::damage::CardDamage;
+use harness::damage::{CardDamage, Layout};
 use harness::maps::{self, Streets};
 use harness::order::{self, MOST_PAIRS};
 use harness::random::{setting, Random};
@@ -89,12 +90,53 @@ fn size(random: &mut Random, most: usize) -> usize {
     }
 }
 
-/// Any bytes, or any words, as a card's.
+/// Any bytes, or any words, as a card's, with a table that names bodies for n junctions and m roads somewhere in it.
 fn any_card(random: &mut Random, n: usize, m: usize) -> Vec<u8> {
-    match random.chance(50) {
-        true => (0..card::len(n, m)).map(|_| random.word() as u8).collect(),
-        false => (0..card::len(n, m) / 4).flat_map(|_| number(random, n).to_le_bytes()).collect(),
+    let len = card::len_with_access(n, m) + random.below(9);
+    let mut card: Vec<u8> = match random.chance(50) {
+        true => (0..len).map(|_| random.word() as u8).collect(),
+        false => (0..len.div_ceil(4)).flat_map(|_| number(random, n).to_le_bytes()).collect(),
+    };
+    card.truncate(len);
+    put(&mut card, 0, random.pick(&[2, 2, 3, 3, 4, u32::MAX]));
+    for (i, size) in [12 * m, 4 * n, m].into_iter().enumerate() {
+        let [kind, any] = [random.pick(&[1, 2, 3]), random.below(len - size + 1)];
+        let at = random.pick(&[any, len - size, 0, card::table_len(3).min(len - size)]);
+        put(&mut card, 1 + 3 * i, kind as u32);
+        put(&mut card, 2 + 3 * i, at as u32);
+        put(&mut card, 3 + 3 * i, size as u32);
     }
+    card
+}
+
+/// Another word of a card.
+fn put(card: &mut [u8], place: usize, to: u32) {
+    card.as_chunks_mut().0[place] = to.to_le_bytes();
+}
+
+/// The part of a card that an entry of its table names: nothing if it has no such entry, or if that part would lie
+/// past its end.
+fn body(card: &[u8], i: usize) -> &[u8] {
+    let word = |place: usize| {
+        let bytes = card.get(4 * place..4 * place + 4).expect("a word of the table");
+        u32::from_le_bytes(bytes.try_into().expect("4 bytes")) as usize
+    };
+    if card.len() < 4 || i >= word(0) || card.len() < 4 + 12 * (i + 1) {
+        return &[];
+    }
+    let (start, len) = (word(2 + 3 * i), word(3 + 3 * i));
+    card.get(start..start + len).unwrap_or(&[])
+}
+
+/// The table names bodies for the header's numbers inside the card, whose length the header has.
+fn named(unit: &Unit) -> bool {
+    let Header { n, m, card: len, .. } = unit.header;
+    let (n, m, card) = (n as usize, m as usize, &unit.card[..]);
+    let third = card.len() >= 4 && (card[0] > 2 || card[1..4] != [0; 3]);
+    card.len() == len as usize
+        && body(card, 0).len() == 12 * m
+        && body(card, 1).len() == 4 * n
+        && (!third || body(card, 2).len() == m)
 }
 
 /// A header, areas and a card that fit each other in length alone.
@@ -103,19 +145,18 @@ fn forge(random: &mut Random) -> Unit {
     let bytes = match random.below(3) {
         0 | 1 => any_card(random, n, m),
         _ => {
-            let m = if n < 2 { 0 } else { m };
-            let card = maps::random(random, n.max(1), m, LONGEST).card().expect("a map in range");
-            let mut card = card[..card::len(n, m).min(card.len())].to_vec();
-            card.resize(card::len(n, m), 0);
-            card
+            let (n, m) = (n.max(1), if n < 2 { 0 } else { m });
+            let mut map = maps::random(random, n, m, LONGEST);
+            maps::bar(random, &mut map);
+            let card = map.card().expect("a map in range");
+            return forge_on(random, &card, [n, m], room);
         }
     };
-    forge_on(random, &bytes, n, room)
+    forge_on(random, &bytes, [n, m], room)
 }
 
-/// A header and areas that fit a card of n junctions in length.
-fn forge_on(random: &mut Random, card: &[u8], n: usize, room: usize) -> Unit {
-    let m = (card.len() - card::len(n, 0)) / 12;
+/// A header and areas that fit a card of n junctions and m roads in length.
+fn forge_on(random: &mut Random, card: &[u8], [n, m]: [usize; 2], room: usize) -> Unit {
     let mut unit = Unit::new(card, n, m, room);
     for area in unit.areas_mut() {
         noise(random, area, n);
@@ -126,7 +167,8 @@ fn forge_on(random: &mut Random, card: &[u8], n: usize, room: usize) -> Unit {
     if random.chance(50) {
         ascending_groups(random, &mut unit, m);
     }
-    unit.header = Header { n: n as u32, m: m as u32, ..header(random, n) };
+    let [n, m, len] = [n, m, card.len()].map(|number| number as u32);
+    unit.header = Header { n, m, card: len, ..header(random, n as usize) };
     unit.header.pairs = random.below(room + 1) as u32;
     unit
 }
@@ -154,11 +196,14 @@ fn number(random: &mut Random, n: usize) -> u32 {
 
 /// A prepared and used unit.
 fn used(random: &mut Random) -> Unit {
-    let map = match random.below(8) {
+    let mut map = match random.below(8) {
         0 => maps::town(random, 20, 20, Streets::USUAL),
         1 => maps::even_grid(random, 8, 8),
         _ => maps::small(random),
     };
+    if random.chance(40) {
+        maps::bar(random, &mut map);
+    }
     let (n, m) = (map.n(), map.m());
     let mut unit = Unit::new(&map.card().expect("a map in range"), n, m, order::pairs(&map) + 3);
     unit.prepare().expect("room for the pairs");
@@ -173,11 +218,12 @@ fn used(random: &mut Random) -> Unit {
 /// One that is damaged in a few places.
 fn damage(random: &mut Random) -> Unit {
     let mut unit = used(random);
-    let (n, m) = (unit.header.n as usize, unit.header.m as usize);
+    let (n, layout) = (unit.header.n as usize, layout(&unit));
     for _ in 0..=random.below(6) {
-        match random.below(11) {
-            0 => CardDamage::RoadWord.apply(random, &mut unit.card, n, m),
-            1 => CardDamage::OrderWord.apply(random, &mut unit.card, n, m),
+        match random.below(12) {
+            0 => CardDamage::RoadWord.apply(random, &mut unit.card, layout),
+            1 => CardDamage::OrderWord.apply(random, &mut unit.card, layout),
+            11 => CardDamage::AccessByte.apply(random, &mut unit.card, layout),
             2 => unit.header = Header { target: number(random, n), ..unit.header },
             which => {
                 let area = &mut unit.areas_mut()[which - 3];
@@ -187,6 +233,45 @@ fn damage(random: &mut Random) -> Unit {
                 }
             }
         }
+    }
+    unit
+}
+
+/// Where the words of its card stand.
+fn layout(unit: &Unit) -> Layout {
+    let (n, m) = (unit.header.n as usize, unit.header.m as usize);
+    Layout { n, m, access: unit.card.len() != card::len(n, m) }
+}
+
+/// One with all as it is to be but for its card's table, or for the card's length in the card or in the header.
+fn damage_table(random: &mut Random) -> Unit {
+    let mut unit = used(random);
+    let layout = layout(&unit);
+    let len = unit.card.len();
+    let table = random.pick(&[CardDamage::TableWord, CardDamage::TableSwap, CardDamage::Count]);
+    match random.below(8) {
+        0..4 => table.apply(random, &mut unit.card, layout),
+        4 => {
+            // A part as long, elsewhere in the card.
+            let entry = random.below(2 + layout.access as usize);
+            let most = len - body(&unit.card, entry).len();
+            let at = random.below(most + 1) as u32;
+            put(&mut unit.card, 2 + 3 * entry, at);
+        }
+        5 => {
+            let other = random.pick(&[0, 3, 4, 27, 28, 39, 40, len - 1, len + 1, len + 12]);
+            unit.card.resize(other, 0);
+            // The header goes with the card, or not.
+            if random.chance(60) {
+                unit.header.card = other as u32;
+            }
+        }
+        6 => {
+            let (word, len) = (random.word(), len as u32);
+            let others = [len + 1, len - 1, len ^ 1 << 31, 0, 28, 40, u32::MAX, word];
+            unit.header.card = random.pick(&others);
+        }
+        _ => CardDamage::Section.apply(random, &mut unit.card, layout),
     }
     unit
 }
@@ -208,12 +293,20 @@ fn damage_groups(random: &mut Random) -> Unit {
     unit
 }
 
-/// Tail, head and base time of a road as they stand on the card, if it is below m.
+/// Tail, head and base time of a road as they stand in the body that the card's table names, if it is below m.
 fn road_on(unit: &Unit, road: u32) -> Option<[u32; 3]> {
     let m = unit.header.m as usize;
-    let roads = unit.card.get(card::len(0, 0)..card::len(0, m))?.as_chunks::<12>().0;
+    let roads = body(&unit.card, 0).as_chunks::<12>().0.get(..m)?;
     let words = roads.get(road as usize)?.as_chunks().0;
     Some([words[0], words[1], words[2]].map(u32::from_le_bytes))
+}
+
+/// A class below 8 for the most part.
+fn class(random: &mut Random) -> u32 {
+    match random.below(12) {
+        0 => random.pick(&[8, 9, 255, 256, u32::MAX]),
+        _ => random.below(CLASSES as usize) as u32,
+    }
 }
 
 /// A list of stops, longer ones where the map is small, now and then of a wrong number or with a short area.
@@ -230,7 +323,8 @@ fn stops(random: &mut Random, n: usize) -> Call {
         .collect();
     let less = if random.chance(10) { 1 + random.below(n + 1) } else { 0 };
     let route = (count * n + 2 * random.below(2)).saturating_sub(less);
-    Call::Stops { stops: StopList::of(&stops), route, log: n + random.below(3) }
+    let class = class(random);
+    Call::Stops { class, stops: StopList::of(&stops), route, log: n + random.below(3) }
 }
 
 fn call(random: &mut Random, unit: &Unit) -> Call {
@@ -248,12 +342,12 @@ fn call(random: &mut Random, unit: &Unit) -> Call {
             let times = [base, base, CLOSED, CLOSED, random.within(1..=LONGEST), random.word()];
             let (time, start) = (random.pick(&times), random.pick(&[tail, any]));
             let work = 2 * n + random.pick(&[0, 0, 0, 0, 0, 0, 0, 1, n]);
-            Call::Preview { road, time, start, work }
+            Call::Preview { class: class(random), road, time, start, work }
         }
         10.. => stops(random, n),
         _ => {
-            let start = number(random, n);
-            Call::Go { start, route: n + random.below(3), log: n + random.below(3) }
+            let (class, start) = (class(random), number(random, n));
+            Call::Go { class, start, route: n + random.below(3), log: n + random.below(3) }
         }
     }
 }
@@ -262,7 +356,12 @@ fn call(random: &mut Random, unit: &Unit) -> Call {
 #[derive(Debug, Default)]
 struct Met {
     /// How often they were refused with each number, 0 for accepted.
-    refusals: [usize; 18],
+    refusals: [usize; Refusal::NUMBERS],
+    /// Where the table names no bodies for the header: refused by 9, by the call.
+    unnamed: [usize; 6],
+    /// Where it names bodies in other places than a card's, or kinds or a number of sections that no card has:
+    /// accepted, and refused.
+    elsewhere: [usize; 2],
     /// How many filled estimates the estimates that were answered found, and left.
     kept_by_estimates: usize,
     /// The same of the goes that searched.
@@ -278,7 +377,7 @@ struct Met {
 #[derive(Debug, Default)]
 struct Lists {
     /// Refused with each number, 0 for accepted.
-    refusals: [usize; 18],
+    refusals: [usize; Refusal::NUMBERS],
     /// 17 with the first leg, and with a later one.
     lost: [usize; 2],
     /// Found, with several legs, and of these with a route.
@@ -288,10 +387,12 @@ struct Lists {
 impl Lists {
     /// What the questions refuse by the header, the lengths and the arguments.
     fn refusal(unit: &Unit, call: Call) -> Option<Refusal> {
-        let Call::Stops { stops, route, log } = call else { panic!("no list of stops") };
+        let Call::Stops { class, stops, route, log } = call else { panic!("no list of stops") };
         let n = unit.header.n as usize;
         if !(2..=32).contains(&stops.len()) {
             Some(Refusal::StopCount)
+        } else if class > 7 {
+            Some(Refusal::NoClass)
         } else if stops.iter().any(|&stop| stop as usize >= n) {
             Some(Refusal::NoJunction)
         } else {
@@ -300,11 +401,11 @@ impl Lists {
     }
 
     /// The legs one by one, each an aim and a go that is lent the route area behind the roads before.
-    fn legs(unit: &mut Unit, stops: &[u32], lent: &mut LentAreas) -> Answer {
+    fn legs(unit: &mut Unit, class: u32, stops: &[u32], lent: &mut LentAreas) -> Answer {
         let (mut legs, mut at) = (Vec::new(), 0);
         for (leg, ends) in (0..).zip(stops.windows(2)) {
             unit.aim(ends[1]).expect("a junction");
-            let trip = unit.go(ends[0], &mut lent.route[at..], &mut lent.log);
+            let trip = unit.go(class, ends[0], &mut lent.route[at..], &mut lent.log);
             let trip = trip.map_err(|_| Refusal::NoLeg(leg))?;
             legs.push((trip.total, trip.roads));
             at = lent.route.len().min(at + trip.roads as usize);
@@ -314,18 +415,14 @@ impl Lists {
 
     /// An answer, and what the call left: as the questions have it, or as the legs one by one.
     fn check(&mut self, before: &Unit, after: &Unit, call: Call, lent: &LentAreas, answer: Answer) {
-        let Call::Stops { stops, .. } = call else { panic!("no list of stops") };
+        let Call::Stops { class, stops, .. } = call else { panic!("no list of stops") };
         let (mut unit, mut areas) = (before.clone(), LentAreas::of(call));
         let want = match Lists::refusal(before, call) {
             Some(refusal) => {
-                // Words that no header has come back as those of the header that they stand for.
-                if unit.header.aimed == 0 {
-                    unit.header.target = 0;
-                }
-                unit.header.aimed = unit.header.aimed.min(1);
+                unit.header = handed(unit.header);
                 Err(refusal)
             }
-            None => Lists::legs(&mut unit, &stops, &mut areas),
+            None => Lists::legs(&mut unit, class, &stops, &mut areas),
         };
         assert_eq!(answer, want, "{call:?}, {:?}", before.header);
         assert!(*after == unit, "{call:?} leaves another unit than its legs");
@@ -342,11 +439,17 @@ impl Lists {
     }
 }
 
+/// Words that no header has come back as those of the header that they stand for.
+fn handed(header: Header) -> Header {
+    let target = if header.aimed == 0 { 0 } else { header.target };
+    Header { aimed: header.aimed.min(1), target, ..header }
+}
+
 /// How the previews were answered.
 #[derive(Debug, Default)]
 struct Previews {
     /// Refused with each number, 0 for accepted.
-    refusals: [usize; 18],
+    refusals: [usize; Refusal::NUMBERS],
     /// With two totals: a change below 0, 0, and above.
     changes: [usize; 3],
     /// With no total now, with the time set, and either way.
@@ -357,11 +460,13 @@ impl Previews {
     /// What the questions refuse by the header, the lengths, the road's words on the card and the arguments.
     /// A target out of range, which no list of calls leaves, is refused by 9 behind them.
     fn refusal(unit: &Unit, call: Call) -> Option<Refusal> {
-        let Call::Preview { road, time, start, work } = call else { panic!("no preview") };
+        let Call::Preview { class, road, time, start, work } = call else { panic!("no preview") };
         let Header { n, m, aimed, target, .. } = unit.header;
         let allowed = |[_, _, base]: [u32; 3]| (base..=LONGEST).contains(&time) || time == CLOSED;
         if work != 2 * n as usize {
             Some(Refusal::Lengths)
+        } else if class > 7 {
+            Some(Refusal::NoClass)
         } else if road >= m {
             Some(Refusal::NoRoad)
         } else if !road_on(unit, road).is_some_and(allowed) {
@@ -415,7 +520,7 @@ impl Groups {
     /// Counts those of a go's log.
     fn count(&mut self, unit: &Unit, log: &[u32]) {
         let m = unit.header.m as usize;
-        let roads = unit.card[card::len(0, 0)..card::len(0, m)].as_chunks::<12>().0;
+        let roads = body(&unit.card, 0).as_chunks::<12>().0;
         for &junction in log.iter().filter(|&&junction| junction != unit.header.target) {
             let at = junction as usize;
             let [start, end] = [unit.groups[at], unit.groups[at + 1]].map(|word| word as usize);
@@ -442,6 +547,43 @@ impl Groups {
     }
 }
 
+/// Each call's place.
+fn which(call: Call) -> usize {
+    match call {
+        Call::Set { .. } => 0,
+        Call::Aim { .. } => 1,
+        Call::Estimate { .. } => 2,
+        Call::Go { .. } => 3,
+        Call::Preview { .. } => 4,
+        Call::Stops { .. } => 5,
+    }
+}
+
+/// What the questions behind 9 refuse, in any state: by the header, the lengths of what is lent, the arguments, and
+/// the road's base time where the table says that the roads stand.
+fn refusal(unit: &Unit, call: Call) -> Option<Refusal> {
+    let Header { n, aimed, .. } = unit.header;
+    let below = |junction: u32| (junction < n, Refusal::NoJunction);
+    let target = (aimed != 0, Refusal::NoTarget);
+    let questions = match call {
+        Call::Set { road, time } => {
+            let base = road_on(unit, road).map(|[_, _, base]| base);
+            let allowed = |base: u32| time == CLOSED || (base <= time && time <= LONGEST);
+            vec![(base.is_some(), Refusal::NoRoad), (base.is_none_or(allowed), Refusal::NotAllowed)]
+        }
+        Call::Aim { junction } => vec![below(junction)],
+        Call::Estimate { junction } => vec![below(junction), target],
+        Call::Go { class, start, route, log } => {
+            let long_enough = route.min(log) >= n as usize;
+            let class = (class < CLASSES, Refusal::NoClass);
+            vec![class, below(start), target, (long_enough, Refusal::LentLengths)]
+        }
+        // These two have their own.
+        Call::Preview { .. } | Call::Stops { .. } => return None,
+    };
+    questions.into_iter().find(|(passes, _)| !passes).map(|(_, refusal)| refusal)
+}
+
 /// How many junctions stand in the log.
 fn count_of(answer: Answer) -> usize {
     match answer {
@@ -458,9 +600,25 @@ fn free_call(unit: &mut Unit, call: Call, met: &mut Met) {
     let answer = unit.call(call, lent.lend());
     assert!(unit.guarded() && lent.guarded(), "{call:?} alters guard words");
 
-    let Header { n, m, pairs, aimed, target } = unit.header;
+    let Header { n, m, pairs, card, aimed, target } = unit.header;
     let old = before.header;
-    assert_eq!((n, m, pairs), (old.n, old.m, old.pairs), "{call:?}");
+    assert_eq!((n, m, pairs, card), (old.n, old.m, old.pairs, old.card), "{call:?}");
+    if !named(&before) {
+        assert_eq!(answer.err(), Some(Refusal::Lengths), "{call:?}, {old:?}: no such bodies");
+        let left = Unit { header: handed(old), ..before };
+        assert!(*unit == left, "{call:?} alters a unit without such bodies");
+        assert!(lent == LentAreas::of(call), "{call:?} alters a lent area");
+        met.refusals[9] += 1;
+        met.unnamed[which(call)] += 1;
+        return;
+    }
+    if let Some(refusal) = refusal(&before, call) {
+        assert_eq!(answer.err(), Some(refusal), "{call:?}, {old:?}");
+        let left = Unit { header: handed(old), ..before.clone() };
+        assert!(*unit == left && lent == LentAreas::of(call), "{call:?}, refused, alters an area");
+    }
+    let laid_out = card::read(&before.card).is_ok();
+    met.elsewhere[answer.is_err() as usize] += !laid_out as usize;
     let proper = old.aimed == 1 || (old.aimed == 0 && old.target == 0);
     let aims = matches!(call, Call::Aim { .. } | Call::Stops { .. });
     if proper && !aims {
@@ -541,9 +699,9 @@ fn noise_in_every_area() {
         let enough = accepted > calls / 4 && no_junction > calls / 20 && no_path > calls / 100;
         let kept = [met.kept_by_estimates, met.kept_by_goes, met.kept_by_previews];
         assert!(enough && kept.iter().all(|&kept| kept > 4 * calls), "{met:?}");
-        met.groups.at_least(calls / 200);
+        met.groups.at_least(calls / 400);
         let Previews { refusals, changes, absent } = met.previews;
-        let refused = [9, 10, 11, 12, 13].map(|number| refusals[number]);
+        let refused = [9, 10, 11, 12, 13, 18].map(|number| refusals[number]);
         assert!(
             refusals[0] > calls / 50
                 && refused.iter().all(|&met| met > calls / 500)
@@ -552,7 +710,7 @@ fn noise_in_every_area() {
             "{met:?}"
         );
         let Lists { refusals, lost, found } = met.lists;
-        let refused = [12, 14, 16].map(|number| refusals[number]);
+        let refused = [12, 14, 16, 18].map(|number| refusals[number]);
         let met_each = refused.iter().all(|&met| met > calls / 200);
         let made = [lost[0] / 100, lost[1], found[0]];
         assert!(met_each && made.iter().all(|&met| met > calls / 2_000), "{met:?}");
@@ -588,6 +746,56 @@ fn damaged_groups() {
     });
 }
 
+/// All is as it is to be, but for the card's table or its length, on the card or in the header.
+#[test]
+fn damaged_tables() {
+    with_stack(|| {
+        let calls = setting("CALLS_LENGTH", 60_000);
+        let met = free_calls(4, calls, damage_table);
+        assert!(met.unnamed.iter().all(|&met| met > calls / 50), "{met:?}");
+        let [found, refused] = met.elsewhere;
+        assert!(found > calls / 50 && refused > calls / 50, "{met:?}");
+        assert!(met.refusals[0] > calls / 20 && met.refusals[15] > calls / 500, "{met:?}");
+    });
+}
+
+/// Map P's card, with a byte for each road and without, and each word of its table made each of many. Where it names
+/// no bodies of 60, 16 and 5 bytes inside the card, every call is refused by 9; else it is refused as ever, or made.
+#[test]
+fn each_word_of_the_table() {
+    let mut met = Met::default();
+    let (mut cards, mut unnamed) = (0, 0);
+    for map in [maps::map_p(), maps::map_p_with_classes()] {
+        let card = map.card().expect("a map in range");
+        let mut prepared = Unit::new(&card, 4, 5, 5);
+        prepared.prepare().expect("room for the pairs");
+        prepared.aim(3).expect("a junction");
+        let len = card.len() as u32;
+        for place in 0..card::table_len(if map.admits_all() { 2 } else { 3 }) / 4 {
+            let near = [1 << 31, u32::MAX, u32::MAX - 28, 65_536 + len];
+            for word in (0..=len + 2).chain(near) {
+                let mut unit = prepared.clone();
+                put(&mut unit.card, place, word);
+                cards += 1;
+                unnamed += !named(&unit) as usize;
+                for call in [
+                    Call::Set { road: 1, time: 60 },
+                    Call::Aim { junction: 0 },
+                    Call::Estimate { junction: 0 },
+                    Call::Go { class: 0, start: 0, route: 4, log: 4 },
+                    Call::Go { class: 8, start: 0, route: 4, log: 4 },
+                    Call::Preview { class: 1, road: 1, time: CLOSED, start: 0, work: 8 },
+                    Call::Stops { class: 1, stops: StopList::of(&[0, 3, 0]), route: 12, log: 4 },
+                ] {
+                    free_call(&mut unit, call, &mut met);
+                }
+            }
+        }
+    }
+    assert!(met.unnamed.iter().all(|&met| met > 500) && met.refusals[0] > 1_000, "{met:?}");
+    assert!(cards > 1_500 && unnamed > 500 && cards - unnamed > 500, "{cards}, {unnamed}");
+}
+
 /// Every other junction's group is all roads, and those between end before they start. No road to the target is
 /// open, so each junction that has an estimate is gone on from.
 #[test]
@@ -608,11 +816,15 @@ fn all_roads_from_every_other_junction() {
                 *start = if junction % 2 == 0 { even } else { m as u32 - even };
             }
             for start in [1, 2] {
-                free_call(&mut unit, Call::Go { start, route: n, log: n }, &mut met);
-                let preview = Call::Preview { road: 0, time: CLOSED, start, work: 2 * n };
+                free_call(&mut unit, Call::Go { class: 0, start, route: n, log: n }, &mut met);
+                let preview = Call::Preview { class: 0, road: 0, time: CLOSED, start, work: 2 * n };
                 free_call(&mut unit, preview, &mut met);
                 let stops = StopList::of(&[start, 0, start]);
-                free_call(&mut unit, Call::Stops { stops, route: 3 * n, log: n }, &mut met);
+                free_call(
+                    &mut unit,
+                    Call::Stops { class: 0, stops, route: 3 * n, log: n },
+                    &mut met,
+                );
             }
         }
         assert!(met.groups.crossed > 1_000 && met.groups.stray > 10_000_000, "{met:?}");
@@ -639,12 +851,12 @@ fn no_entry_is_asked_twice() {
             unit.estimates.fill(UNASKED);
             free_call(&mut unit, Call::Estimate { junction: 0 }, &mut met);
             unit.estimates.fill(UNASKED);
-            free_call(&mut unit, Call::Go { start: 0, route: n, log: n }, &mut met);
+            free_call(&mut unit, Call::Go { class: 0, start: 0, route: n, log: n }, &mut met);
             unit.estimates.fill(UNASKED);
-            let preview = Call::Preview { road: 0, time: CLOSED, start: 0, work: 2 * n };
+            let preview = Call::Preview { class: 0, road: 0, time: CLOSED, start: 0, work: 2 * n };
             free_call(&mut unit, preview, &mut met);
             let stops = StopList::of(&[0, n as u32 - 1, 0]);
-            free_call(&mut unit, Call::Stops { stops, route: 3 * n, log: n }, &mut met);
+            free_call(&mut unit, Call::Stops { class: 0, stops, route: 3 * n, log: n }, &mut met);
         }
     });
 }
@@ -660,7 +872,7 @@ fn headers_of_any_size() {
     prepared.prepare().expect("room for the pairs");
     prepared.aim(7).expect("a junction");
     let right = prepared.header;
-    let mut refusals = 0;
+    let (mut refusals, mut by_card) = (0, 0);
     let mut met = Met::default();
     for i in 0..20_000 {
         let mut other = |old: u32| {
@@ -682,30 +894,34 @@ fn headers_of_any_size() {
                 word,
             ])
         };
-        let header = match i % 2 {
+        let header = match i % 3 {
             0 => Header { pairs: other(right.pairs), ..right },
+            1 => Header { card: other(right.card), ..right },
             _ => {
                 Header { n: other(right.n), m: other(right.m), pairs: other(right.pairs), ..right }
             }
         };
-        let fits = (header.n, header.m) == (right.n, right.m) && header.pairs as usize <= room;
+        let fits = (header.n, header.m, header.card) == (right.n, right.m, right.card)
+            && header.pairs as usize <= room;
+        by_card += (header.card != right.card) as usize;
         let mut unit = Unit { header, ..prepared.clone() };
         let n = map.n();
         for call in [
             Call::Set { road: 0, time: CLOSED },
             Call::Aim { junction: 0 },
             Call::Estimate { junction: 0 },
-            Call::Go { start: 0, route: n, log: n },
-            Call::Preview { road: 0, time: CLOSED, start: 0, work: 2 * n },
+            Call::Go { class: 0, start: 0, route: n, log: n },
+            Call::Preview { class: 0, road: 0, time: CLOSED, start: 0, work: 2 * n },
             // With the length that the header calls for.
             Call::Preview {
+                class: 0,
                 road: 0,
                 time: CLOSED,
                 start: 0,
                 work: 2 * header.n.min(9_999) as usize,
             },
-            Call::Stops { stops: StopList::of(&[0, 7, 0]), route: 3 * n, log: n },
-            Call::Stops { stops: StopList::of(&[u32::MAX]), route: 0, log: 0 },
+            Call::Stops { class: 0, stops: StopList::of(&[0, 7, 0]), route: 3 * n, log: n },
+            Call::Stops { class: 0, stops: StopList::of(&[u32::MAX]), route: 0, log: 0 },
         ] {
             if fits {
                 free_call(&mut unit, call, &mut met);
@@ -721,7 +937,7 @@ fn headers_of_any_size() {
             assert!(unit == Unit { header, ..prepared.clone() }, "{header:?}: altered");
         }
     }
-    assert!(refusals > 20_000, "{refusals} refusals");
+    assert!(refusals > 20_000 && by_card > 4_000, "{refusals} refusals, {by_card} headers");
 }
 
 /// More junctions, roads or pairs than a unit takes, with a card and areas of just the lengths that the header
@@ -737,7 +953,8 @@ fn headers_out_of_range() {
         sizes[which] = most[which] + 1 + random.pick(&[0, 0, 1, 255, 4_096]);
         let [n, m, room] = sizes;
         let card = any_card(&mut random, n, m);
-        let mut unit = forge_on(&mut random, &card, n, room);
+        let mut unit = forge_on(&mut random, &card, [n, m], room);
+        assert!(named(&unit), "{:?}", unit.header);
         let header = Header { pairs: room as u32, ..unit.header };
         let [aimed, target] = random.pick(&[[0, 0], [1, 0], [1, n as u32]]);
         unit.header = Header { aimed, target, ..header };

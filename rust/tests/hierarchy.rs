@@ -4,7 +4,7 @@ use harness::both::{same, with_stack, Both};
 use harness::by_tail::Listed;
 use harness::calls::{Accepted, Call, Calls, Refusal};
 use harness::card::{self, LONGEST, MOST_JUNCTIONS};
-use harness::damage::CardDamage;
+use harness::damage::{CardDamage, Layout};
 use harness::dijkstra;
 use harness::graph::Graph;
 use harness::maps::{self, Map, Road, Streets};
@@ -183,7 +183,7 @@ fn map_p() {
     assert_eq!(both.unit.pairs.as_chunks().0, records);
     assert_eq!(both.unit.leaving[..], [0, 2, 1, 3, 4]);
     assert_eq!(both.unit.groups[..], [0, 2, 3, 4, 5]);
-    assert_eq!(both.unit.header, Header { n: 4, m: 5, pairs: 5, aimed: 0, target: 0 });
+    assert_eq!(both.unit.header, Header { n: 4, m: 5, pairs: 5, card: 104, aimed: 0, target: 0 });
     both.call(Call::Aim { junction: 3 });
     for (junction, estimate) in [(0, 20), (1, 10), (2, 10), (3, 0)] {
         let reply = both.call(Call::Estimate { junction });
@@ -193,6 +193,46 @@ fn map_p() {
     assert_eq!(both.unit.estimates[..], [UNASKED; 4]);
     let reply = both.call(Call::Estimate { junction: 3 });
     assert_eq!(reply.answer, Ok(Accepted::Estimate(30)));
+}
+
+/// What preparing builds and estimates answer is over all roads: with bytes that bar some or all, the areas are as
+/// without them. The header has the card's length.
+#[test]
+fn classes_change_no_estimate() {
+    let mut random = Random::new(12);
+    let (mut barred, mut shut) = (0, 0);
+    for i in 0..400 {
+        let open = match i % 100 {
+            0 => maps::town(&mut random, 12, 12, Streets::USUAL),
+            _ => maps::small(&mut random),
+        };
+        let mut map = open.clone();
+        match i % 3 {
+            0 => map.roads.iter_mut().for_each(|road| road.access = 0),
+            _ => maps::bar(&mut random, &mut map),
+        }
+        barred += map.access().iter().filter(|&&byte| byte != 255).count();
+        shut += map.access().iter().filter(|&&byte| byte == 0).count();
+        let pairs = order::pairs(&open);
+        let mut without = Both::prepare(&open, pairs).unwrap();
+        let mut with = Both::prepare_with_access(&map, pairs).unwrap();
+        let len = card::len_with_access(map.n(), map.m()) as u32;
+        assert_eq!(with.unit.header, Header { card: len, ..without.unit.header });
+        for junction in 0..map.n() as u32 {
+            for both in [&mut without, &mut with] {
+                both.call(Call::Aim { junction });
+            }
+            for junction in 0..map.n() as u32 {
+                let estimate = Call::Estimate { junction };
+                assert_eq!(with.call(estimate), without.call(estimate));
+            }
+            for ((name, area), (_, want)) in with.unit.areas().into_iter().zip(without.unit.areas())
+            {
+                same(name, area, want);
+            }
+        }
+    }
+    assert!(barred > 2_000 && shut > 1_500, "{barred} roads bar a class, {shut} all");
 }
 
 /// After each estimate, the entries of the junctions asked and of all that up times reach from them hold
@@ -288,7 +328,7 @@ fn map_with_pairs(pairs: usize) -> Map {
     let mut map = maps::star(362);
     map.order.reverse();
     let end = 362 + (pairs - 362 * 361 / 2) as u32;
-    let road = |tail| Road { tail, head: tail + 1, base: 1 };
+    let road = |tail| Road::new(tail, tail + 1, 1);
     map.roads.extend((362..end).map(road));
     map.order.extend(362..=end);
     map
@@ -335,7 +375,7 @@ fn more_pairs_than_any_unit_holds() {
 
 /// Prepares a unit that is refused by a question before 8: header of zeros, areas unaltered.
 fn refused(mut unit: Unit) -> Refusal {
-    unit.header = Header { n: 7, m: 7, pairs: 7, aimed: 1, target: 7 };
+    unit.header = Header { n: 7, m: 7, pairs: 7, card: 7, aimed: 1, target: 7 };
     let before = unit.clone();
     let refusal = unit.prepare().unwrap_err();
     assert_eq!(unit.header, Header::default());
@@ -390,8 +430,8 @@ fn areas_of_each_others_lengths() {
     assert_eq!(unit.set(0, LONGEST), Err(Refusal::Lengths));
     assert_eq!(unit.aim(0), Err(Refusal::Lengths));
     assert_eq!(unit.estimate(0), Err(Refusal::Lengths));
-    assert_eq!(unit.go(0, &mut [0; 9], &mut [0; 9]), Err(Refusal::Lengths));
-    assert_eq!(unit.stops(&[0, 0], &mut [0; 18], &mut [0; 9]), Err(Refusal::Lengths));
+    assert_eq!(unit.go(0, 0, &mut [0; 9], &mut [0; 9]), Err(Refusal::Lengths));
+    assert_eq!(unit.stops(0, &[0, 0], &mut [0; 18], &mut [0; 9]), Err(Refusal::Lengths));
 }
 
 /// A card that is refused, in areas of its map's lengths and in others.
@@ -400,9 +440,13 @@ fn damaged_cards() {
     let mut random = Random::new(9);
     let mut met = [0; 9];
     for i in 0..20_000 {
-        let map = maps::small(&mut random);
+        let mut map = maps::small(&mut random);
+        if random.chance(60) {
+            maps::bar(&mut random, &mut map);
+        }
         let mut card = map.card().unwrap();
-        CardDamage::ALL[i % CardDamage::ALL.len()].apply(&mut random, &mut card, map.n(), map.m());
+        let damage = CardDamage::ALL[i % CardDamage::ALL.len()];
+        damage.apply(&mut random, &mut card, Layout::of(&map));
         let mut unit = Unit::new(&card, map.n(), map.m(), 20);
         let also = random.chance(20);
         if also {

@@ -65,7 +65,21 @@ fn first_end_after_a_newline() {
 
 #[test]
 fn card_that_does_not_open() {
-    let (printed, unread) = run("closed-card", &[0; 27], &[b"aim 3\n"]);
-    assert_eq!(printed, "no 1\n");
-    assert_eq!(unread, [b"aim 3\n"]);
+    let card = maps::map_p_with_classes().card().unwrap();
+    for (name, bytes, line) in
+        [("short-card", &card[..39], "no 1\n"), ("no-section", &[0; 27], "no 2\n")]
+    {
+        let (printed, unread) = run(name, bytes, &[b"aim 3\n"]);
+        assert_eq!(printed, line);
+        assert_eq!(unread, [b"aim 3\n"]);
+    }
+}
+
+/// A go is of class 0, which road 1 of this card bars.
+#[test]
+fn class_of_the_program() {
+    let card = maps::map_p_with_classes().card().unwrap();
+    let (printed, unread) = run("class-0", &card, &[b"aim 3\nest 0\ngo 0\nset 1 60\n", b""]);
+    assert_eq!(printed, "ok\nest 20\ngo 25 4 2 3\nok\n");
+    assert!(unread.is_empty());
 }

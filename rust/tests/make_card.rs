@@ -80,11 +80,51 @@ fn map_p() {
     assert!(output.status.success());
 }
 
+/// Map P with road 1 barred to class 0, and road 3 to all but two.
+#[test]
+fn map_p_with_classes() {
+    let folder = Folder::new("map_p_with_classes");
+    let text = MAP_P
+        .replace("road 1 3 10", "road 1 3 10 classes 1-7")
+        .replace("road 2 3 10", "road 2 3 10 classes 0,2");
+    let output = folder.make(text.as_bytes());
+    let said = "4 junctions, 5 roads, 5 pairs; 2 roads bar some classes\nfits the unit ";
+    assert!(told(&output.stdout).starts_with(said), "{}", told(&output.stdout));
+    assert!(output.status.success() && output.stderr.is_empty());
+    let card = fs::read(folder.path("CARD")).unwrap();
+    assert_eq!(card.len(), 40 + 60 + 16 + 5);
+    let table: Vec<u32> =
+        card.as_chunks().0[..10].iter().map(|&word| u32::from_le_bytes(word)).collect();
+    assert_eq!(table, [3, 1, 40, 60, 2, 100, 16, 3, 116, 5]);
+    assert_eq!(card[116..], [255, 254, 255, 5, 255]);
+    assert_eq!(card[40..116], maps::map_p().card().unwrap()[28..]);
+    let output = run(&["--text".as_ref(), &folder.path("CARD")]);
+    assert_eq!((told(&output.stdout), told(&output.stderr)), (&text[..], ""));
+}
+
+/// Lists that let every class in make the card that has none of them; and a card with bytes of 255 is printed
+/// without any.
+#[test]
+fn classes_that_bar_nothing() {
+    let folder = Folder::new("bar_nothing");
+    let text = MAP_P.replace("road 1 3 10", "road 1 3 10 classes 0-7");
+    assert!(folder.make(text.as_bytes()).status.success());
+    assert!(fs::read(folder.path("CARD")).unwrap() == maps::map_p().card().unwrap());
+    fs::write(folder.path("CARD"), maps::map_p().card_with_access().unwrap()).unwrap();
+    let output = run(&["--text".as_ref(), &folder.path("CARD")]);
+    assert_eq!((told(&output.stdout), told(&output.stderr)), (MAP_P, ""));
+}
+
 #[test]
 fn there_and_back() {
     let folder = Folder::new("there_and_back");
     let mut random = Random::new(1);
     let mut maps: Vec<Map> = (0..20).map(|_| maps::small(&mut random)).collect();
+    let mut barred: Vec<Map> = (0..30).map(|_| maps::small(&mut random)).collect();
+    barred.push(maps::random(&mut random, MOST_JUNCTIONS, MOST_ROADS, LONGEST));
+    barred.iter_mut().for_each(|map| maps::bar(&mut random, map));
+    assert!(barred.iter().filter(|map| !map.admits_all()).count() > 15);
+    maps.extend(barred);
     maps.extend([
         maps::town(&mut random, 30, 30, Streets::USUAL),
         maps::random(&mut random, 300, 1_000, LONGEST),
@@ -139,6 +179,9 @@ fn faults() {
         (b"road 0 1 0\n", "line 1: 0 seconds are not from 1 to 1000000"),
         (b"", "no road and no order, so no junction"),
         (b"road 0 1 10\n\xff\n", "line 2: this is no text in UTF-8"),
+        (b"road 0 1 10\nroad 1 0 10 classes 0,8\n", "line 2: class 8 is not below 8"),
+        (b"road 0 1 10 classes\n", "line 1: `classes` without a list, such as 0,2-5 or none"),
+        (b"road 0 1 10 0,2\n", "line 1: `0,2` behind the seconds; only `classes` may stand there"),
     ] {
         let output = folder.make(text);
         let want = format!("make-card: {}: {message}\n", folder.path("text").display());
@@ -198,8 +241,18 @@ fn refused_cards() {
     bad_road[28 + 12 + 4] = 9;
     let mut bad_place = card.clone();
     bad_place[88 + 12] = 1;
+    let with_access = maps::map_p_with_classes().card().unwrap();
+    let mut one_byte_less = with_access[..120].to_vec();
+    one_byte_less[36] = 4;
+    let mut kind_4 = with_access.clone();
+    kind_4[28] = 4;
     for (bytes, told_of) in [
         (&card[..27], "1: it is"),
+        (&card[..3], "1: it is"),
+        (&with_access[..39], "1: it is"),
+        (&kind_4, "2: it does"),
+        (&with_access[..120], "3: it is"),
+        (&one_byte_less, "4: it has"),
         (&card[..103], "3: it is"),
         (&bad_road, "5: road 1"),
         (&bad_place, "6: place 3"),

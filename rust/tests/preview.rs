@@ -1,8 +1,9 @@
-//! Preview of the proved unit (document 02, A2) beside one that is written from the documents alone, with the
+//! Preview of the proved unit (document 02, A2, with A6's classes) beside one that is written from the documents alone, with the
 //! searches of `literal`.
 
 use harness::both::{same, with_stack, Both};
-use harness::calls::{Accepted, Call, Calls, Previewed, Refusal};
+use harness::brute;
+use harness::calls::{Accepted, Call, Calls, Previewed, Refusal, CLASSES};
 use harness::card::{LONGEST, MOST_JUNCTIONS};
 use harness::literal::{Literal, Searched};
 use harness::maps::{self, Map, Road, Streets};
@@ -15,6 +16,7 @@ use harness::unit::{Area, LentAreas, Unit};
 /// A preview's arguments.
 #[derive(Clone, Copy, Debug)]
 struct Asked {
+    class: u32,
     road: u32,
     time: Time,
     start: u32,
@@ -32,7 +34,8 @@ struct Trial {
 impl Trial {
     fn new(map: Map) -> Trial {
         let room = order::pairs(&map);
-        let mut unit = Unit::new(&map.card().unwrap(), map.n(), map.m(), room);
+        let card = map.card().unwrap();
+        let mut unit = Unit::new(&card, map.n(), map.m(), room);
         unit.prepare().unwrap();
         Trial { live: map.base(), target: None, unit, literal: Literal::new(map) }
     }
@@ -49,7 +52,10 @@ impl Trial {
             }
             0..6 => self.aim(junction),
             6 => drop(self.unit.estimate(junction)),
-            _ => drop(self.unit.go(junction, &mut vec![0; n], &mut vec![0; n])),
+            _ => {
+                let class = random.below(CLASSES as usize) as u32;
+                let _ = self.unit.go(class, junction, &mut vec![0; n], &mut vec![0; n]);
+            }
         }
     }
 
@@ -66,10 +72,10 @@ impl Trial {
 
     /// Makes a preview on a work area of any words, and looks at all that it answers and leaves.
     fn preview(&mut self, random: &mut Random, asked: Asked, met: &mut Met) -> Option<Previewed> {
-        let Asked { road, time, start, work } = asked;
+        let Asked { class, road, time, start, work } = asked;
         let mut words = Area::of(&(0..work).map(|_| random.word()).collect::<Vec<u32>>());
         let (before, words_before) = (self.unit.clone(), words.clone());
-        let answer = self.unit.preview(road, time, start, &mut words);
+        let answer = self.unit.preview(class, road, time, start, &mut words);
         assert!(words.guarded(), "{asked:?} alters words beside its work area");
         let questions = self.refusals(asked);
         if let Some(&refusal) = questions.first() {
@@ -83,7 +89,7 @@ impl Trial {
         let mut replaced = self.live.clone();
         replaced[road as usize] = time;
         let [now, then] =
-            [&self.live, &replaced].map(|live| self.literal.search(live, start, target));
+            [&self.live, &replaced].map(|live| self.literal.search(class, live, start, target));
         let (present, new) = (now.total, then.total);
         let change = present.zip(new).map(|(present, new)| new as i64 - present as i64);
         let want = Previewed { present, new, change };
@@ -104,12 +110,13 @@ impl Trial {
     }
 
     /// The questions that refuse, in order.
-    fn refusals(&self, Asked { road, time, start, work }: Asked) -> Vec<Refusal> {
+    fn refusals(&self, Asked { class, road, time, start, work }: Asked) -> Vec<Refusal> {
         let n = self.literal.map.n();
         let base = self.literal.map.roads.get(road as usize).map(|road| road.base);
         let allowed = |base| time == CLOSED || (base <= time && time <= LONGEST);
         let questions = [
             (work == 2 * n, Refusal::Lengths),
+            (class <= 7, Refusal::NoClass),
             (base.is_some(), Refusal::NoRoad),
             (base.is_none_or(allowed), Refusal::NotAllowed),
             ((start as usize) < n, Refusal::NoJunction),
@@ -145,13 +152,20 @@ struct Met {
     /// Elapsed has times, which stay.
     elapsed: usize,
     /// Refused with each number;
-    refusals: [usize; 16],
+    refusals: [usize; Refusal::NUMBERS],
     /// by 9 with too short a work area, and too long a one,
     lengths: [usize; 2],
-    /// where a later question would refuse too: 9 and 10, 10 and 12, 11 and 12, 12 and 13,
-    both: [usize; 4],
+    /// where a later question would refuse too: 9 and 10, 10 and 12, 11 and 12, 12 and 13, 9 and 18, 18 and 10, 18 and
+    /// 11, 18 and 12, 18 and 13,
+    both: [usize; 9],
     /// and 11 where the live time is above the base time.
     below_base: usize,
+    /// A road that bars the class, of which both totals are the same; and one that lets it in beside others that do not,
+    /// with a change.
+    barred: usize,
+    beside_barred: usize,
+    /// Where a road bars the class, another outcome than if none did.
+    otherwise: usize,
 }
 
 impl Met {
@@ -165,6 +179,11 @@ impl Met {
             [Refusal::NoRoad, Refusal::NoJunction],
             [Refusal::NotAllowed, Refusal::NoJunction],
             [Refusal::NoJunction, Refusal::NoTarget],
+            [Refusal::Lengths, Refusal::NoClass],
+            [Refusal::NoClass, Refusal::NoRoad],
+            [Refusal::NoClass, Refusal::NotAllowed],
+            [Refusal::NoClass, Refusal::NoJunction],
+            [Refusal::NoClass, Refusal::NoTarget],
         ]) {
             *met += questions.starts_with(&two) as usize;
         }
@@ -173,7 +192,7 @@ impl Met {
     fn answered(
         &mut self,
         trial: &Trial,
-        Asked { road, time, start, .. }: Asked,
+        Asked { class, road, time, start, .. }: Asked,
         before: &[Time],
         [now, then]: [&Searched; 2],
         Previewed { present, new, change }: Previewed,
@@ -183,6 +202,19 @@ impl Met {
             None => {
                 self.absent[if new.is_some() { 0 } else { 1 + present.is_none() as usize }] += 1
             }
+        }
+        let map = &trial.literal.map;
+        if !map.roads[road as usize].admits(class) {
+            assert_eq!(present, new, "a road that bars the class");
+            self.barred += 1;
+        } else {
+            let bars = map.roads.iter().any(|road| !road.admits(class));
+            self.beside_barred += (bars && change.is_some_and(|change| change != 0)) as usize;
+        }
+        if map.n() < 300 && !map.admits_all() {
+            let target = trial.target.expect("a target, by 13");
+            let open = brute::least(map, &trial.live, start)[target as usize];
+            self.otherwise += (present != (open != NONE).then_some(open.into())) as usize;
         }
         let live = trial.live[road as usize];
         self.again[present.is_none() as usize] += (time == live) as usize;
@@ -218,6 +250,9 @@ impl Met {
             self.unasked,
             self.kept,
             self.elapsed,
+            self.barred,
+            self.beside_barred,
+            self.otherwise,
         ];
         let rows = [&self.changes[..], &self.absent, &self.again, &self.filled, &some];
         assert!(rows.concat().iter().all(|&met| met >= least), "{self:?}");
@@ -225,7 +260,7 @@ impl Met {
 
     /// And so was every refusal.
     fn refusals_at_least(&self, least: usize) {
-        let refusals = [9, 10, 11, 12, 13].map(|number| self.refusals[number]);
+        let refusals = [9, 10, 11, 12, 13, 18].map(|number| self.refusals[number]);
         let rows = [&refusals[..], &self.lengths, &self.both, &[self.below_base]];
         assert!(rows.concat().iter().all(|&met| met >= least), "{self:?}");
         assert_eq!(self.refusals[14] + self.refusals[15], 0, "{self:?}");
@@ -271,14 +306,21 @@ fn asked(random: &mut Random, trial: &Trial, met: &mut Met) -> Asked {
         1 => random.pick(&[2 * n + 1, 2 * n + 2, 4 * n]),
         _ => 2 * n,
     };
-    let asked = Asked { road, time, start, work };
+    let class = match random.below(12) {
+        0 => random.pick(&[8, 9, 255, 256, u32::MAX]),
+        _ => random.below(CLASSES as usize) as u32,
+    };
+    let asked = Asked { class, road, time, start, work };
     let refused = trial.refusals(asked).first() == Some(&Refusal::NotAllowed);
     met.below_base += (refused && time < base && live > base) as usize;
     asked
 }
 
-/// A list of previews and other calls on one map, whose roads are delayed and closed at first.
-fn run(random: &mut Random, map: Map, calls: usize, met: &mut Met) {
+/// A list of previews and other calls on one map, whose roads are delayed and closed at first; often some bar classes.
+fn run(random: &mut Random, mut map: Map, calls: usize, met: &mut Met) {
+    if random.chance(60) {
+        maps::bar(random, &mut map);
+    }
     let live = traffic::live_times(random, &map);
     let mut trial = Trial::new(map);
     for (road, time) in (0..).zip(live) {
@@ -304,7 +346,7 @@ fn small_maps() {
         run(&mut random, map, 30, &mut met);
     }
     met.outcomes_at_least(40);
-    met.refusals_at_least(100);
+    met.refusals_at_least(80);
 }
 
 #[test]
@@ -330,13 +372,13 @@ fn towns() {
 #[test]
 fn both_searches_run_to_their_end() {
     // From 0, road 0 leads to the target 1; road 1 to 2, and on to 3, from where roads lead to 1.
-    let road = |(tail, head, base)| Road { tail, head, base };
+    let road = |(tail, head, base)| Road::new(tail, head, base);
     let roads = [(0, 1, 1), (0, 2, 1), (2, 3, 1), (3, 1, 1)].map(road).to_vec();
     let map = Map { roads, order: vec![3, 0, 1, 2] };
     let filled = |trial: &Trial| -> Vec<u32> {
         (0..4).filter(|&junction| trial.unit.estimates[junction as usize] != UNASKED).collect()
     };
-    let asked = |road, time| Asked { road, time, start: 0, work: 8 };
+    let asked = |road, time| Asked { class: 0, road, time, start: 0, work: 8 };
     let (mut random, mut met) = (Random::new(3), Met::default());
     let mut trial = |changes: &[(u32, Time)], road, time| {
         let mut trial = Trial::new(map.clone());
@@ -379,12 +421,46 @@ fn previews_of_map_p() {
         for &road in closed {
             both.call(Call::Set { road, time: CLOSED });
         }
-        let reply = both.call(Call::Preview { road, time, start: 0, work: 8 });
+        let reply = both.call(Call::Preview { class: 0, road, time, start: 0, work: 8 });
         let want = Previewed { present, new, change };
         assert_eq!(reply.answer, Ok(Accepted::Previewed(want)), "{closed:?}, {road} at {time}");
-        let reply = both.call(Call::Preview { road, time, start: 3, work: 8 });
+        let reply = both.call(Call::Preview { class: 0, road, time, start: 3, work: 8 });
         let want = Previewed { present: Some(0), new: Some(0), change: Some(0) };
         assert_eq!(reply.answer, Ok(Accepted::Previewed(want)), "start 3, target 3");
+    }
+}
+
+/// Map P with road 1 barred to class 0: what is set of it changes nothing for that class, and all for another. With
+/// road 2 closed too there is no chain for it.
+#[test]
+fn previews_of_classes() {
+    for (closed, class, road, time, present, new, change) in [
+        (&[][..], 0, 1, 15, Some(25), Some(25), Some(0)),
+        (&[], 0, 1, CLOSED, Some(25), Some(25), Some(0)),
+        (&[], 1, 1, 15, Some(20), Some(25), Some(5)),
+        (&[], 0, 2, CLOSED, Some(25), None, None),
+        (&[], 7, 2, CLOSED, Some(20), Some(20), Some(0)),
+        (&[1], 1, 1, 10, Some(25), Some(20), Some(-5)),
+        (&[1], 0, 1, 10, Some(25), Some(25), Some(0)),
+        (&[2], 0, 1, 10, None, None, None),
+        (&[2], 0, 2, 15, None, Some(25), None),
+    ] {
+        let mut both = Both::prepare(&maps::map_p_with_classes(), 5).unwrap();
+        both.call(Call::Aim { junction: 3 });
+        for &road in closed {
+            both.call(Call::Set { road, time: CLOSED });
+        }
+        let live = both.unit.live.clone();
+        let reply = both.call(Call::Preview { class, road, time, start: 0, work: 8 });
+        let want = Ok(Accepted::Previewed(Previewed { present, new, change }));
+        assert_eq!(reply.answer, want, "class {class}, {closed:?}, {road} at {time}");
+        assert_eq!(both.unit.live, live);
+        for (class, work, refusal) in
+            [(8, 8, Refusal::NoClass), (8, 7, Refusal::Lengths), (7, 8, Refusal::NoRoad)]
+        {
+            let reply = both.call(Call::Preview { class, road: 5, time: 0, start: 4, work });
+            assert_eq!(reply.answer, Err(refusal));
+        }
     }
 }
 
@@ -395,12 +471,12 @@ fn the_largest_changes() {
         let n = MOST_JUNCTIONS as u32;
         // A ring, and a road of 1 second from 1, where it starts, to 0, where it ends.
         let mut map = maps::ring(MOST_JUNCTIONS);
-        map.roads.push(Road { tail: 1, head: 0, base: 1 });
+        map.roads.push(Road::new(1, 0, 1));
         let mut both = Both::prepare(&map, order::pairs(&map)).unwrap();
         both.call(Call::Aim { junction: 0 });
         let longest = 4_095_000_000;
         let mut ask = |road, time, present, new, change| {
-            let call = Call::Preview { road, time, start: 1, work: 2 * MOST_JUNCTIONS };
+            let call = Call::Preview { class: 0, road, time, start: 1, work: 2 * MOST_JUNCTIONS };
             let answer = both.call(call).answer;
             assert_eq!(answer, Ok(Accepted::Previewed(Previewed { present, new, change })));
             both.call(Call::Set { road, time });
@@ -426,14 +502,14 @@ fn the_largest_town() {
         for _ in 0..20 {
             let (start, target) = (random.below(n) as u32, random.below(n) as u32);
             both.call(Call::Aim { junction: target });
-            let trip = both.call(Call::Go { start, route: n, log: n });
+            let trip = both.call(Call::Go { class: 0, start, route: n, log: n });
             for _ in 0..4 {
                 let road = match trip.route.is_empty() {
                     true => random.below(m) as u32,
                     false => random.pick(&trip.route),
                 };
                 let time = random.pick(&[CLOSED, LONGEST]);
-                let call = Call::Preview { road, time, start, work: 2 * n };
+                let call = Call::Preview { class: 0, road, time, start, work: 2 * n };
                 let mut lent = LentAreas::of(call);
                 let before = both.unit.clone();
                 let reply = both.call(call);

@@ -3,7 +3,7 @@
 
 use harness::both::{same, with_stack, Both};
 use harness::by_tail::ByTail;
-use harness::calls::{Accepted, Call, Refusal, Trip};
+use harness::calls::{Accepted, Call, Refusal, Trip, CLASSES};
 use harness::card::{LONGEST, MOST_JUNCTIONS};
 use harness::dijkstra;
 use harness::graph::Graph;
@@ -36,20 +36,28 @@ impl Journey {
         Journey { graph: Graph::new(&map), map, live, target, both }
     }
 
-    /// Goes from a start, and compares what is answered and left with searches of their own.
+    /// Goes from a start, as class 0.
     fn go(&mut self, start: u32, spare: usize) -> Search {
+        self.go_as(0, start, spare)
+    }
+
+    /// Goes from a start, and compares what is answered and left with searches of their own, over roads that let the
+    /// class in.
+    fn go_as(&mut self, class: u32, start: u32, spare: usize) -> Search {
         let before = self.both.unit.estimates.to_vec();
         let (n, base) = (self.map.n(), self.map.base());
-        let reply = self.both.call(Call::Go { start, route: n + spare, log: n + spare / 2 });
+        let reply = self.both.call(Call::Go { class, start, route: n + spare, log: n + spare / 2 });
 
         let least = dijkstra::to(&self.graph, &base, self.target);
-        let want = search(&self.graph, &self.live, start, self.target, |at| least[at as usize]);
+        let live = self.map.met_by(class, &self.live);
+        let time = |road: u32| live[road as usize];
+        let want = search(&self.graph, time, start, self.target, |at| least[at as usize]);
         self.check_reply(&reply, &want);
         same("elapsed", &self.both.unit.elapsed, &want.elapsed);
-        let total = dijkstra::from(&self.graph, &self.live, start)[self.target as usize];
+        let total = dijkstra::from(&self.graph, &live, start)[self.target as usize];
         assert_eq!(want.found.as_ref().map_or(NONE, |found| found.0), total);
 
-        let filled = self.filled(start, &want.log);
+        let filled = self.filled(&live, start, &want.log);
         let word = |junction: usize| {
             if filled[self.both.unit.ranks[junction] as usize] {
                 least[junction]
@@ -77,14 +85,14 @@ impl Journey {
 
     /// Which estimates a go fills, by rank: the start's, those of heads of open roads from logged
     /// junctions other than the target, and those above them.
-    fn filled(&self, start: u32, log: &[u32]) -> Vec<bool> {
+    fn filled(&self, live: &[Time], start: u32, log: &[u32]) -> Vec<bool> {
         let unit = &self.both.unit;
         let rank = |junction: u32| unit.ranks[junction as usize] as usize;
         let mut filled = vec![false; self.map.n()];
         filled[rank(start)] = true;
         for &junction in log.iter().filter(|&&junction| junction != self.target) {
             for arc in self.graph.out.of(junction) {
-                filled[rank(arc.end)] |= self.live[arc.road as usize] != CLOSED;
+                filled[rank(arc.end)] |= live[arc.road as usize] != CLOSED;
             }
         }
         // Records ascend, so one pass follows each chain upwards.
@@ -105,6 +113,9 @@ struct Tally {
     /// Trips that take longer than at base times.
     delayed: usize,
     unasked: usize,
+    /// Trips that take longer than if every road let the class in, and such that have no chain for that reason.
+    round_barred: usize,
+    lost_to_bars: usize,
     /// Junctions logged right after one with the same key: with the same time, and with a larger one,
     ties: [usize; 2],
     /// of the latter, those with a smaller number.
@@ -114,7 +125,7 @@ struct Tally {
 }
 
 impl Tally {
-    /// Makes three trips on a map, to one target.
+    /// Makes three trips on a map, to one target, each as some class.
     fn trips(&mut self, random: &mut Random, map: Map, live: Vec<Time>) {
         let target = random.below(map.n()) as u32;
         let mut journey = Journey::new(map, live, target);
@@ -122,7 +133,13 @@ impl Tally {
         let by_tail = ByTail::new(&journey.map);
         for _ in 0..3 {
             let start = random.below(journey.map.n()) as u32;
-            let search = journey.go(start, random.below(20));
+            let class = random.below(CLASSES as usize) as u32;
+            let search = journey.go_as(class, start, random.below(20));
+            let open = dijkstra::from(&journey.graph, &journey.live, start)[target as usize];
+            match &search.found {
+                Some((total, _)) => self.round_barred += (*total > open) as usize,
+                None => self.lost_to_bars += (open != NONE) as usize,
+            }
             match &search.found {
                 Some((total, route)) => {
                     self.found += 1;
@@ -158,11 +175,21 @@ fn small_maps() {
     let mut random = Random::new(1);
     let mut tally = Tally::default();
     for _ in 0..6_000 {
-        let map = maps::small(&mut random);
+        let mut map = maps::small(&mut random);
+        if random.chance(60) {
+            maps::bar(&mut random, &mut map);
+        }
         let live = traffic::live_times(&mut random, &map);
         tally.trips(&mut random, map, live);
     }
-    let Tally { found, missing, empty, delayed, unasked, ties, falling, ends_of_groups } = tally;
+    let Tally { found, missing, empty, delayed, unasked, ties, falling, ends_of_groups, .. } =
+        tally;
+    assert!(
+        tally.round_barred > 300 && tally.lost_to_bars > 700,
+        "{} round barred roads, {} lost to them",
+        tally.round_barred,
+        tally.lost_to_bars
+    );
     assert!(
         found > 10_000
             && missing > 3_000
@@ -183,12 +210,19 @@ fn towns() {
     let mut tally = Tally::default();
     for i in 0..60 {
         let (width, height) = (1 + random.below(30), 1 + random.below(30));
-        let map = match i {
+        let mut map = match i {
             0 => maps::town(&mut random, 64, 64, Streets::USUAL),
             1 => maps::largest_town(&mut random),
             _ if i % 3 == 0 => maps::even_grid(&mut random, width, height),
             _ => maps::town(&mut random, width, height, Streets::USUAL),
         };
+        if i % 2 == 0 {
+            for road in &mut map.roads {
+                if random.chance(12) {
+                    road.access = random.word() as u8;
+                }
+            }
+        }
         let percent = random.pick(&[0, 1, 5, 20, 50]);
         let mut live = map.base();
         for (road, time) in traffic::changes(&mut random, &map, percent) {
@@ -196,9 +230,10 @@ fn towns() {
         }
         tally.trips(&mut random, map, live);
     }
-    let Tally { found, missing, delayed, unasked, ties, ends_of_groups, .. } = tally;
+    let Tally { found, missing, delayed, unasked, ties, ends_of_groups, round_barred, .. } = tally;
     assert!(
-        found > 100
+        round_barred > 15
+            && found > 100
             && missing > 10
             && delayed > 20
             && unasked > 1_000
@@ -207,6 +242,70 @@ fn towns() {
             && ends_of_groups.iter().all(|&met| met > 200),
         "{tally:?}"
     );
+}
+
+/// Map P with road 1 barred to class 0 (document 02, A6). The class of a go holds for that go alone.
+#[test]
+fn classes_of_map_p() {
+    let map = maps::map_p_with_classes();
+    let mut journey = Journey::new(map.clone(), map.base(), 3);
+    let round = (Some((25, vec![2, 3])), vec![0, 1, 2, 3]);
+    let straight = (Some((20, vec![0, 1])), vec![0, 1, 3]);
+    for (class, want) in
+        [(0, &round), (1, &straight), (0, &round), (7, &straight), (4, &straight), (0, &round)]
+    {
+        let search = journey.go_as(class, 0, 1);
+        assert_eq!((search.found, search.log), *want, "class {class}");
+        assert_eq!(journey.both.unit.live[..], map.base(), "no live time is altered");
+    }
+    // Closed by the radio, it is so for every class.
+    journey.live[1] = CLOSED;
+    journey.both.call(Call::Set { road: 1, time: CLOSED });
+    for class in [0, 1] {
+        let search = journey.go_as(class, 0, 0);
+        assert_eq!((search.found, search.log), round);
+    }
+}
+
+/// Each class has the one road whose byte has its bit alone, and no other has any: bits from the lowest.
+#[test]
+fn a_road_for_each_class() {
+    let mut roads: Vec<Road> = (0..CLASSES)
+        .map(|class| Road { access: 1 << class, ..Road::new(0, 1, 10 * (class + 1)) })
+        .collect();
+    roads.push(Road { access: 0, ..Road::new(0, 1, 1) });
+    let map = Map { roads, order: vec![0, 1] };
+    let mut journey = Journey::new(map.clone(), map.base(), 1);
+    for class in (0..CLASSES).rev().chain(0..CLASSES) {
+        let search = journey.go_as(class, 0, 0);
+        assert_eq!(search.found, Some((10 * (class + 1), vec![class])));
+    }
+    let reply = journey.both.call(Call::Estimate { junction: 0 });
+    assert_eq!(reply.answer, Ok(Accepted::Estimate(1)), "by the road that no class may use");
+}
+
+/// 18 comes before 12, 13 and 14, whether or not the card has bytes for classes; no class is taken modulo 8.
+#[test]
+fn no_such_class() {
+    let mut refused = 0;
+    for map in [maps::map_p(), maps::map_p_with_classes()] {
+        for aimed in [false, true] {
+            let mut both = Both::prepare(&map, 5).unwrap();
+            if aimed {
+                both.call(Call::Aim { junction: 3 });
+            }
+            for class in [8, 9, 15, 16, 255, 256, 1 << 31, u32::MAX - 7, u32::MAX] {
+                for (start, route, log) in [(0, 4, 4), (4, 4, 4), (0, 3, 4), (0, 4, 3), (9, 0, 0)] {
+                    let reply = both.call(Call::Go { class, start, route, log });
+                    assert_eq!(reply.answer, Err(Refusal::NoClass), "{class}, {start}");
+                    refused += 1;
+                }
+            }
+            let reply = both.call(Call::Go { class: 7, start: 4, route: 0, log: 0 });
+            assert_eq!(reply.answer, Err(Refusal::NoJunction));
+        }
+    }
+    assert_eq!(refused, 2 * 2 * 9 * 5);
 }
 
 /// All times equal: nearly every choice is one among equal keys.
@@ -229,7 +328,7 @@ fn ties() {
 /// time smaller.
 #[test]
 fn equal_keys_by_time() {
-    let road = |(tail, head, base)| Road { tail, head, base };
+    let road = |(tail, head, base)| Road::new(tail, head, base);
     let roads = [(2, 1, 1), (0, 1, 2), (0, 2, 1), (1, 3, 1)].map(road).to_vec();
     let map = Map { roads, order: vec![0, 1, 2, 3] };
     let search = Journey::new(map.clone(), map.base(), 3).go(0, 0);
@@ -330,7 +429,7 @@ fn no_chain() {
 /// A start without an estimate: nothing is logged, and only the start and those above it are filled.
 #[test]
 fn no_estimate() {
-    let road = |(tail, head)| Road { tail, head, base: 5 };
+    let road = |(tail, head)| Road::new(tail, head, 5);
     let roads = [(0, 1), (1, 2), (3, 2)].map(road).to_vec();
     let map = Map { roads, order: vec![2, 1, 0, 3] };
     let mut journey = Journey::new(map.clone(), map.base(), 0);

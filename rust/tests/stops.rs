@@ -1,11 +1,12 @@
-//! A list of stops of the proved unit (document 02, A3) beside one that is written from the documents alone:
+//! A list of stops of the proved unit (document 02, A3, with A6's classes) beside one that is written from the documents alone:
 //! leg by leg an aim and a go of `literal`. The lists stand among the other five calls, which are made in the
 //! same way, so that every word of every area, of what is lent and of the header is known after every call. The
 //! whole total is compared with every chain that meets the stops, on maps that are small enough for that.
 
 use harness::both::{same, with_stack, Both};
+use harness::brute;
 use harness::calls::{
-    Accepted, Answer, Call, Calls, Previewed, Refusal, StopList, Stopped, Trip, MOST_LEGS,
+    Accepted, Answer, Call, Calls, Previewed, Refusal, StopList, Stopped, Trip, CLASSES, MOST_LEGS,
     MOST_STOPS,
 };
 use harness::card::{LONGEST, MOST_JUNCTIONS};
@@ -38,6 +39,7 @@ impl Paper {
         let n = self.n();
         let below = |junction: u32| ((junction as usize) < n, Refusal::NoJunction);
         let aimed = (self.target().is_some(), Refusal::NoTarget);
+        let below_8 = |class: u32| (class < 8, Refusal::NoClass);
         let base = |road: u32| self.literal.map.roads.get(road as usize).map(|road| road.base);
         let road = |number: u32| (base(number).is_some(), Refusal::NoRoad);
         let time = |number: u32, time: Time| {
@@ -48,18 +50,23 @@ impl Paper {
             Call::Set { road: number, time: new } => vec![road(number), time(number, new)],
             Call::Aim { junction } => vec![below(junction)],
             Call::Estimate { junction } => vec![below(junction), aimed],
-            Call::Go { start, route, log } => {
-                vec![below(start), aimed, (route >= n && log >= n, Refusal::LentLengths)]
-            }
-            Call::Preview { road: number, time: new, start, work } => vec![
+            Call::Go { class, start, route, log } => vec![
+                below_8(class),
+                below(start),
+                aimed,
+                (route >= n && log >= n, Refusal::LentLengths),
+            ],
+            Call::Preview { class, road: number, time: new, start, work } => vec![
                 (work == 2 * n, Refusal::Lengths),
+                below_8(class),
                 road(number),
                 time(number, new),
                 below(start),
                 aimed,
             ],
-            Call::Stops { stops, route, log } => vec![
+            Call::Stops { class, stops, route, log } => vec![
                 (2 <= stops.len() && stops.len() <= 32, Refusal::StopCount),
+                below_8(class),
                 (stops.iter().all(|&stop| below(stop).0), Refusal::NoJunction),
                 (route >= stops.len() * n && log >= n, Refusal::LentLengths),
             ],
@@ -79,26 +86,27 @@ impl Paper {
                 }
                 return Ok(Accepted::Estimate(estimates[junction as usize]));
             }
-            Call::Go { start, .. } => {
-                let Searched { total, route, log, .. } = self.go(start);
+            Call::Go { class, start, .. } => {
+                let Searched { total, route, log, .. } = self.go(class, start);
                 lent.log[..log.len()].copy_from_slice(&log);
                 lent.route[..route.len()].copy_from_slice(&route);
                 let count = log.len() as u32;
                 let total = total.ok_or(Refusal::NoPath(count))?;
                 return Ok(Accepted::Trip(Trip { total, count, roads: route.len() as u32 }));
             }
-            Call::Preview { road, time, start, .. } => {
+            Call::Preview { class, road, time, start, .. } => {
                 let mut replaced = self.unit.live.to_vec();
                 replaced[road as usize] = time;
                 let [present, new] = [self.unit.live.to_vec(), replaced].map(|live| {
-                    let searched = self.literal.search(&live, start, self.unit.header.target);
+                    let target = self.unit.header.target;
+                    let searched = self.literal.search(class, &live, start, target);
                     self.fill(&searched);
                     searched.total
                 });
                 let change = present.zip(new).map(|(present, new)| new as i64 - present as i64);
                 return Ok(Accepted::Previewed(Previewed { present, new, change }));
             }
-            Call::Stops { stops, .. } => return self.journey(&stops, lent),
+            Call::Stops { class, stops, .. } => return self.journey(class, &stops, lent),
         }
         Ok(Accepted::Done)
     }
@@ -116,19 +124,20 @@ impl Paper {
         }
     }
 
-    fn go(&mut self, start: u32) -> Searched {
-        let searched = self.literal.search(&self.unit.live, start, self.unit.header.target);
+    fn go(&mut self, class: u32, start: u32) -> Searched {
+        let target = self.unit.header.target;
+        let searched = self.literal.search(class, &self.unit.live, start, target);
         self.fill(&searched);
         self.unit.elapsed.copy_from_slice(&searched.elapsed);
         searched
     }
 
     /// "Each leg is an aim and a go": each log from the area's beginning, the roads one after the other.
-    fn journey(&mut self, stops: &[u32], lent: &mut LentAreas) -> Answer {
+    fn journey(&mut self, class: u32, stops: &[u32], lent: &mut LentAreas) -> Answer {
         let (mut legs, mut roads) = (Vec::new(), Vec::new());
         for leg in 0..stops.len() - 1 {
             self.aim(stops[leg + 1]);
-            let Searched { total, route, log, .. } = self.go(stops[leg]);
+            let Searched { total, route, log, .. } = self.go(class, stops[leg]);
             lent.log[..log.len()].copy_from_slice(&log);
             let total = total.ok_or(Refusal::NoLeg(leg as u32))?;
             legs.push((total, route.len() as u32));
@@ -218,15 +227,18 @@ struct Met {
     /// Areas of just the lengths, and longer ones.
     lengths: [usize; 2],
     /// Refused with each number.
-    refusals: [usize; 18],
+    refusals: [usize; Refusal::NUMBERS],
     /// 16 with no stop, one, 33, and more.
     counts: [usize; 4],
     /// 12 by the last stop alone.
     last_stop: usize,
     /// 14 by one entry of the route area, and of the log area.
     by_one: [usize; 2],
-    /// Where a later question would refuse too: 16 and 12, 12 and 14.
-    both: [usize; 2],
+    /// Where a later question would refuse too: 16 and 12, 12 and 14, 16 and 18, 18 and 12, 18 and 14.
+    both: [usize; 5],
+    /// Made with a class that some road bars: found otherwise than if none did, and 17 where there would be a chain.
+    round_barred: usize,
+    lost_to_bars: usize,
 }
 
 impl Met {
@@ -244,7 +256,7 @@ impl Met {
             Call::Estimate { .. } => 2,
             Call::Go { .. } => 3,
             Call::Preview { .. } => 4,
-            Call::Stops { stops, route, log } => {
+            Call::Stops { class, stops, route, log } => {
                 match answer {
                     Ok(Accepted::Stopped(stopped)) => self.found(&stops, stopped, before),
                     Err(Refusal::NoLeg(leg)) => self.lost(&stops, leg, &paper.unit, before),
@@ -256,7 +268,8 @@ impl Met {
                         Err(Refusal::NoLeg(leg)) => leg as usize + 1,
                         _ => stops.len() - 1,
                     };
-                    self.searched(&stops, last, [route, log], before, paper);
+                    self.searched(class, &stops, last, [route, log], before, paper);
+                    self.barred(class, &stops[..=last], answer, before, paper);
                 }
                 return;
             }
@@ -294,9 +307,27 @@ impl Met {
         assert!(after.live == before.live, "live times stay");
     }
 
+    /// A list that was made up to a stop with a class that some road bars, beside its legs' totals if none did.
+    fn barred(&mut self, class: u32, stops: &[u32], answer: Answer, before: &Unit, paper: &Paper) {
+        let map = &paper.literal.map;
+        if map.roads.iter().all(|road| road.admits(class)) {
+            return;
+        }
+        let least = |ends: &[u32]| brute::least(map, &before.live, ends[0])[ends[1] as usize];
+        let whole: u64 = stops.windows(2).map(|ends| u64::from(least(ends))).sum();
+        match answer {
+            Ok(Accepted::Stopped(stopped)) => {
+                assert!(whole <= stopped.whole);
+                self.round_barred += (whole < stopped.whole) as usize;
+            }
+            _ => self.lost_to_bars += (least(&stops[stops.len() - 2..]) != NONE) as usize,
+        }
+    }
+
     /// A list that was made up to a stop.
     fn searched(
         &mut self,
+        class: u32,
         stops: &[u32],
         last: usize,
         lengths: [usize; 2],
@@ -308,7 +339,8 @@ impl Met {
         let least = [stops.len() * n, n];
         self.lengths[0] += (lengths == least) as usize;
         self.lengths[1] += (lengths[0] > least[0] && lengths[1] > least[1]) as usize;
-        let count = |ends: &[u32]| paper.literal.search(&before.live, ends[0], ends[1]).log.len();
+        let count =
+            |ends: &[u32]| paper.literal.search(class, &before.live, ends[0], ends[1]).log.len();
         let last_count = count(&stops[last - 1..=last]);
         self.longer_log += stops[..last].windows(2).any(|ends| count(ends) > last_count) as usize;
     }
@@ -334,14 +366,21 @@ impl Met {
                 let first = stops.iter().position(|&stop| stop as usize >= n);
                 self.last_stop += (first == Some(stops.len() - 1)) as usize;
             }
+            Refusal::NoClass => (),
             _ => {
                 self.by_one[0] += (route + 1 == stops.len() * n && log >= n) as usize;
                 self.by_one[1] += (log + 1 == n && route >= stops.len() * n) as usize;
             }
         }
-        self.both[0] += questions.starts_with(&[Refusal::StopCount, Refusal::NoJunction]) as usize;
-        self.both[1] +=
-            questions.starts_with(&[Refusal::NoJunction, Refusal::LentLengths]) as usize;
+        for (met, two) in self.both.iter_mut().zip([
+            [Refusal::StopCount, Refusal::NoJunction],
+            [Refusal::NoJunction, Refusal::LentLengths],
+            [Refusal::StopCount, Refusal::NoClass],
+            [Refusal::NoClass, Refusal::NoJunction],
+            [Refusal::NoClass, Refusal::LentLengths],
+        ]) {
+            *met += questions.starts_with(&two) as usize;
+        }
     }
 
     /// Everything that a list can answer was met at least so often.
@@ -355,6 +394,8 @@ impl Met {
             self.roads,
             self.longer_log,
             self.changed,
+            self.round_barred,
+            self.lost_to_bars,
         ];
         let rows = [&self.lost[..], &some, &self.targets, &self.lengths, &self.others.concat()];
         assert!(rows.concat().iter().all(|&met| met >= least), "{self:?}");
@@ -362,7 +403,7 @@ impl Met {
 
     /// And so was every refusal.
     fn refusals_at_least(&self, least: usize) {
-        let refusals = [12, 14, 16].map(|number| self.refusals[number]);
+        let refusals = [12, 14, 16, 18].map(|number| self.refusals[number]);
         let rows = [&refusals[..], &self.counts, &[self.last_stop], &self.by_one, &self.both];
         assert!(rows.concat().iter().all(|&met| met >= least), "{self:?}");
         assert_eq!(self.refusals.iter().sum::<usize>(), refusals.iter().sum(), "{self:?}");
@@ -419,7 +460,15 @@ fn list(random: &mut Random, n: usize) -> Call {
         2..10 => n + 1 + more,
         _ => n,
     };
-    Call::Stops { stops: StopList::of(&stops), route, log }
+    Call::Stops { class: class(random), stops: StopList::of(&stops), route, log }
+}
+
+/// A class: mostly one.
+fn class(random: &mut Random) -> u32 {
+    match random.below(12) {
+        0 => random.pick(&[8, 9, 255, 256, u32::MAX]),
+        _ => random.below(CLASSES as usize) as u32,
+    }
 }
 
 /// A time for a road: mostly an allowed one.
@@ -441,19 +490,22 @@ fn any_call(random: &mut Random, map: &Map) -> Call {
     let road = random.below(m + more_roads as usize) as u32;
     let base = map.roads.get(road as usize).map_or(1, |road| road.base);
     let time = time(random, base);
-    let less = random.below(8) / 7;
+    let (less, class) = (random.below(8) / 7, class(random));
     match random.below(20) {
         0..3 => Call::Set { road, time },
         3..5 => Call::Aim { junction },
         5..7 => Call::Estimate { junction },
-        7..10 => Call::Go { start: junction, route: n + 2 - 3 * less, log: n + 1 - less },
-        10..12 => Call::Preview { road, time, start: junction, work: 2 * n - less },
+        7..10 => Call::Go { class, start: junction, route: n + 2 - 3 * less, log: n + 1 - less },
+        10..12 => Call::Preview { class, road, time, start: junction, work: 2 * n - less },
         _ => list(random, n),
     }
 }
 
-/// A list of calls on one map, whose roads are delayed and closed at first.
-fn run(random: &mut Random, map: Map, calls: usize, met: &mut Met) {
+/// A list of calls on one map, whose roads are delayed and closed at first; often some bar classes.
+fn run(random: &mut Random, mut map: Map, calls: usize, met: &mut Met) {
+    if random.chance(60) {
+        maps::bar(random, &mut map);
+    }
     let live = traffic::live_times(random, &map);
     let mut trial = Trial::new(map);
     for (road, time) in (0..).zip(live) {
@@ -476,7 +528,7 @@ fn small_maps() {
         run(&mut random, map, 30, &mut met);
     }
     met.outcomes_at_least(100);
-    met.refusals_at_least(40);
+    met.refusals_at_least(30);
 }
 
 #[test]
@@ -491,7 +543,7 @@ fn towns() {
                 1 => maps::line(2 + random.below(60)),
                 _ => maps::town(&mut random, width, height, Streets::USUAL),
             };
-            run(&mut random, map, 60, &mut met);
+            run(&mut random, map, 150, &mut met);
         }
         met.outcomes_at_least(3);
         met.refusals_at_least(2);
@@ -505,12 +557,13 @@ fn every_number_of_legs() {
     let mut met = Met::default();
     // All are reached from all, but for the last junction, which no road leads to.
     let mut map = maps::even_grid(&mut random, 4, 4);
-    map.roads.push(Road { tail: 16, head: 3, base: 2 });
+    map.roads.push(Road::new(16, 3, 2));
     map.order.insert(5, 16);
     let mut trial = Trial::new(map);
     let mut failed = 0;
     for legs in 1..=MOST_LEGS {
         let list = |stops: &[u32]| Call::Stops {
+            class: 0,
             stops: StopList::of(stops),
             route: 17 * stops.len(),
             log: 17,
@@ -547,12 +600,12 @@ fn refusals_in_order() {
             let mut trial = Trial::new(map.clone());
             if aimed {
                 trial.call(&mut random, Call::Aim { junction: 0 }, &mut met).unwrap();
-                let go = Call::Go { start: n as u32 - 1, route: n, log: n };
+                let go = Call::Go { class: 0, start: n as u32 - 1, route: n, log: n };
                 trial.call(&mut random, go, &mut met).ok();
             }
             let mut refuse = |stops: &[u32], route: usize, log: usize, question| {
                 let before = trial.unit.clone();
-                let call = Call::Stops { stops: StopList::of(stops), route, log };
+                let call = Call::Stops { class: 0, stops: StopList::of(stops), route, log };
                 let answer = trial.call(&mut random, call, &mut met);
                 assert_eq!(answer, Err(question), "{call:?}");
                 assert!(trial.unit == before, "{call:?}, refused, alters the unit");
@@ -584,22 +637,28 @@ fn refusals_in_order() {
                 }
             }
             // With one entry more each, it is made.
-            let call = Call::Stops { stops: StopList::of(&[0; 32]), route: 32 * n, log: n };
+            let call =
+                Call::Stops { class: 0, stops: StopList::of(&[0; 32]), route: 32 * n, log: n };
             assert_eq!(
                 trial.call(&mut random, call, &mut met),
                 Ok(Accepted::Stopped(Stopped::of(&[(0, 0); 31])))
             );
         }
     }
-    met.refusals_at_least(6);
+    let kinds = [12, 14, 16].map(|number| met.refusals[number]);
+    assert!(kinds.iter().all(|&met| met >= 6), "{met:?}");
     assert_eq!(refused, 3 * 2 * (20 + 4 * 37 + 3 * 24));
 }
 
 /// The lists on map P, with the router beside them.
 #[test]
 fn stops_of_map_p() {
-    let call =
-        |stops: &[u32]| Call::Stops { stops: StopList::of(stops), route: 4 * stops.len(), log: 4 };
+    let call = |stops: &[u32]| Call::Stops {
+        class: 0,
+        stops: StopList::of(stops),
+        route: 4 * stops.len(),
+        log: 4,
+    };
     let mut both = Both::prepare(&maps::map_p(), 5).unwrap();
     let reply = both.call(call(&[0, 3, 0]));
     assert_eq!(reply.answer, Ok(Accepted::Stopped(Stopped::of(&[(20, 2), (20, 1)]))));
@@ -618,6 +677,43 @@ fn stops_of_map_p() {
     assert_eq!((&reply.route[..], &reply.log[..]), (&[0, 1][..], &[3, 1, 3][..]));
     assert_eq!((both.unit.header.aimed, both.unit.header.target), (1, 0));
     assert_eq!(both.unit.elapsed[..], [NONE, NONE, NONE, 0]);
+}
+
+/// Map P with road 1 barred to class 0: there and back by the other roads, or by it; with road 2 closed too, 17 for
+/// that class alone. 18 comes after 16, and before 12 and 14.
+#[test]
+fn stops_of_classes() {
+    let call = |class, stops: &[u32]| {
+        let stops = StopList::of(stops);
+        Call::Stops { class, stops, route: 4 * stops.len(), log: 4 }
+    };
+    let found = |legs: &[(u64, u32)]| Ok(Accepted::Stopped(Stopped::of(legs)));
+    let mut both = Both::prepare(&maps::map_p_with_classes(), 5).unwrap();
+    for _ in 0..2 {
+        let reply = both.call(call(0, &[0, 3, 0]));
+        assert_eq!(reply.answer, found(&[(25, 2), (20, 1)]));
+        assert_eq!((&reply.route[..], &reply.log[..]), (&[2, 3, 4][..], &[3, 0, 2, 3][..]));
+        let reply = both.call(call(1, &[0, 3, 0]));
+        assert_eq!(reply.answer, found(&[(20, 2), (20, 1)]));
+        assert_eq!((&reply.route[..], &reply.log[..]), (&[0, 1, 4][..], &[3, 0, 3][..]));
+        assert_eq!(both.unit.live[..], maps::map_p().base());
+    }
+    both.call(Call::Set { road: 2, time: CLOSED });
+    let reply = both.call(call(0, &[3, 0, 3]));
+    assert_eq!(reply.answer, Err(Refusal::NoLeg(1)));
+    assert_eq!((&reply.route[..], &reply.log[..]), (&[4][..], &[0, 1][..]));
+    assert_eq!(both.call(call(7, &[3, 0, 3])).answer, found(&[(20, 1), (20, 2)]));
+    for class in [8, 9, 255, u32::MAX] {
+        for stops in [&[0, 3][..], &[4, 9], &[0; 32]] {
+            assert_eq!(both.call(call(class, stops)).answer, Err(Refusal::NoClass));
+            let stops = StopList::of(stops);
+            let short = Call::Stops { class, stops, route: 0, log: 0 };
+            assert_eq!(both.call(short).answer, Err(Refusal::NoClass));
+        }
+        for stops in [&[][..], &[0], &[4; 33]] {
+            assert_eq!(both.call(call(class, stops)).answer, Err(Refusal::StopCount));
+        }
+    }
 }
 
 /// The chains of at most so many open roads.
@@ -663,7 +759,11 @@ fn at_most_every_chain_that_meets_the_stops() {
     for _ in 0..4_000 {
         let n = 1 + random.below(4);
         let m = if n == 1 { 0 } else { random.below(8) };
-        let map = maps::random(&mut random, n, m, 3);
+        let mut map = maps::random(&mut random, n, m, 3);
+        let class = random.below(CLASSES as usize) as u32;
+        if random.chance(50) {
+            maps::bar(&mut random, &mut map);
+        }
         let live = traffic::live_times(&mut random, &map);
         let count = 2 + random.below(3);
         let stops = stops(&mut random, n, count, 0);
@@ -673,7 +773,8 @@ fn at_most_every_chain_that_meets_the_stops() {
             unit.set(road, time).unwrap();
         }
         let (mut route, mut log) = (Area::new(count * n), Area::new(n));
-        let answer = unit.stops(&stops, &mut route, &mut log);
+        let answer = unit.stops(class, &stops, &mut route, &mut log);
+        let live = map.met_by(class, &live);
 
         // Each leg of the answer has at most n - 1 roads; a chain of more may meet the stops too.
         let all = Chains { roads: &map.roads, live: &live, longest: (count - 1) * (n - 1) + 1 };
@@ -718,7 +819,8 @@ fn the_largest_whole() {
         let map = maps::ring(n);
         let mut both = Both::prepare(&map, order::pairs(&map)).unwrap();
         let stops: Vec<u32> = (0..MOST_STOPS).rev().map(|stop| stop as u32).collect();
-        let call = Call::Stops { stops: StopList::of(&stops), route: MOST_STOPS * n, log: n };
+        let call =
+            Call::Stops { class: 0, stops: StopList::of(&stops), route: MOST_STOPS * n, log: n };
         let reply = both.call(call);
         let want = Stopped::of(&[(4_095_000_000, 4_095); MOST_LEGS]);
         assert_eq!(reply.answer, Ok(Accepted::Stopped(want)));
@@ -737,7 +839,11 @@ fn the_largest_whole() {
 fn the_largest_town() {
     with_stack(|| {
         let mut random = Random::new(6);
-        let map = maps::largest_town(&mut random);
+        let mut map = maps::largest_town(&mut random);
+        // One in 20 roads bars some classes.
+        for i in 0..map.m() / 20 {
+            map.roads[20 * i].access = random.word() as u8;
+        }
         let n = map.n();
         let mut both = Both::prepare(&map, order::pairs(&map)).unwrap();
         let (mut found, mut lost) = (0, 0);
@@ -748,7 +854,9 @@ fn the_largest_town() {
             }
             for count in [2, 3, 9, 17, MOST_STOPS] {
                 let stops = stops(&mut random, n, count, 0);
-                let call = Call::Stops { stops: StopList::of(&stops), route: count * n, log: n };
+                let class = random.below(CLASSES as usize) as u32;
+                let (stop_list, route) = (StopList::of(&stops), count * n);
+                let call = Call::Stops { class, stops: stop_list, route, log: n };
                 let mut single = both.unit.clone();
                 let reply = both.call(call);
                 // The same leg by leg through the calls of document 01.
@@ -757,7 +865,7 @@ fn the_largest_town() {
                 let mut due = None;
                 for (leg, ends) in (0..).zip(stops.windows(2)) {
                     single.aim(ends[1]).unwrap();
-                    match single.go(ends[0], &mut route, &mut log) {
+                    match single.go(class, ends[0], &mut route, &mut log) {
                         Ok(trip) => {
                             roads.extend(&route[..trip.roads as usize]);
                             legs.push((trip.total, trip.roads));

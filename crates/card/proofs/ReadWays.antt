@@ -1,90 +1,128 @@
 -- The ways through reading: the first of questions 1 to 6 that refuses is the answer. Assumes nothing.
-use mathlib.Core.Path.{_∙_, _≡_, ap, ap₂, sym}
-use mathlib.Core.Bool.{false, true}
+use mathlib.Core.Path.{_∙_, _≡_, ap, ap₂, refl, sym}
+use mathlib.Core.Bool.{Bool, false, true}
 use mathlib.Core.Option.{Option, none, some}
 use mathlib.Core.List.{List}
 use Prim.Native.Nat.{_/_, _<_, _≤_, ℕ}
 use borrow.Author.Tests.{le-leb, lt-leb}
+use lib.Dec.{leb}
 use lib.ListN.{length}
 use native.Mathlib.Omega.{arith}
-use Rattle.model.specs.Types.{Kinds, Read, Refusal, Short, Starts, Unreadable}
-use Rattle.model.specs.Layout.{Section, body, placeSize, roadSize, section, sections, tableSize}
-use Rattle.model.specs.Card.{bodiesRefusal, cardRefusal, kindsOk, mapOn, readCard, reading, rowsOf, rowsRefusal, startsOk}
-use Rattle.model.specs.Accept.{BodyFacts, bodies-refusal, body-facts, table-facts}
-use Rattle.card_layout.specs.Sections.{bodyAt, entryOf}
-use Rattle.card_layout.proofs.Entries.{body-is, entry-is}
+use Rattle.model.specs.Types.{Kinds, Read, Refusal, Short, Sizes, Starts, Unreadable}
+use Rattle.model.specs.Layout.{Section, accessFits, countSize, orderIn, placeSize, roadSize, roadsIn, roadsKind, sections, sectionsFrom}
+use Rattle.model.specs.Layout.{tableSize}
+use Rattle.model.specs.Card.{ask, bodiesRefusal, cardRefusal, countOk, kindsOk, mapOn, readCard, reading, rowsOf, startsOk}
+use Rattle.model.specs.Accept.{SizesFacts, rows-facts, sizes-facts}
 use Rattle.card_sections.proofs.Roads.{arcs, junctions}
 
-pub read-1 : (card : List ℕ) → length card < tableSize → Unreadable Short ≡ readCard card
-unfolding cardRefusal
-read-1 card h = rw (lt-leb tableSize (length card) h)
+-- a question that passes leaves the rest, and one that does not refuses
+on : (b : Bool) (q : Refusal) {r x : Option Refusal} → b ≡ true → r ≡ x → ask b q r ≡ x
+on b q h e = rw h e
 
--- past question 1: the number of sections and the two entries, as they were read
-pub record Entries (card : List ℕ) (count : ℕ) (a b : Section) : Type 0 where
-  pub long : tableSize ≤ length card
-  pub count-is : count ≡ sections card
-  pub first : a ≡ entryOf card 0
-  pub second : b ≡ entryOf card 1
+off : (b : Bool) (q : Refusal) (r : Option Refusal) → b ≡ false → ask b q r ≡ some q
+off b q r h = rw h
 
-module _ {card : List ℕ} {count : ℕ} {a b : Section} (t : Entries card count a b) where
-  first-is : section card 0 ≡ a
-  first-is = sym (t .first ∙ entry-is card 0 (omega (arith, t .long)))
+-- what the first questions gave: the number of sections, and a table that ends within the card
+pub record Tabled (card : List ℕ) : Type 0 where
+  pub four : countSize ≤ length card
+  pub count : countOk (sections card) ≡ true
+  pub long : tableSize (sections card) ≤ length card
 
-  second-is : section card 1 ≡ b
-  second-is = sym (t .second ∙ entry-is card 1 (omega (arith, t .long)))
+module _ (card : List ℕ) where
+  abbrev entries : List Section
+  entries = sectionsFrom card 0 (sections card)
 
-  kinds-are : kindsOk (sections card) (section card 0) (section card 1) ≡ kindsOk count a b
-  kinds-are = ap (λ (k : ℕ). kindsOk k (section card 0) (section card 1)) (sym (t .count-is)) ∙ ap₂ (kindsOk count) first-is second-is
+  abbrev end : ℕ
+  end = length card
 
-  starts-are : startsOk (section card 0) (section card 1) (length card) ≡ startsOk a b (length card)
-  starts-are = ap₂ (λ (x : Section) (y : Section). startsOk x y (length card)) first-is second-is
+  abbrev pub kindsRight : Bool
+  kindsRight = kindsOk roadsKind entries
 
-  pub read-2 : kindsOk count a b ≡ false → Unreadable Kinds ≡ readCard card
+  abbrev pub startsRight : Bool
+  startsRight = startsOk (tableSize (sections card)) entries end
+
+  abbrev pub thirdFits : Bool
+  thirdFits = accessFits card (length (roadsIn card) / roadSize)
+
+-- what the questions of the table gave
+pub record Right (card : List ℕ) : Type 0 where
+  pub table : Tabled card
+  pub kinds : kindsRight card ≡ true
+  pub starts : startsRight card ≡ true
+  pub third : thirdFits card ≡ true
+
+-- ---- the questions of the table, in order
+
+module _ (card : List ℕ) where
+  told : {q : Refusal} → cardRefusal card ≡ some q → Unreadable q ≡ readCard card
+  told e = ap (reading (mapOn card .vertices) (mapOn card .base .arcs)) (sym e)
+
+  pub read-1 : length card < countSize → Unreadable Short ≡ readCard card
   unfolding cardRefusal
-  read-2 k = rw (le-leb tableSize (length card) (t .long), kinds-are ∙ k)
+  read-1 h = told (off (leb countSize (end card)) Short _ (lt-leb countSize (end card) h))
 
-  pub read-3 : kindsOk count a b ≡ true → startsOk a b (length card) ≡ false → Unreadable Starts ≡ readCard card
+  module _ (four : countSize ≤ length card) where
+    past-four : leb countSize (end card) ≡ true
+    past-four = le-leb countSize (end card) four
+
+    pub read-2 : countOk (sections card) ≡ false → Unreadable Kinds ≡ readCard card
+    unfolding cardRefusal
+    read-2 h = told (on (leb countSize (end card)) Short past-four (off (countOk (sections card)) Kinds _ h))
+
+    pub read-1-table : countOk (sections card) ≡ true → length card < tableSize (sections card) → Unreadable Short ≡ readCard card
+    unfolding cardRefusal
+    read-1-table k h =
+        told (on (leb countSize (end card)) Short past-four (on (countOk (sections card)) Kinds k
+        (off (leb (tableSize (sections card)) (end card)) Short _ (lt-leb (tableSize (sections card)) (end card) h))))
+
+module _ {card : List ℕ} (t : Tabled card) where
+  past-table : {x : Option Refusal} →
+      let bodies = bodiesRefusal (roadsIn card) (orderIn card) in
+      ask (kindsRight card) Kinds (ask (startsRight card) Starts (ask (thirdFits card) Sizes bodies)) ≡ x → cardRefusal card ≡ x
   unfolding cardRefusal
-  read-3 k s = rw (le-leb tableSize (length card) (t .long), kinds-are ∙ k, starts-are ∙ s)
+  past-table e =
+      let size = tableSize (sections card) in
+      on (leb countSize (end card)) Short (past-four card (t .four)) (on (countOk (sections card)) Kinds (t .count)
+      (on (leb size (end card)) Short (le-leb size (end card) (t .long)) e))
 
--- past questions 2 and 3: the table is right, and the bodies are the parts of the card that it names
-pub record Table (card : List ℕ) (count : ℕ) (a b : Section) : Type 0 where
-  pub entries : Entries card count a b
-  pub kinds : kindsOk count a b ≡ true
-  pub starts : startsOk a b (length card) ≡ true
+  pub read-2-kinds : kindsRight card ≡ false → Unreadable Kinds ≡ readCard card
+  read-2-kinds h = told card (past-table (off (kindsRight card) Kinds _ h))
 
-module _ {card : List ℕ} {count : ℕ} {a b : Section} (t : Table card count a b) where
-  kinds-right : kindsOk (sections card) (section card 0) (section card 1) ≡ true
-  kinds-right = kinds-are (t .entries) ∙ t .kinds
+  pub read-3 : kindsRight card ≡ true → startsRight card ≡ false → Unreadable Starts ≡ readCard card
+  read-3 k h = told card (past-table (on (kindsRight card) Kinds k (off (startsRight card) Starts _ h)))
 
-  starts-right : startsOk (section card 0) (section card 1) (length card) ≡ true
-  starts-right = starts-are (t .entries) ∙ t .starts
+  pub read-4 : kindsRight card ≡ true → startsRight card ≡ true → thirdFits card ≡ false → Unreadable Sizes ≡ readCard card
+  read-4 k s h =
+      told card (past-table (on (kindsRight card) Kinds k (on (startsRight card) Starts s (off (thirdFits card) Sizes _ h))))
 
-  said : cardRefusal card ≡ rowsRefusal (section card 0 .size) (section card 1 .size) (rowsOf card)
-  unfolding cardRefusal
-  said = rw (le-leb tableSize (length card) (t .entries .long), kinds-right, starts-right)
+-- ---- the questions of the bodies
 
-  facts : BodyFacts card
-  facts = body-facts card (table-facts (sections card) (section card 0) (section card 1) (length card) kinds-right starts-right)
+module _ {card : List ℕ} (r : Right card) {x : Option Refusal} (e : x ≡ bodiesRefusal (roadsIn card) (orderIn card)) where
+  rest : x ≡ cardRefusal card
+  rest =
+      e ∙ sym (past-table (r .table) (on (kindsRight card) Kinds (r .kinds)
+      (on (startsRight card) Starts (r .starts) (on (thirdFits card) Sizes (r .third) refl))))
 
-  -- the questions of the bodies at the reader's two places are those of the card
-  rest : (x : Option Refusal) → x ≡ bodiesRefusal (bodyAt card 0) (bodyAt card 1) → x ≡ cardRefusal card
-  rest x e =
-      let roads = body-is card 0 (omega (arith, t .entries .long)) (facts .roads-within) in
-      let order = body-is card 1 (omega (arith, t .entries .long)) (facts .order-within) in
-      e ∙ ap₂ bodiesRefusal roads order ∙ bodies-refusal card facts ∙ sym said
+  pub read-failed : {q : Refusal} → some q ≡ x → Unreadable q ≡ readCard card
+  read-failed y = told card (sym (y ∙ rest))
 
-  pub read-failed : {x : Option Refusal} {q : Refusal} → x ≡ bodiesRefusal (bodyAt card 0) (bodyAt card 1) → some q ≡ x
-      → Unreadable q ≡ readCard card
-  read-failed {x} e y = ap (reading (mapOn card .vertices) (mapOn card .base .arcs)) (y ∙ rest x e)
+  -- n and m are words
+  module _ (y : none ≡ x) where
+    sizes : SizesFacts (length (roadsIn card)) (length (orderIn card))
+    sizes =
+        let a = length (roadsIn card) in
+        let b = length (orderIn card) in
+        sizes-facts a b (rows-facts a b (rowsOf card) (sym (y ∙ e)) .sizes)
 
-  pub read-passed : {x : Option Refusal} → x ≡ bodiesRefusal (bodyAt card 0) (bodyAt card 1) → none ≡ x
-      → Read (b .size / placeSize) (a .size / roadSize) ≡ readCard card
-  read-passed {x} e y =
-      let roads = body card (section card 0) in
-      let order = body card (section card 1) in
-      let order-size = ap (λ (z : Section). z .size) (sym (second-is (t .entries))) ∙ sym (facts .order-size) in
-      let roads-size = ap (λ (z : Section). z .size) (sym (first-is (t .entries))) ∙ sym (facts .roads-size) in
-      let n : b .size / placeSize ≡ mapOn card .vertices = ap (_/ placeSize) order-size ∙ sym (junctions roads order) in
-      let m : a .size / roadSize ≡ mapOn card .base .arcs = ap (_/ roadSize) roads-size ∙ sym (arcs roads order) in
-      ap₂ Read n m ∙ ap (reading (mapOn card .vertices) (mapOn card .base .arcs)) (y ∙ rest x e)
+    pub n-fits : {k : ℕ} → k ≡ length (orderIn card) → k / placeSize < 4294967296
+    n-fits ek = omega (arith, ek, sizes .order-high)
+
+    pub m-fits : {l : ℕ} → l ≡ length (roadsIn card) → l / roadSize < 4294967296
+    m-fits el = omega (arith, el, sizes .roads-high)
+
+    pub read-passed : {k l : ℕ} → k ≡ length (orderIn card) → l ≡ length (roadsIn card)
+        → Read (k / placeSize) (l / roadSize) ≡ readCard card
+    read-passed ek el =
+        let n = ap (_/ placeSize) ek ∙ sym (junctions (roadsIn card) (orderIn card)) in
+        let m = ap (_/ roadSize) el ∙ sym (arcs (roadsIn card) (orderIn card)) in
+        ap₂ Read n m ∙ ap (reading (mapOn card .vertices) (mapOn card .base .arcs)) (y ∙ rest)

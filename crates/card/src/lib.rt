@@ -20,23 +20,32 @@ pub enum Writing {
 pub fn read(card: &[u8]) -> Reading
     ensures { λ r. ⌜ ReadContract (now (card .entry)) (readingIn r) ⌝ }
 {
-    if card.len() < card_layout::TABLE_SIZE {
+    if card.len() < card_layout::COUNT_SIZE {
         return Reading::Unreadable(Refusal::SHORT);
     }
-    let roads = card_layout::section_at(card, 0);
-    let order = card_layout::section_at(card, 1);
-    if !card_checks::kinds_ok(card_layout::sections(card), roads, order) {
+    let count = card_layout::sections(card);
+    if !card_checks::count_ok(count) {
         return Reading::Unreadable(Refusal::KINDS);
     }
-    if !card_checks::starts_ok(roads, order, card.len()) {
+    if card.len() < card_layout::table_size(count) {
+        return Reading::Unreadable(Refusal::SHORT);
+    }
+    if !card_checks::kinds_ok(card) {
+        return Reading::Unreadable(Refusal::KINDS);
+    }
+    if !card_checks::starts_ok(card) {
         return Reading::Unreadable(Refusal::STARTS);
+    }
+    let m = card_layout::roads_of(card).len() / card_layout::ROAD_SIZE;
+    if !card_layout::access_fits(card, m) {
+        return Reading::Unreadable(Refusal::SIZES);
     }
     match card_reader::check(card) {
         Verdict::Failed(q) => Reading::Unreadable(q),
-        Verdict::Passed => Reading::Read(
-            order.size / card_layout::PLACE_SIZE as u32,
-            roads.size / card_layout::ROAD_SIZE as u32,
-        ),
+        Verdict::Passed => {
+            let n = card_layout::order_of(card).len() / card_layout::PLACE_SIZE;
+            Reading::Read(n as u32, m as u32)
+        }
     }
 }
 

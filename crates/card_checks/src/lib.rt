@@ -1,34 +1,58 @@
-// Questions 2 to 6 on numbers: what is asked of the entries of a card, and what its bodies and the rows of a map share.
+// Questions 2 to 6: what is asked of the entries of a card, and what its bodies and the rows of a map share.
 ghost use mathlib.Core.Path.{_≡_};
 ghost use mathlib.Core.Bool.{_&&_, cond};
+ghost use Prim.Native.Nat.{_≤_};
 ghost use lib.Dec.{eqb, ltb};
 ghost use lib.ListN.{getD, length, set};
-ghost use Rattle.model.specs.Card.{kindsOk, roadFits, sizesOk, startsOk};
-ghost use Rattle.card_layout.specs.Sections.{sectionIn};
-use card_layout::Section;
+ghost use Rattle.model.specs.Layout.{roadsKind, sections, sectionsFrom, tableSize};
+ghost use Rattle.model.specs.Card.{countOk, kindsOk, roadFits, sizesOk, startsOk};
 
-// Question 2, of the number of sections and the two entries.
-pub fn kinds_ok(count: u32, roads: Section, order: Section) -> bool
-    ensures { λ r. ⌜ r ≡ kindsOk count (sectionIn roads) (sectionIn order) ⌝ }
+// Question 2, of the number of sections.
+pub fn count_ok(count: u32) -> bool
+    ensures { λ r. ⌜ r ≡ countOk count ⌝ }
 {
-    (count == card_layout::SECTIONS)
-        & (roads.kind == card_layout::ROADS_KIND)
-        & (order.kind == card_layout::ORDER_KIND)
+    (network::FEWEST_SECTIONS <= count) & (count <= network::MOST_SECTIONS)
 }
 
-// Question 3, of the two entries and the card's size. The sums are taken in 64 bits; one of 2^32 or more would wrap in a word.
-pub fn starts_ok(roads: Section, order: Section, size: usize) -> bool
-    ensures { λ r. ⌜ r ≡ startsOk (sectionIn roads) (sectionIn order) size ⌝ }
+// Question 2, of the entries: each has the next kind.
+pub fn kinds_ok(card: &[u8]) -> bool
+    requires { ⌜ tableSize (sections (now card)) ≤ length (now card) ⌝ }
+    ensures { λ r. ⌜ r ≡ kindsOk roadsKind (sectionsFrom (now (card .entry)) 0 (sections (now (card .entry)))) ⌝ }
 {
-    let first = roads.start as usize;
-    let middle = card_layout::TABLE_SIZE + roads.size as usize;
-    let start = order.start as usize;
-    let end = start + order.size as usize;
-    (first == card_layout::TABLE_SIZE)
-        & (middle < 4294967296)
-        & (start == middle)
-        & (end < 4294967296)
-        & (end == size)
+    let count = card_layout::sections(card);
+    let mut i: u32 = 0;
+    while i < count {
+        let s = card_layout::section_at(card, i as usize);
+        if s.kind != card_layout::ROADS_KIND + i {
+            return false;
+        }
+        i += 1;
+    }
+    true
+}
+
+// Question 3: each body begins where the one before it ends. The sums are taken in 64 bits; one of 2^32 or more would wrap in a word.
+pub fn starts_ok(card: &[u8]) -> bool
+    requires { ⌜ tableSize (sections (now card)) ≤ length (now card) ⌝ }
+    ensures { λ r. ⌜ r ≡ startsOk (tableSize (sections (now (card .entry))))
+        (sectionsFrom (now (card .entry)) 0 (sections (now (card .entry)))) (length (now (card .entry))) ⌝ }
+{
+    let count = card_layout::sections(card);
+    let mut at = card_layout::table_size(count);
+    let mut i: u32 = 0;
+    while i < count {
+        let s = card_layout::section_at(card, i as usize);
+        let end = at + s.size as usize;
+        if s.start as usize != at {
+            return false;
+        }
+        if 4294967296 <= end {
+            return false;
+        }
+        at = end;
+        i += 1;
+    }
+    at == card.len()
 }
 
 // Question 4, of two lengths in bytes.

@@ -1,58 +1,89 @@
 -- The ways through the entries and bodies of a card. Assumes nothing.
-use mathlib.Core.Path.{_∙_, _≡_, ap, refl, sym}
-use mathlib.Core.Logic.{inl, inr}
-use mathlib.Core.Bool.{Bool, false, true}
+use mathlib.Core.Path.{_∙_, _≡_, ap, ap₂, refl, sym}
+use mathlib.Core.Logic.{_≢_, inl, inr}
+use mathlib.Core.Bool.{Bool, _&&_, cond, false, true}
 use mathlib.Core.List.{List, [], _++_}
-use Prim.Native.Nat.{_+_, _-_, _/_, _<_, _≤_, ℕ}
-use borrow.Author.Tests.{le-leb, le-ltb, leb-false, leb-true, lt-leb, lt-ltb}
+use Prim.Native.Nat.{_*_, _+_, _-_, _<_, _≤_, ℕ}
+use borrow.Author.Tests.{eq-eqb, le-leb, le-ltb, leb-true, lt-leb, lt-ltb, ltb-true, ne-eqb}
 use borrow.Rule.Slice.PartMut.{postOf}
-use lib.Dec.{leb, ltb}
-use lib.ListN.{drop, length, take}
-use native.Mathlib.Decide.{decLt}
+use lib.Dec.{eqb, leb, ltb}
+use lib.ListN.{List·getD-eq-default, drop, getD, length, take}
 use native.Mathlib.Nat.{add-sub-cancel-left}
 use native.Mathlib.Omega.{arith}
-use Rattle.graph.specs.Total.{Tested, decide}
+use Rattle.graph.specs.Total.{Tested, and-true, decide, true-false}
 use Rattle.model.specs.Bytes.{wordAt}
-use Rattle.model.specs.Layout.{Section, body, entryAt, section, tableSize}
-use Rattle.card_layout.specs.Sections.{bodyAt, entryAfter, entryOf, partOf}
+use Rattle.model.specs.Layout.{Section, accessFits, accessIn, body, bodyAt, entryAt, entryOf, hasEntry, named, orderIn, partOf, placeSize}
+use Rattle.model.specs.Layout.{roadSize, roadsIn, section, sections, tableSize}
+use Rattle.model.specs.Laws.{true-and}
+use Rattle.card_layout.specs.Sections.{entryAfter}
 
--- ---- does entry i end within the card?
+-- ---- the table
 
-module _ (size i : ℕ) where
-  pub has-none : size < entryAt 0 → false ≡ leb (entryAt (i + 1)) size
-  has-none h = sym (lt-leb (entryAt (i + 1)) size (omega arith))
+-- byte i of a card that has ended
+pub no-byte : (card : List ℕ) (i : ℕ) → length card ≤ i → 0 ≡ getD card i 0
+no-byte card i h = sym (List·getD-eq-default card 0 h)
 
-  pub has-some : entryAt 0 ≤ size → ltb i ((size - 4) / 12) ≡ leb (entryAt (i + 1)) size
-  has-some h = go (decLt i ((size - 4) / 12))
-    where
-      go : Dec (i < (size - 4) / 12) → ltb i ((size - 4) / 12) ≡ leb (entryAt (i + 1)) size
-      go (yes l) = lt-ltb i ((size - 4) / 12) l ∙ sym (le-leb (entryAt (i + 1)) size (omega arith))
-      go (no l) =
-          let k : (size - 4) / 12 ≤ i = omega arith in
-          le-ltb i ((size - 4) / 12) k ∙ sym (lt-leb (entryAt (i + 1)) size (omega arith))
+-- the first word, by its bytes
+pub count-read : (card : List ℕ) {a b c d : ℕ} → a ≡ getD card 0 0 → b ≡ getD card 1 0 → c ≡ getD card 2 0 → d ≡ getD card 3 0
+    → a + 256 * b + 65536 * c + 16777216 * d ≡ sections card
+unfolding wordAt
+count-read card ea eb ec ed = rw (ea, eb, ec, ed)
+
+-- ---- has the table an entry i?
+
+module _ (card : List ℕ) (i c : ℕ) (e : c ≡ sections card) where
+  pub has-none : c ≤ i → false ≡ hasEntry card i
+  has-none h = sym (ap (_&& leb (entryAt (i + 1)) (length card)) (le-ltb i (sections card) (omega arith)))
+
+  pub has-some : i < c → leb (entryAt (i + 1)) (length card) ≡ hasEntry card i
+  has-some h = sym (ap (_&& leb (entryAt (i + 1)) (length card)) (lt-ltb i (sections card) (omega arith)))
+
+-- an entry that there is, and one that there is not
+pub has-both : (card : List ℕ) (i : ℕ) → hasEntry card i ≡ true → (i < sections card) × (entryAt (i + 1) ≤ length card)
+has-both card i h =
+    let p = and-true (ltb i (sections card)) (leb (entryAt (i + 1)) (length card)) h in
+    (ltb-true i (sections card) (p .0), leb-true (entryAt (i + 1)) (length card) (p .1))
+
+pub has-not : (card : List ℕ) (i : ℕ) → hasEntry card i ≡ false → hasEntry card (i + 1) ≡ false
+has-not card i h = go (decide (hasEntry card (i + 1)))
+  where
+    go : Tested (hasEntry card (i + 1)) → hasEntry card (i + 1) ≡ false
+    go (inl t) =
+        let p = has-both card (i + 1) t in
+        let q = true-and _ _ (lt-ltb i (sections card) (omega (arith, p .0)))
+        (le-leb (entryAt (i + 1)) (length card) (omega (arith, p .1))) in
+        absurd (true-false q h)
+    go (inr f) = f
 
 -- what the answer b says of entry i
-module _ (card : List ℕ) (i : ℕ) {b : Bool} (e : b ≡ leb (entryAt (i + 1)) (length card)) where
+module _ (card : List ℕ) (i : ℕ) {b : Bool} (e : b ≡ hasEntry card i) where
   pub fits : b ≡ true → entryAt (i + 1) ≤ length card
-  fits t = leb-true (entryAt (i + 1)) (length card) (sym e ∙ t)
+  fits t = has-both card i (sym e ∙ t) .1
 
   pub after-some : b ≡ true → i + 1 ≡ entryAfter card i
   unfolding entryAfter
-  after-some t = rw (← e, t)
+  after-some t = sym (ap (λ (x : Bool). cond x (i + 1) i) (sym e ∙ t))
 
   pub after-none : b ≡ false → i ≡ entryAfter card i
   unfolding entryAfter
-  after-none f = rw (← e, f)
+  after-none f = sym (ap (λ (x : Bool). cond x (i + 1) i) (sym e ∙ f))
 
   pub no-entry : b ≡ false → record { kind = 0; start = 0; size = 0 } ≡ entryOf card i
   unfolding entryOf
-  no-entry f = rw (← e, f)
+  no-entry f = sym (ap (λ (x : Bool). cond x (section card i) (record { kind = 0; start = 0; size = 0 })) (sym e ∙ f))
+
+  entry-is : b ≡ true → section card i ≡ entryOf card i
+  unfolding entryOf
+  entry-is t = sym (ap (λ (x : Bool). cond x (section card i) (record { kind = 0; start = 0; size = 0 })) (sym e ∙ t))
 
   -- the words that were read are the entry's
   pub entry-read : {k s l : ℕ} → b ≡ true → k ≡ wordAt card (entryAt i) → s ≡ wordAt card (entryAt i + 4) → l ≡ wordAt card (entryAt i + 8)
       → record { kind = k; start = s; size = l } ≡ entryOf card i
-  unfolding entryOf
-  entry-read t ek es el = rw (← e, t, ← ek, ← es, ← el)
+  entry-read {k} {s} {l} t ek es el = same ek es el ∙ entry-is t
+    where
+      same : {a b c : ℕ} → k ≡ a → s ≡ b → l ≡ c
+          → _≡_ {A = Section} (record { kind = k; start = s; size = l }) (record { kind = a; start = b; size = c })
+      same p q r = rw (p, q, r)
 
 -- ---- bodies
 
@@ -68,32 +99,63 @@ module _ (card : List ℕ) (s : Section) where
   pub part : s .start + s .size ≤ length card → take (s .start + s .size - s .start) (drop (s .start) card) ≡ partOf card s
   part h = rw add-sub-cancel-left (sym (part-is h))
 
--- in a card that is long enough they are the entry and the body that the layout names
-pub entry-is : (card : List ℕ) (i : ℕ) → entryAt (i + 1) ≤ length card → entryOf card i ≡ section card i
-unfolding entryOf
-entry-is card i h = rw (le-leb (entryAt (i + 1)) (length card) h)
+-- an entry of a table that ends within the card is as it stands there
+pub read-entry : (card : List ℕ) (i : ℕ) → i < sections card → tableSize (sections card) ≤ length card → section card i ≡ entryOf card i
+read-entry card i l h =
+    entry-is card i refl (true-and _ _ (lt-ltb i (sections card) l) (le-leb (entryAt (i + 1)) (length card) (omega arith)))
 
-pub body-is : (card : List ℕ) (i : ℕ) → entryAt (i + 1) ≤ length card → section card i .start + section card i .size ≤ length card
-    → bodyAt card i ≡ body card (section card i)
-body-is card i h k = ap (partOf card) (entry-is card i h) ∙ part-is card (section card i) k
-
--- a slice from byte s to byte e, which is l bytes on
-pub part-from : (card : List ℕ) (s l e : ℕ) → e ≡ s + l → take (e - s) (drop s card) ≡ take l (drop s card)
-part-from card s l e h = rw (h, add-sub-cancel-left)
+-- ---- the table that is written
 
 -- a table put at the head of an area
-pub put-first : {p q : List ℕ} (area : List ℕ) → p ≡ q → p ++ postOf 0 tableSize area ≡ q ++ drop tableSize area
-put-first area e = ap (λ (x : List ℕ). x ++ drop tableSize area) e
+pub put-first : {p q : List ℕ} (area : List ℕ) → p ≡ q → p ++ postOf 0 (tableSize 2) area ≡ q ++ drop (tableSize 2) area
+put-first area e = ap (λ (x : List ℕ). x ++ drop (tableSize 2) area) e
 
 -- ---- a walk
 
--- the body at the place after entry i is that of entry i + 1: both are nothing where the card ends before entry i does
+-- the body at the place after entry i is that of entry i + 1: both are nothing where the table has no entry i
 pub next-body : (card : List ℕ) (i : ℕ) → bodyAt card (entryAfter card i) ≡ bodyAt card (i + 1)
-next-body card i = go (decide (leb (entryAt (i + 1)) (length card)))
+unfolding bodyAt
+next-body card i = go (decide (hasEntry card i))
   where
-    go : Tested (leb (entryAt (i + 1)) (length card)) → bodyAt card (entryAfter card i) ≡ bodyAt card (i + 1)
+    go : Tested (hasEntry card i) → bodyAt card (entryAfter card i) ≡ bodyAt card (i + 1)
     go (inl t) = ap (bodyAt card) (sym (after-some card i refl t))
     go (inr f) =
-        let l : length card < entryAt (i + 1 + 1) = omega (arith, leb-false (entryAt (i + 1)) (length card) f) in
-        let none-next = no-entry card (i + 1) (sym (lt-leb (entryAt (i + 1 + 1)) (length card) l)) refl in
-        ap (bodyAt card) (sym (after-none card i refl f)) ∙ ap (partOf card) (sym (no-entry card i refl f) ∙ none-next)
+        ap (bodyAt card) (sym (after-none card i refl f))
+        ∙ ap (partOf card) (sym (no-entry card i refl f) ∙ no-entry card (i + 1) refl (has-not card i f))
+
+-- ---- questions of the bodies
+
+pub two-at-most : (card : List ℕ) (m : ℕ) {c : ℕ} → c ≡ sections card → c ≤ 2 → true ≡ accessFits card m
+two-at-most card m e h =
+    sym (ap (λ (x : Bool). cond x (eqb (length (accessIn card)) m) true) (le-ltb 2 (sections card) (omega arith)))
+
+pub third-is : (card : List ℕ) (m : ℕ) {c l : ℕ} → c ≡ sections card → 2 < c → l ≡ length (accessIn card) → eqb l m ≡ accessFits card m
+third-is card m e h k =
+    ap (λ (x : ℕ). eqb x m) k
+    ∙ sym (ap (λ (x : Bool). cond x (eqb (length (accessIn card)) m) true) (lt-ltb 2 (sections card) (omega arith)))
+
+module _ (card : List ℕ) (n m : ℕ) where
+  abbrev namedBy : (roads order : Bool) → Bool
+  namedBy x y = x && y && accessFits card m
+
+  pub roads-differ : {a : ℕ} → a ≡ length (roadsIn card) → a ≢ roadSize * m → false ≡ named card n m
+  unfolding named
+  roads-differ e h =
+      let roads = ne-eqb (length (roadsIn card)) (roadSize * m) (λ q. h (e ∙ q)) in
+      sym (ap (λ (x : Bool). namedBy x (eqb (length (orderIn card)) (placeSize * n))) roads)
+
+  pub order-differs : {a b : ℕ} → a ≡ length (roadsIn card) → a ≡ roadSize * m → b ≡ length (orderIn card) → b ≢ placeSize * n
+      → false ≡ named card n m
+  unfolding named
+  order-differs e p f h =
+      let roads = eq-eqb (length (roadsIn card)) (roadSize * m) (sym e ∙ p) in
+      let order = ne-eqb (length (orderIn card)) (placeSize * n) (λ q. h (f ∙ q)) in
+      sym (ap₂ namedBy roads order)
+
+  pub both-fit : {a b : ℕ} {r : Bool} → a ≡ length (roadsIn card) → a ≡ roadSize * m → b ≡ length (orderIn card) → b ≡ placeSize * n
+      → r ≡ accessFits card m → r ≡ named card n m
+  unfolding named
+  both-fit e p f q h =
+      let roads = eq-eqb (length (roadsIn card)) (roadSize * m) (sym e ∙ p) in
+      let order = eq-eqb (length (orderIn card)) (placeSize * n) (sym f ∙ q) in
+      h ∙ sym (ap₂ namedBy roads order)

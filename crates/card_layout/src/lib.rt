@@ -1,24 +1,19 @@
 // The card's layout: the table of contents, and the bodies as the parts of the card that its entries name.
 ghost use mathlib.Core.Path.{_≡_};
 ghost use mathlib.Core.List.{_++_};
-ghost use Prim.Native.Nat.{_*_, _+_, _<_, _≤_};
-ghost use lib.Dec.{leb};
-ghost use lib.ListN.{drop, length};
+ghost use Prim.Native.Nat.{_+_, _<_, _≤_};
+ghost use lib.ListN.{drop, getD, length};
 ghost use Rattle.model.specs.Bytes.{bytesOf};
 ghost use Rattle.model.specs.Layout as layout;
-ghost use Rattle.model.specs.Layout.{cardSize, entryAt, orderIn, roadSize, roadsIn, table, tableSize};
-ghost use Rattle.card_layout.specs.Sections.{bodyAt, entryAfter, entryOf, partOf, sectionIn};
+ghost use Rattle.model.specs.Layout.{accessFits, accessIn, bodyAt, cardSize, entryOf, hasEntry, named, orderIn, partOf, roadsIn, table};
+ghost use Rattle.model.specs.Layout.{tableSize};
+ghost use Rattle.card_layout.specs.Sections.{entryAfter, sectionIn};
 
 // ---- the table of contents: the number of sections, then an entry for each
 
-const ENTRIES_AT: usize = 4;
+pub const COUNT_SIZE: usize = 4;
 
 const ENTRY_SIZE: usize = 12;
-
-// The number of sections and two entries.
-pub const TABLE_SIZE: usize = 28;
-
-pub const SECTIONS: u32 = 2;
 
 // The roads, and the bytes of each.
 pub const ROADS_KIND: u32 = 1;
@@ -37,47 +32,68 @@ pub struct Section {
     pub size: u32,
 }
 
-// The number of sections.
+// Byte i; 0 past the card's end.
+fn byte_at(card: &[u8], i: usize) -> u8
+    ensures { λ r. ⌜ r ≡ getD (now (card .entry)) i 0 ⌝ }
+{
+    if card.len() <= i {
+        return 0;
+    }
+    card[i]
+}
+
+// The number of sections: the first word.
 pub fn sections(card: &[u8]) -> u32
-    requires { ⌜ tableSize ≤ length (now card) ⌝ }
     ensures { λ r. ⌜ r ≡ layout.sections (now (card .entry)) ⌝ }
 {
-    network::word_at(card, 0)
+    let a = network::wide(byte_at(card, 0));
+    let b = network::wide(byte_at(card, 1));
+    let c = network::wide(byte_at(card, 2));
+    let d = network::wide(byte_at(card, 3));
+    a + 256 * b + 65536 * c + 16777216 * d
 }
 
-// Does entry i end within a card of this size?
-fn has_entry(size: usize, i: usize) -> bool
-    ensures { λ r. ⌜ r ≡ leb (entryAt (i + 1)) size ⌝ }
+// The bytes of a table of so many entries.
+pub fn table_size(count: u32) -> usize
+    ensures { λ r. ⌜ r ≡ tableSize count ⌝ }
 {
-    if size < ENTRIES_AT {
+    COUNT_SIZE + ENTRY_SIZE * (count as usize)
+}
+
+// Has the table an entry i, and does the card not end before it does?
+fn has_entry(card: &[u8], i: usize) -> bool
+    ensures { λ r. ⌜ r ≡ hasEntry (now (card .entry)) i ⌝ }
+{
+    let count = sections(card) as usize;
+    if count <= i {
         return false;
     }
-    i < (size - ENTRIES_AT) / ENTRY_SIZE
+    COUNT_SIZE + ENTRY_SIZE * (i + 1) <= card.len()
 }
 
-// Entry i; where the card ends before it does, that of an empty body.
+// Entry i; where there is none, that of an empty body.
 pub fn section_at(card: &[u8], i: usize) -> Section
     ensures { λ r. ⌜ sectionIn r ≡ entryOf (now (card .entry)) i ⌝ }
 {
-    if !has_entry(card.len(), i) {
+    if !has_entry(card, i) {
         return Section {
             kind: 0,
             start: 0,
             size: 0,
         };
     }
-    let at = ENTRIES_AT + ENTRY_SIZE * i;
+    let at = COUNT_SIZE + ENTRY_SIZE * i;
     let kind = network::word_at(card, at);
     let start = network::word_at(card, at + 4);
     let size = network::word_at(card, at + 8);
     Section { kind, start, size }
 }
 
-// The entry after entry i; where the card ends before i does, i.
+// The entry after entry i; where there is no entry i, i.
 pub fn entry_after(card: &[u8], i: usize) -> usize
     ensures { λ r. ⌜ r ≡ entryAfter (now (card .entry)) i ⌝ }
 {
-    if has_entry(card.len(), i) { i + 1 } else { i }
+    if has_entry(card, i) { i + 1 } else { i }
 }
 
 // ---- bodies
@@ -101,43 +117,71 @@ pub fn body_at(card: &[u8], i: usize) -> &[u8]
     body(card, section_at(card, i))
 }
 
-// ---- a card with n junctions and m roads
+// The roads.
+pub fn roads_of(card: &[u8]) -> &[u8]
+    ensures { λ r. ⌜ now r ≡ roadsIn (now (card .entry)) ⌝ }
+{
+    body_at(card, 0)
+}
 
-// Its bytes.
+// The order.
+pub fn order_of(card: &[u8]) -> &[u8]
+    ensures { λ r. ⌜ now r ≡ orderIn (now (card .entry)) ⌝ }
+{
+    body_at(card, 1)
+}
+
+// The classes of each road; nothing where the card has no third section.
+pub fn access_of(card: &[u8]) -> &[u8]
+    ensures { λ r. ⌜ now r ≡ accessIn (now (card .entry)) ⌝ }
+{
+    body_at(card, 2)
+}
+
+// Has a third section, where there is one, a byte for each of m roads?
+pub fn access_fits(card: &[u8], m: usize) -> bool
+    ensures { λ r. ⌜ r ≡ accessFits (now (card .entry)) m ⌝ }
+{
+    if sections(card) <= 2 {
+        return true;
+    }
+    access_of(card).len() == m
+}
+
+// Does the table name bodies for n junctions and m roads inside the card?
+pub fn named(card: &[u8], n: u32, m: u32) -> bool
+    ensures { λ r. ⌜ r ≡ named (now (card .entry)) n m ⌝ }
+{
+    if roads_of(card).len() != ROAD_SIZE * (m as usize) {
+        return false;
+    }
+    if order_of(card).len() != PLACE_SIZE * (n as usize) {
+        return false;
+    }
+    access_fits(card, m as usize)
+}
+
+// ---- the card that the writer makes: two sections
+
+const WRITTEN: u32 = 2;
+
+pub const WRITTEN_TABLE: usize = 28;
+
+// The bytes of such a card with n junctions and m roads.
 pub fn card_size(n: u32, m: u32) -> usize
     ensures { λ r. ⌜ r ≡ cardSize n m ⌝ }
 {
-    TABLE_SIZE + ROAD_SIZE * (m as usize) + PLACE_SIZE * (n as usize)
+    WRITTEN_TABLE + ROAD_SIZE * (m as usize) + PLACE_SIZE * (n as usize)
 }
 
-// Its roads.
-pub fn roads_of(card: &[u8], m: u32) -> &[u8]
-    requires { ⌜ tableSize + roadSize * m ≤ length (now card) ⌝ }
-    ensures { λ r. ⌜ now r ≡ roadsIn (now (card .entry)) m ⌝ }
-{
-    let end = TABLE_SIZE + ROAD_SIZE * (m as usize);
-    &card[TABLE_SIZE..end]
-}
-
-// Its order.
-pub fn order_of(card: &[u8], n: u32, m: u32) -> &[u8]
-    requires { ⌜ cardSize n m ≤ length (now card) ⌝ }
-    ensures { λ r. ⌜ now r ≡ orderIn (now (card .entry)) n m ⌝ }
-{
-    let start = TABLE_SIZE + ROAD_SIZE * (m as usize);
-    &card[start..card_size(n, m)]
-}
-
-// ---- writing
-
-// Writes the table of a card whose roads and order have these lengths in bytes.
+// Writes its table, where its roads and order have these lengths in bytes.
 pub fn put_table(area: &mut [u8], roads: u32, order: u32)
-    requires { ⌜ (tableSize ≤ length (now area)) × (tableSize + roads < 4294967296) ⌝ }
-    ensures { λ _. ⌜ now (area .exit) ≡ bytesOf (table roads order) ++ drop tableSize (now (area .entry)) ⌝ }
+    requires { ⌜ (tableSize 2 ≤ length (now area)) × (tableSize 2 + roads < 4294967296) ⌝ }
+    ensures { λ _. ⌜ now (area .exit) ≡ bytesOf (table roads order) ++ drop (tableSize 2) (now (area .entry)) ⌝ }
 {
-    let start = TABLE_SIZE as u32;
+    let start = WRITTEN_TABLE as u32;
     let words = [
-        SECTIONS,
+        WRITTEN,
         ROADS_KIND,
         start,
         roads,
@@ -145,5 +189,5 @@ pub fn put_table(area: &mut [u8], roads: u32, order: u32)
         start + roads,
         order,
     ];
-    network::put_words(&mut area[0..TABLE_SIZE], &words);
+    network::put_words(&mut area[0..WRITTEN_TABLE], &words);
 }

@@ -42,7 +42,8 @@ use denote.Exit.{yes}
 use denote.Triple.Bound.{Bound, passed}
 use denote.Triple.Clauses.{Ended}
 use denote.Triple.Statement.{Triple}
-use Rattle.card_layout.specs.Sections.{bodyAt, entryAfter}
+use Rattle.model.specs.Layout.{bodyAt}
+use Rattle.card_layout.specs.Sections.{entryAfter}
 use Rattle.card_reader.specs.declared.Reader.{Reader}
 use Rattle.card_reader.proofs.Reader as T
 use Rattle.card_reader.proofs.Reader.Laws as T′

@@ -1,7 +1,8 @@
 // The reader: it walks the card from body to body and remembers its place.
 ghost use mathlib.Core.Path.{_≡_};
 ghost use Rattle.model.specs.Card.{bodiesRefusal};
-ghost use Rattle.card_layout.specs.Sections.{bodyAt, entryAfter};
+ghost use Rattle.model.specs.Layout.{bodyAt, orderIn, roadsIn};
+ghost use Rattle.card_layout.specs.Sections.{entryAfter};
 ghost use Rattle.network.specs.Refusals.{verdictIn};
 use network::Verdict;
 
@@ -35,7 +36,7 @@ pub fn moved_on<'a>(r: Reader<'a>) -> Reader<'a>
 
 // Questions 4 to 6 on the first two bodies of a card, by a reader that walks from the one to the other.
 pub fn check(card: &[u8]) -> Verdict
-    ensures { λ r. ⌜ verdictIn r ≡ bodiesRefusal (bodyAt (now (card .entry)) 0) (bodyAt (now (card .entry)) 1) ⌝ }
+    ensures { λ r. ⌜ verdictIn r ≡ bodiesRefusal (roadsIn (now (card .entry))) (orderIn (now (card .entry))) ⌝ }
 {
     let first = new(card);
     let roads = body(first);

@@ -48,11 +48,11 @@ module _ (area p q r : List ℕ) (t a b : ℕ) (ep : length p ≡ t) (eq : lengt
 
 -- what was put, with the table's bytes and the two rows' bytes q and r, is the card
 pub card-put : (roads order area : List ℕ) {z q r : List ℕ} {a b : ℕ} → a ≡ rowSize roads → b ≡ rowSize order
-    → length area ≡ sizeWith a b → z ≡ bytesOf (table a b) ++ drop tableSize area → q ≡ bytesOf roads → r ≡ bytesOf order
-    → putMid (tableSize + a) (tableSize + a + b - (tableSize + a)) (putMid tableSize (tableSize + a - tableSize) z q) r
+    → length area ≡ sizeWith a b → z ≡ bytesOf (table a b) ++ drop (tableSize 2) area → q ≡ bytesOf roads → r ≡ bytesOf order
+    → putMid (tableSize 2 + a) (tableSize 2 + a + b - (tableSize 2 + a)) (putMid (tableSize 2) (tableSize 2 + a - tableSize 2) z q) r
     ≡ cardOf (rowsOf roads order)
 card-put roads order area {z} {q} {r} {a} {b} ea eb el ez eq er =
-    let s = tableSize + a in
-    ap (λ (x : List ℕ). putMid s (s + b - s) (putMid tableSize (s - tableSize) x q) r) ez
-    ∙ three-parts area (bytesOf (table a b)) q r tableSize a b refl (ap length eq ∙ bytes-length roads ∙ sym ea) el
+    let s = tableSize 2 + a in
+    ap (λ (x : List ℕ). putMid s (s + b - s) (putMid (tableSize 2) (s - tableSize 2) x q) r) ez
+    ∙ three-parts area (bytesOf (table a b)) q r (tableSize 2) a b refl (ap length eq ∙ bytes-length roads ∙ sym ea) el
     ∙ ap₂ _++_ (ap₂ (λ (x : ℕ) (y : ℕ). bytesOf (table x y)) ea eb) (ap₂ _++_ eq er) ∙ sym (card-bytes roads order)

@@ -86,8 +86,8 @@ pub fn put_card(roads: &[u32], order: &[u32], area: &mut [u8])
 {
     let a = 4 * roads.len();
     let b = 4 * order.len();
-    let middle = card_layout::TABLE_SIZE + a;
+    let middle = card_layout::WRITTEN_TABLE + a;
     card_layout::put_table(area, a as u32, b as u32);
-    network::put_words(&mut area[card_layout::TABLE_SIZE..middle], roads);
+    network::put_words(&mut area[card_layout::WRITTEN_TABLE..middle], roads);
     network::put_words(&mut area[middle..middle + b], order);
 }

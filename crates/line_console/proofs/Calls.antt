@@ -25,7 +25,7 @@ module _ (w : List ℕ) where
   is-estimate a e = rw (← a, ← e)
 
   pub is-go : {v : ℕ} → false ≡ same w (ascii "aim") → false ≡ same w (ascii "est") → true ≡ same w (ascii "go")
-      → Call (Go (record { 0 = v })) ≡ callOf w v
+      → Call (Go 0 (record { 0 = v })) ≡ callOf w v
   unfolding callOf
   is-go a e g = rw (← a, ← e, ← g)
 

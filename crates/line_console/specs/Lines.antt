@@ -10,12 +10,16 @@ use Rattle.line_texts.specs.Ascii.{ascii}
 use Rattle.line_console.specs.declared.Line.{Line}
 use Rattle.line_console.specs.declared.Line.the-variants.{Call, Unreadable}
 
+-- document 02, A6: "the program's `go` class 0"
+abbrev pub programClass : ℕ
+programClass = 0
+
 -- `aim`, `est` and `go` have one number
 unfoldable pub callOf : (word : List ℕ) → ℕ → Line
 callOf w v =
     cond (same w (ascii "aim")) (Call (Aim (record { 0 = v })))
     (cond (same w (ascii "est")) (Call (Estimate (record { 0 = v })))
-    (cond (same w (ascii "go")) (Call (Go (record { 0 = v }))) Unreadable))
+    (cond (same w (ascii "go")) (Call (Go programClass (record { 0 = v }))) Unreadable))
 
 abbrev pub one : (ℕ → Line) → Number → Line
 one call (Value v) = call v

@@ -18,6 +18,9 @@ pub enum Line {
     Unreadable,
 }
 
+// The class of the program's go (document 02, A6).
+const PROGRAM_CLASS: u32 = 0;
+
 // The call of one number that a word names.
 fn call_of(word: &[u8], v: u32) -> Line
     ensures { λ r. ⌜ r ≡ callOf (now (word .entry)) v ⌝ }
@@ -29,7 +32,7 @@ fn call_of(word: &[u8], v: u32) -> Line
         return Line::Call(Call::Estimate(Junction(v)));
     }
     if line_fields::same_bytes(word, b"go") {
-        return Line::Call(Call::Go(Junction(v)));
+        return Line::Call(Call::Go(PROGRAM_CLASS, Junction(v)));
     }
     Line::Unreadable
 }

@@ -17,23 +17,30 @@ use Rattle.graph.specs.LogOrder.{inOrder, keyOf}
 use Rattle.graph.specs.Map.{Map, fills, liveNet, timeOf}
 use Rattle.graph.specs.Go.{goOf}
 use Rattle.model.specs.Word.{ofWord, word}
-use Rattle.model.specs.Types.{Answer, At, Gone, LentLengths, NoJunction, NoPath, NoTarget, Refusal, Refused}
+use Rattle.model.specs.Types.{Answer, At, Gone, LentLengths, NoClass, NoJunction, NoPath, NoTarget, Refusal, Refused}
+use Rattle.model.specs.Limits.{classes}
 use Rattle.model.specs.Bytes.{listed}
-use Rattle.model.specs.Card.{ask}
+use Rattle.model.specs.Classes.{classLive, classTimes}
+use Rattle.model.specs.Card.{CardMap, ask}
 use Rattle.model.specs.State.{Lent, State, Step, first, leaving}
 use Rattle.model.specs.Machine.{Known, LivePath, Machine, Told, isAt, knownTo, leastBase, targetOf}
 use Rattle.model.specs.Estimate.{Kept, filled, withEstimates}
 
--- ---- what is asked: a start; route and log are lent with it
+-- ---- what is asked: a class and a start; route and log are lent with it
 
--- 12: "Is the junction below n?", 13: "Is there a target?", then 14: "Have route and log areas at least n entries?"
-unfoldable pub goRefusal : Known → (start route log : ℕ) → Option Refusal
-goRefusal k s r l =
-    ask (ltb s (k .n)) NoJunction (ask (isAt (k .target)) NoTarget (ask (leb (k .n) r && leb (k .n) l) LentLengths none))
+-- document 02, A6: "18 if the class isn't below 8, after 9"
+abbrev pub askClass : (class : ℕ) → Option Refusal → Option Refusal
+askClass c rest = ask (ltb c classes) NoClass rest
+
+-- 18; 12: "Is the junction below n?", 13: "Is there a target?", then 14: "Have route and log areas at least n entries?"
+unfoldable pub goRefusal : Known → (class start route log : ℕ) → Option Refusal
+goRefusal k c s r l =
+    askClass c
+    (ask (ltb s (k .n)) NoJunction (ask (isAt (k .target)) NoTarget (ask (leb (k .n) r && leb (k .n) l) LentLengths none)))
 
 -- ---- what it answers and leaves
 
--- the live times as totals: "A road is open if its live time isn't closed."
+-- times as totals: "A road is open if its live time isn't closed."
 abbrev pub liveOf : (live : List ℕ) → ℕ → Total
 liveOf live i = ofWord (getD live i 0)
 
@@ -41,7 +48,7 @@ liveOf live i = ofWord (getD live i 0)
 abbrev pub byTime : ℕ → ℕ
 byTime t = t
 
--- the search log's problem, at the live times and with the unit's estimates
+-- the search log's problem, at these times and with the unit's estimates; document 02, A6: "Estimates remain over all roads"
 abbrev pub searchOf : Map → (live : List ℕ) → (start target : ℕ) → Problem
 searchOf M live s z = goOf M (liveOf live) byTime s z
 
@@ -71,20 +78,24 @@ abbrev pub goRoute : Total → (roads area : List ℕ) → List ℕ
 goRoute none r area = area
 goRoute (some t) r area = first r area
 
--- "Elapsed holds logged junctions' times, otherwise none."
-abbrev pub goMade : Map → State → (start : ℕ) → Lent → Step
-goMade M s j l =
+-- by a search at these times: "Elapsed holds logged junctions' times, otherwise none."; the live times stay
+abbrev pub goAt : Map → State → (times : List ℕ) → (start : ℕ) → Lent → Step
+goAt M s times j l =
     let z = targetOf (s .header .target) in
     let a = s .areas .aimed in
-    let G = searchOf M (s .areas .live) j z in
+    let G = searchOf M times j z in
     record {
       answer = goAnswer (totalOf G) (countOf G) (length (routeOf G));
       state =
           leaving s (s .header .target) (s .areas .live)
-          (withEstimates a (filled M z (asks M (s .areas .live) j z) (a .estimates)))
+          (withEstimates a (filled M z (asks M times j z) (a .estimates)))
           (record { elapsed = listed (M .vertices) (λ v. word (timeIn (history G) v)) });
       lent = record { route = goRoute (totalOf G) (routeOf G) (l .route); log = first (vertices (logOf G)) (l .log) };
     }
+
+-- document 02, A6: the live times as the class meets them
+abbrev pub goMade : CardMap → State → (class start : ℕ) → Lent → Step
+goMade C s c j l = goAt (C .map) s (classTimes (C .access) c (s .areas .live)) j l
 
 -- ---- what the plain machine does
 
@@ -105,11 +116,14 @@ foundTold none G m = record { answer = Refused (NoPath (countOf G)); roads = [];
 foundTold (some t) G m =
     record { answer = Gone t (countOf G) (length (routeOf G)); roads = routeOf G; log = vertices (logOf G); next = m }
 
--- `timeOf` is the least total at the times in force (law: `Proof3.least-totals`)
-abbrev pub goTold : Map → Machine → (start : ℕ) → Told
-goTold M m j = let z = targetOf (m .target) in foundTold (timeOf M (m .live) j z) (plainSearch M (m .live) j z) m
+-- `timeOf` is the least total at the times in force (law: `Proof3.least-totals`), here at those that the class meets
+abbrev pub goTold : CardMap → Machine → (class start : ℕ) → Told
+goTold C m c j =
+    let z = targetOf (m .target) in
+    let live = classLive (C .access) c (m .live) in
+    foundTold (timeOf (C .map) live j z) (plainSearch (C .map) live j z) m
 
--- ---- what is right about it
+-- ---- what is right about it; document 02, A6: "least totals and effort are now over open roads of the class"
 
 -- "least time from the start plus estimate": both are least totals (law: `Proof3.least-totals`)
 abbrev pub keyFrom : Map → (live : ℕ → Total) → (start target : ℕ) → ℕ → Total
@@ -151,17 +165,18 @@ pub record LostRight (M : Map) (live : ℕ → Total) (start target c : ℕ) (ar
   pub count : c ≡ effort M (reachedEstimated M live start target)
   pub log : take c (areas .log) ≡ effortLog M live start target (reachedEstimated M live start target)
 
--- from the start to the target in force, the lengths of the two areas being r and l
-pub record TripRight (M : Map) (m : Machine) (start r l target : ℕ) (u : Step) : Type 0 where
+-- from the start to the target, at these times; `passed` if no question refuses it
+pub record TripRight (M : Map) (live : ℕ → Total) (passed : Type 0) (start target : ℕ) (u : Step) : Type 0 where
   -- "Every route is the one document 01 defines"
-  pub found : (T c k : ℕ) → u .answer ≡ Gone T c k → RouteRight M (m .live) start target T c k (u .lent)
-  pub lost : (c : ℕ) → u .answer ≡ Refused (NoPath c) → LostRight M (m .live) start target c (u .lent)
+  pub found : (T c k : ℕ) → u .answer ≡ Gone T c k → RouteRight M live start target T c k (u .lent)
+  pub lost : (c : ℕ) → u .answer ≡ Refused (NoPath c) → LostRight M live start target c (u .lent)
   -- and always where there is none
-  pub told : goRefusal (knownTo M m) start r l ≡ none → ((t : ℕ) → LivePath M (m .live) start target t → ⊥)
-      → (c : ℕ) × (u .answer ≡ Refused (NoPath c))
+  pub told : passed → ((t : ℕ) → LivePath M live start target t → ⊥) → (c : ℕ) × (u .answer ≡ Refused (NoPath c))
 
-abbrev pub GoRight : Map → Machine → (start : ℕ) → Lent → Step → Type 0
-GoRight M m j l u = (z : ℕ) → m .target ≡ At z → TripRight M m j (length (l .route)) (length (l .log)) z u
+abbrev pub GoRight : CardMap → Machine → (class start : ℕ) → Lent → Step → Type 0
+GoRight C m c j l u =
+    let passed = goRefusal (knownTo (C .map) m) c j (length (l .route)) (length (l .log)) ≡ none in
+    (z : ℕ) → m .target ≡ At z → TripRight (C .map) (classLive (C .access) c (m .live)) passed j z u
 
 -- ---- what it leaves in any state whose lengths fit: estimates, none that is filled, and elapsed, beside what it is lent
 

@@ -17,8 +17,12 @@ use Rattle.graph.specs.Map.{Map, estimateOf, estimateOf-dist, liveNet, timeOf, 
 use Rattle.graph.specs.Go.{Demand, go-meets, go-well-formed, goOf}
 use Rattle.graph.specs.Effort.{Effort, go-effort}
 use Rattle.graph.specs.Complete.{history-reached, length-le, length-vertices}
-use Rattle.model.specs.Types.{Absent, Answer, At, Gone, LentLengths, NoJunction, NoPath, NoTarget, Refusal, Refused, Target}
-use Rattle.model.specs.Card.{ask, mapOn}
+use Rattle.model.specs.Types.{Absent, Answer, At, Gone, LentLengths, NoClass, NoJunction, NoPath, NoTarget, Refusal, Refused}
+use Rattle.model.specs.Types.{Target}
+use Rattle.model.specs.Limits.{classes}
+use Rattle.model.specs.Layout.{accessIn}
+use Rattle.model.specs.Classes.{accessOf, classLive}
+use Rattle.model.specs.Card.{ask, cardMap, mapOn}
 use Rattle.model.specs.State.{Lent, State, Step, first, unless}
 use Rattle.model.specs.Machine.{Known, LivePath, Machine, isAt, knownTo, leastBase, targetOf}
 use Rattle.model.specs.Go.{GoRight, LostRight, RouteRight, TripRight, byTime, foundTold, goAnswer, goMade, goRefusal, goRoute}
@@ -27,7 +31,7 @@ use Rattle.model.specs.Calls.{Call, askedOf, goCall, refusalOf, step}
 use Rattle.model.specs.Demand3.{Same}
 use Rattle.model.specs.Laws.{first-length, first-take}
 use Rattle.model.specs.Accept.{card-facts}
-use Rattle.model.specs.Good.{Aims, Good, after-9, go-passed, good-fits, good-slower}
+use Rattle.model.specs.Good.{Aims, Good, after-9, asMet, go-passed, good-fits, good-slower, met-good, met-lives, metTimes}
 use Rattle.model.specs.Alike.{count-same, log-same, route-same}
 
 -- ---- the machine that a state stands for
@@ -111,22 +115,23 @@ lost-is : (x : Total) (c k : ℕ) {c' : ℕ} → goAnswer x c k ≡ Refused (NoP
 lost-is none c k e = (refl, ap (λ (r : Refusal). r .count) (refused-is refl e))
 lost-is (some t) c k e = absurd (gone-not-refused e refl)
 
--- a refusal by a question before the k-th
+-- a refusal by another question than the k-th
 module _ (k : ℕ) where
-  pub asked-before : (b : Bool) (q : Refusal) (rest : Option Refusal) → q .question < k → ((p : Refusal) → rest ≡ some p → p .question < k)
-      → (p : Refusal) → ask b q rest ≡ some p → p .question < k
-  asked-before true q rest h f p e = f p e
-  asked-before false q rest h f p e = subst (λ (r : Refusal). r .question < k) (some-some refl e) h
+  pub asked-other : (b : Bool) (q : Refusal) (rest : Option Refusal) → (q .question ≡ k → ⊥)
+      → ((p : Refusal) → rest ≡ some p → p .question ≡ k → ⊥)
+      → (p : Refusal) → ask b q rest ≡ some p → p .question ≡ k → ⊥
+  asked-other true q rest h f p e = f p e
+  asked-other false q rest h f p e = subst (λ (r : Refusal). r .question ≡ k → ⊥) (some-some refl e) h
 
-before-15 : (k : Known) (j r l : ℕ) (p : Refusal) → goRefusal k j r l ≡ some p → p .question < 15
+-- the questions before the search are not 15
+not-15 : (k : Known) (c j r l : ℕ) (p : Refusal) {n : ℕ} → goRefusal k c j r l ≡ some p → p ≡ NoPath n → ⊥
 unfolding goRefusal
-before-15 k j r l =
-    asked-before 15 (ltb j (k .n)) NoJunction _ (lit< tt)
-    (asked-before 15 (isAt (k .target)) NoTarget _ (lit< tt)
-    (asked-before 15 (leb (k .n) r && leb (k .n) l) LentLengths none (lit< tt) (λ p e. absurd (none-some refl e))))
-
-not-15 : {p : Refusal} {c : ℕ} → p .question < 15 → p ≡ NoPath c → ⊥
-not-15 {p} {c} h e = let z : p .question ≡ 15 = ap (λ (r : Refusal). r .question) e in omega arith
+not-15 k c j r l p h e =
+    asked-other 15 (ltb c classes) NoClass _ (λ q. omega (arith, q))
+    (asked-other 15 (ltb j (k .n)) NoJunction _ (λ q. omega (arith, q))
+    (asked-other 15 (isAt (k .target)) NoTarget _ (λ q. omega (arith, q))
+    (asked-other 15 (leb (k .n) r && leb (k .n) l) LentLengths none (λ q. omega (arith, q)) (λ p e. absurd (none-some refl e)))))
+    p h (ap (λ (r : Refusal). r .question) e)
 
 -- ---- one go, of any step that answers by the search and writes its route and its log first
 
@@ -171,36 +176,42 @@ module _ {M : Map} {live : ℕ → Total} {s z : ℕ} {G : Problem} (D : Demand 
 -- ---- a go that was asked
 
 module _ {card : List ℕ} {s : State} (g : Good card s) where
-  pub go-right : (j : ℕ) (l : Lent) → GoRight (mapOn card) (machineOf s) j l (step card s (goCall j l))
+  pub go-right : (c j : ℕ) (l : Lent) → GoRight (cardMap card) (machineOf s) c j l (step card s (goCall c j l))
   unfolding step
-  go-right j l z e =
+  go-right c j l z e =
       let k : targetOf (s .header .target) ≡ z = ap targetOf e in
-      subst (λ (y : ℕ). Trip y (askedOf card s (goCall j l))) k (go (askedOf card s (goCall j l)) refl)
+      let asked = askedOf card s (goCall c j l) in
+      subst (λ (y : ℕ). Trip (classLive (accessOf (accessIn card)) c (liveOf (s .areas .live))) y asked) k (go asked refl)
     where
-      Trip : (target : ℕ) → Option Refusal → Type 0
-      Trip z x = TripRight (mapOn card) (machineOf s) j (length (l .route)) (length (l .log)) z (unless x s l (goMade (mapOn card) s j l))
+      known : Known
+      known = knownTo (mapOn card) (machineOf s)
 
-      go : (x : Option Refusal) → askedOf card s (goCall j l) ≡ x → Trip (targetOf (s .header .target)) x
-      go (some q) h = record {
-        found = λ T c k a. absurd (gone-not-refused refl a);
-        lost = λ c a.
-            let asked = sym (asked-is g (goCall j l)) ∙ h in
-            let earlier = before-15 (knownTo (mapOn card) (machineOf s)) j (length (l .route)) (length (l .log)) q asked in
-            absurd (not-15 earlier (refused-is refl a));
-        told = λ a w. absurd (none-some a (sym (asked-is g (goCall j l)) ∙ h));
-      }
+      Trip : (live : ℕ → Total) → (target : ℕ) → Option Refusal → Type 0
+      Trip live z x =
+          TripRight (mapOn card) live (goRefusal known c j (length (l .route)) (length (l .log)) ≡ none) j z
+          (unless x s l (goMade (cardMap card) s c j l))
+
+      go : (x : Option Refusal) → askedOf card s (goCall c j l) ≡ x
+          → Trip (classLive (accessOf (accessIn card)) c (liveOf (s .areas .live))) (targetOf (s .header .target)) x
+      go (some q) h =
+          let asked = sym (asked-is g (goCall c j l)) ∙ h in
+          record {
+            found = λ T c k a. absurd (gone-not-refused refl a);
+            lost = λ n a. absurd (not-15 known c j (length (l .route)) (length (l .log)) q asked (refused-is refl a));
+            told = λ a w. absurd (none-some a asked);
+          }
       go none h =
           let z = targetOf (s .header .target) in
-          let q = go-passed g j (length (l .route)) (length (l .log)) (after-9 g (goCall j l) h) in
+          let q = go-passed g c j (length (l .route)) (length (l .log)) (after-9 g (goCall c j l) h) in
           let lz = in-force g (q .target) in
-          let D = go-demand g j z (q .start) lz in
-          let E = go-figures g j z (q .start) lz in
-          let u = goMade (mapOn card) s j l in
-          record {
+          let D = go-demand (met-good g c) j z (q .start) lz in
+          let E = go-figures (met-good g c) j z (q .start) lz in
+          let u = goMade (cardMap card) s c j l in
+          subst (λ (live : ℕ → Total). Trip live z none) (met-lives g c (q .class)) (record {
             found = found-right D E u l refl refl refl;
             lost = lost-right D E u l refl refl refl;
             told = λ a w. told-right D E u l refl refl refl w;
-          }
+          })
 
 -- a go's answer and what stands first in its areas
 go-same : (x : Total) (G P : Problem) (s : State) (m : Machine) (l : Lent)
@@ -223,16 +234,17 @@ told-next (some t) P m = refl
 
 module _ {card : List ℕ} {s : State} (g : Good card s) where
   -- a go that no question refuses is the machine's
-  pub go-told : (j : ℕ) (l : Lent) → j < mapOn card .vertices → isAt (s .header .target) ≡ true
-      → Same (goMade (mapOn card) s j l) (goTold (mapOn card) (machineOf s) j)
-  go-told j l lj h =
+  pub go-told : (c j : ℕ) (l : Lent) → c < classes → j < mapOn card .vertices → isAt (s .header .target) ≡ true
+      → Same (goMade (cardMap card) s c j l) (goTold (cardMap card) (machineOf s) c j)
+  go-told c j l lc lj h =
       let M = mapOn card in
       let z = targetOf (s .header .target) in
       let lz = in-force g h in
-      let (counts, routes, logs) = search-is g j z lz in
-      let G = searchOf M (s .areas .live) j z in
-      let P = plainSearch M (liveOf (s .areas .live)) j z in
-      rw (← total-is g j z lj lz) (go-same (totalOf G) G P (goMade M s j l .state) (machineOf s) l counts routes logs)
+      let (counts, routes, logs) = search-is (met-good g c) j z lz in
+      let G = searchOf M (metTimes g c) j z in
+      let P = plainSearch M (liveOf (metTimes g c)) j z in
+      rw (← met-lives g c lc, ← total-is (met-good g c) j z lj lz)
+      (go-same (totalOf G) G P (goMade (cardMap card) s c j l .state) (machineOf s) l counts routes logs)
 
 -- ---- lengths
 
@@ -257,25 +269,26 @@ pub record SameLengths (a b : Lent) : Type 0 where
   pub route : length (a .route) ≡ length (b .route)
   pub log : length (a .log) ≡ length (b .log)
 
-module _ {card : List ℕ} {s : State} (g : Good card s) where
-  -- a route has fewer roads than there are junctions
-  pub route-short : (j z t : ℕ) → j < mapOn card .vertices → z < mapOn card .vertices
-      → totalOf (searchOf (mapOn card) (s .areas .live) j z) ≡ some t
-      → length (routeOf (searchOf (mapOn card) (s .areas .live) j z)) < mapOn card .vertices
-  route-short j z t lj lz e = omega (arith, go-demand g j z lj lz .short t e, log-fits g j z lj lz)
+-- a route has fewer roads than there are junctions
+pub route-short : {card : List ℕ} {s : State} → Good card s → (j z t : ℕ) → j < mapOn card .vertices → z < mapOn card .vertices
+    → totalOf (searchOf (mapOn card) (s .areas .live) j z) ≡ some t
+    → length (routeOf (searchOf (mapOn card) (s .areas .live) j z)) < mapOn card .vertices
+route-short g j z t lj lz e = omega (arith, go-demand g j z lj lz .short t e, log-fits g j z lj lz)
 
+module _ {card : List ℕ} {s : State} (g : Good card s) where
   -- a go's two areas keep their lengths
-  pub go-lengths : (j : ℕ) (l : Lent) → j < mapOn card .vertices → isAt (s .header .target) ≡ true
+  pub go-lengths : (c j : ℕ) (l : Lent) → j < mapOn card .vertices → isAt (s .header .target) ≡ true
       → mapOn card .vertices ≤ length (l .route) → mapOn card .vertices ≤ length (l .log)
-      → SameLengths (goMade (mapOn card) s j l .lent) l
+      → SameLengths (goMade (cardMap card) s c j l .lent) l
   unfolding countOf
-  go-lengths j l lj h lr ll =
+  go-lengths c j l lj h lr ll =
       let z = targetOf (s .header .target) in
       let lz = in-force g h in
-      let G = searchOf (mapOn card) (s .areas .live) j z in
-      let k = log-fits g j z lj lz in
+      let G = searchOf (mapOn card) (metTimes g c) j z in
+      let k = log-fits (met-good g c) j z lj lz in
       let v = length-vertices (logOf G) in
       record {
-        route = route-length (totalOf G) (routeOf G) (l .route) (λ t e. (let d = route-short j z t lj lz e in omega (arith, d, lr)));
+        route = route-length (totalOf G) (routeOf G) (l .route)
+            (λ t e. (let d = route-short (met-good g c) j z t lj lz e in omega (arith, d, lr)));
         log = first-length (vertices (logOf G)) (l .log) (omega (arith, v, k, ll));
       }

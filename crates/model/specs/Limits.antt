@@ -31,3 +31,14 @@ mostStops = 32
 -- a leg leads from a stop to the next: one fewer than stops
 abbrev pub mostLegs : ℕ
 mostLegs = 31
+
+-- document 02, A6: "bit c .., 0 to 7"
+abbrev pub classes : ℕ
+classes = 8
+
+-- document 02, A6: "The first word may be 2 or 3": the roads and the order always, then the classes of each road
+abbrev pub fewestSections : ℕ
+fewestSections = 2
+
+abbrev pub mostSections : ℕ
+mostSections = 3

@@ -14,23 +14,24 @@ use Rattle.graph.specs.Search.{totalOf}
 use Rattle.graph.specs.Map.{Map, timeOf}
 use Rattle.model.specs.Word.{ofWord}
 use Rattle.model.specs.Types.{Answer, At, Lengths, Previewed, Refusal, Refused}
-use Rattle.model.specs.Card.{andThen, ask}
+use Rattle.model.specs.Classes.{classLive, classTimes}
+use Rattle.model.specs.Card.{CardMap, andThen, ask}
 use Rattle.model.specs.State.{Lent, State, Step, answering, leaving}
 use Rattle.model.specs.Machine.{Known, LivePath, Machine, Told, targetOf, telling}
 use Rattle.model.specs.Set.{changed, setRefusal}
 use Rattle.model.specs.Estimate.{Kept, estimateRefusal, filled, withEstimates}
-use Rattle.model.specs.Go.{asks, searchOf}
+use Rattle.model.specs.Go.{askClass, asks, searchOf}
 
--- ---- what is asked: a road, a time and a start; a work area is lent with it
+-- ---- what is asked: a class, a road, a time and a start; a work area is lent with it
 
 -- "Its work area of twice elapsed's entries"
 abbrev pub workSize : (n : ℕ) → ℕ
 workSize n = 2 * n
 
--- "Questions 9 to 13 apply": 9, of the work area; 10 and 11, as a set asks them; 12 and 13, as an estimate does
-unfoldable pub previewRefusal : Known → (road time start work : ℕ) → Option Refusal
+-- "Questions 9 to 13 apply": 9, of the work area; 18 (document 02, A6); 10 and 11, as a set asks them; 12 and 13, as an estimate does
+unfoldable pub previewRefusal : Known → (class road time start work : ℕ) → Option Refusal
 unfolding setRefusal estimateRefusal
-previewRefusal k i t j w = ask (eqb w (workSize (k .n))) Lengths (andThen (setRefusal k i t) (estimateRefusal k j))
+previewRefusal k c i t j w = ask (eqb w (workSize (k .n))) Lengths (askClass c (andThen (setRefusal k i t) (estimateRefusal k j)))
 
 -- ---- what it answers and leaves
 
@@ -48,23 +49,29 @@ previewAnswer a b = Previewed a b (changeOf a b)
 abbrev pub eitherAsks : Map → (live live′ : List ℕ) → (start target : ℕ) → ℕ → Bool
 eitherAsks M live live′ s z v = asks M live s z v || asks M live′ s z v
 
--- "go's total now and with that time set"; "exactly the estimates that the two searches fill are added"; "Live times, target and elapsed
--- stay"
-abbrev pub previewMade : Map → State → (road time start : ℕ) → Lent → Step
-previewMade M s i t j l =
+-- by two searches, at these times: "exactly the estimates that the two searches fill are added"; "Live times, target and elapsed stay"
+abbrev pub previewAt : Map → State → (live live′ : List ℕ) → (start : ℕ) → Lent → Step
+previewAt M s live live′ j l =
     let z = targetOf (s .header .target) in
     let a = s .areas .aimed in
+    answering (previewAnswer (totalOf (searchOf M live j z)) (totalOf (searchOf M live′ j z)))
+    (leaving s (s .header .target) (s .areas .live)
+    (withEstimates a (filled M z (eitherAsks M live live′ j z) (a .estimates))) (s .areas .trip)) l
+
+-- "go's total now and with that time set"; document 02, A6: both of the class
+abbrev pub previewMade : CardMap → State → (class road time start : ℕ) → Lent → Step
+previewMade C s c i t j l =
     let live = s .areas .live in
-    answering (previewAnswer (totalOf (searchOf M live j z)) (totalOf (searchOf M (set live i t) j z)))
-    (leaving s (s .header .target) live
-    (withEstimates a (filled M z (eitherAsks M live (set live i t) j z) (a .estimates))) (s .areas .trip)) l
+    previewAt (C .map) s (classTimes (C .access) c live) (classTimes (C .access) c (set live i t)) j l
 
 -- ---- what the plain machine does: the least total at the times in force, and at these with that one replaced; neither part changes
 
-abbrev pub previewTold : Map → Machine → (road time start : ℕ) → Told
-previewTold M m i t j =
+abbrev pub previewTold : CardMap → Machine → (class road time start : ℕ) → Told
+previewTold C m c i t j =
     let z = targetOf (m .target) in
-    telling (previewAnswer (timeOf M (m .live) j z) (timeOf M (changed (m .live) i (ofWord t)) j z)) m
+    let live = classLive (C .access) c (m .live) in
+    let live′ = classLive (C .access) c (changed (m .live) i (ofWord t)) in
+    telling (previewAnswer (timeOf (C .map) live j z) (timeOf (C .map) live′ j z)) m
 
 -- ---- what is right about it
 
@@ -79,9 +86,9 @@ pub record TotalsRight (M : Map) (live live′ : ℕ → Total) (start target : 
   -- where a total is missing there is no change, not even 0
   pub absent : (present ≡ none) ⊎ (new ≡ none) → change ≡ none
 
-abbrev pub PreviewRight : Map → Machine → (road time start : ℕ) → Step → Type 0
-PreviewRight M m i t j u = (z : ℕ) → m .target ≡ At z → (a b : Total) (c : Option ℤ) → u .answer ≡ Previewed a b c
-    → TotalsRight M (m .live) (changed (m .live) i (ofWord t)) j z a b c
+abbrev pub PreviewRight : CardMap → Machine → (class road time start : ℕ) → Step → Type 0
+PreviewRight C m c i t j u = (z : ℕ) → m .target ≡ At z → (a b : Total) (d : Option ℤ) → u .answer ≡ Previewed a b d
+    → TotalsRight (C .map) (classLive (C .access) c (m .live)) (classLive (C .access) c (changed (m .live) i (ofWord t))) j z a b d
 
 -- ---- what it leaves in any state whose lengths fit: estimates, none that is filled; and the change is that of the totals answered
 

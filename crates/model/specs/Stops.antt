@@ -13,25 +13,28 @@ use Rattle.graph.specs.Stops.{Meeting}
 use Rattle.graph.specs.Map.{Map, liveNet, timeOf}
 use Rattle.model.specs.Types.{Answer, Leg, LentLengths, NoJunction, NoLeg, Refusal, Refused, StopCount, Stopped}
 use Rattle.model.specs.Limits.{fewestStops, mostStops}
-use Rattle.model.specs.Card.{ask}
+use Rattle.model.specs.Classes.{classLive, classTimes}
+use Rattle.model.specs.Card.{CardMap, ask}
 use Rattle.model.specs.State.{Lent, State, Step, leaving}
 use Rattle.model.specs.Machine.{Known, LivePath, Machine, Told, knownTo}
 use Rattle.model.specs.Aim.{aimMade, aimTold}
-use Rattle.model.specs.Go.{effort, effortLog, goMade, goTold, reachedEstimated, searchOf, withinTotal}
+use Rattle.model.specs.Go.{askClass, effort, effortLog, goMade, goTold, reachedEstimated, searchOf, withinTotal}
 
--- ---- what is asked: the stops; route and log are lent with it
+-- ---- what is asked: a class and the stops; route and log are lent with it
 
 -- every stop is below n
 abbrev pub allBelow : ℕ → List ℕ → Bool
 allBelow n [] = true
 allBelow n (v ∷ stops) = ltb v n && allBelow n stops
 
--- 16: "if the list's length is wrong"; then 12; 14 "if the route area has fewer than stops × n entries or the log fewer than n"
-unfoldable pub stopsRefusal : Known → (stops : List ℕ) → (route log : ℕ) → Option Refusal
-stopsRefusal k stops r l =
+-- 16: "if the list's length is wrong"; 18 (document 02, A6: "in a stop list after 16"); then 12; 14 "if the route area has fewer than
+-- stops × n entries or the log fewer than n"
+unfoldable pub stopsRefusal : Known → (class : ℕ) → (stops : List ℕ) → (route log : ℕ) → Option Refusal
+stopsRefusal k c stops r l =
     ask (leb fewestStops (length stops) && leb (length stops) mostStops) StopCount
+    (askClass c
     (ask (allBelow (k .n) stops) NoJunction
-    (ask (leb (length stops * k .n) r && leb (k .n) l) LentLengths none))
+    (ask (leb (length stops * k .n) r && leb (k .n) l) LentLengths none)))
 
 -- ---- what it answers and leaves
 
@@ -57,17 +60,17 @@ withLeg (some t) k u j = record {
 }
 
 -- "Each leg is an aim and a go": from a to b
-abbrev pub legMade : Map → State → (a b : ℕ) → Lent → Step
-legMade M s a b l = goMade M (aimMade M s b l .state) a l
+abbrev pub legMade : CardMap → (class : ℕ) → State → (a b : ℕ) → Lent → Step
+legMade C c s a b l = goMade C (aimMade (C .map) s b l .state) c a l
 
 -- "every area and the target are left so, up to the last leg or the failing one"
-abbrev pub journey : Map → State → (from : ℕ) → (stops : List ℕ) → Lent → Journey
-journey M s a [] l = record { state = s; lent = l; legs = []; complete = true }
-journey M s a (b ∷ stops) l =
-    let G = searchOf M (s .areas .live) a b in
+abbrev pub journey : CardMap → (class : ℕ) → State → (from : ℕ) → (stops : List ℕ) → Lent → Journey
+journey C c s a [] l = record { state = s; lent = l; legs = []; complete = true }
+journey C c s a (b ∷ stops) l =
+    let G = searchOf (C .map) (classTimes (C .access) c (s .areas .live)) a b in
     let k = length (routeOf G) in
-    let u = legMade M s a b l in
-    withLeg (totalOf G) k u (journey M (u .state) b stops (past k (u .lent)))
+    let u = legMade C c s a b l in
+    withLeg (totalOf G) k u (journey C c (u .state) b stops (past k (u .lent)))
 
 -- "the whole total"
 abbrev pub wholeOf : List Leg → ℕ
@@ -79,9 +82,9 @@ abbrev pub stopsAnswer : (complete : Bool) → List Leg → Answer
 stopsAnswer true legs = Stopped legs (wholeOf legs)
 stopsAnswer false legs = Refused (NoLeg (length legs))
 
-abbrev pub stopsMade : Map → State → (stops : List ℕ) → Lent → Step
-stopsMade M s stops l =
-    let j = journey M s (getD stops 0 0) (drop 1 stops) l in
+abbrev pub stopsMade : CardMap → State → (class : ℕ) → (stops : List ℕ) → Lent → Step
+stopsMade C s c stops l =
+    let j = journey C c s (getD stops 0 0) (drop 1 stops) l in
     record { answer = stopsAnswer (j .complete) (j .legs); state = j .state; lent = j .lent }
 
 -- ---- what the plain machine does: leg by leg an aim and a go of its own
@@ -103,19 +106,19 @@ plainLeg (some x) t j = record {
   complete = j .complete;
 }
 
-abbrev pub legTold : Map → Machine → (a b : ℕ) → Told
-legTold M m a b = goTold M (aimTold m b .next) a
+abbrev pub legTold : CardMap → (class : ℕ) → Machine → (a b : ℕ) → Told
+legTold C c m a b = goTold C (aimTold m b .next) c a
 
 -- the log that it gives is that of the last leg made; `log` is that of the leg before
-abbrev pub plainJourney : Map → Machine → (log : List ℕ) → (from : ℕ) → (stops : List ℕ) → PlainJourney
-plainJourney M m log a [] = record { next = m; roads = []; log = log; legs = []; complete = true }
-plainJourney M m log a (b ∷ stops) =
-    let t = legTold M m a b in
-    plainLeg (timeOf M (m .live) a b) t (plainJourney M (t .next) (t .log) b stops)
+abbrev pub plainJourney : CardMap → (class : ℕ) → Machine → (log : List ℕ) → (from : ℕ) → (stops : List ℕ) → PlainJourney
+plainJourney C c m log a [] = record { next = m; roads = []; log = log; legs = []; complete = true }
+plainJourney C c m log a (b ∷ stops) =
+    let t = legTold C c m a b in
+    plainLeg (timeOf (C .map) (classLive (C .access) c (m .live)) a b) t (plainJourney C c (t .next) (t .log) b stops)
 
-abbrev pub stopsTold : Map → Machine → (stops : List ℕ) → Told
-stopsTold M m stops =
-    let j = plainJourney M m [] (getD stops 0 0) (drop 1 stops) in
+abbrev pub stopsTold : CardMap → Machine → (class : ℕ) → (stops : List ℕ) → Told
+stopsTold C m c stops =
+    let j = plainJourney C c m [] (getD stops 0 0) (drop 1 stops) in
     record { answer = stopsAnswer (j .complete) (j .legs); roads = j .roads; log = j .log; next = j .next }
 
 -- ---- what is right about it
@@ -179,12 +182,18 @@ pub record StrandedRight (M : Map) (live : ℕ → Total) (stops : List ℕ) (k 
   pub first-lost : FirstLost M live stops k
   pub log : LostLogged M live stops k (areas .log)
 
-pub record StopsRight (M : Map) (m : Machine) (stops : List ℕ) (l : Lent) (u : Step) : Type 0 where
-  pub found : (legs : List Leg) (whole : ℕ) → u .answer ≡ Stopped legs whole → JourneyRight M (m .live) stops legs whole (u .lent)
+-- at these times; `passed` if no question refuses the list
+pub record ListRight (M : Map) (live : ℕ → Total) (passed : Type 0) (stops : List ℕ) (u : Step) : Type 0 where
+  pub found : (legs : List Leg) (whole : ℕ) → u .answer ≡ Stopped legs whole → JourneyRight M live stops legs whole (u .lent)
   -- 17 exactly with the first leg that has no chain
-  pub lost : (k : ℕ) → u .answer ≡ Refused (NoLeg k) → StrandedRight M (m .live) stops k (u .lent)
-  pub told : stopsRefusal (knownTo M m) stops (length (l .route)) (length (l .log)) ≡ none
-      → (k : ℕ) → FirstLost M (m .live) stops k → u .answer ≡ Refused (NoLeg k)
+  pub lost : (k : ℕ) → u .answer ≡ Refused (NoLeg k) → StrandedRight M live stops k (u .lent)
+  pub told : passed → (k : ℕ) → FirstLost M live stops k → u .answer ≡ Refused (NoLeg k)
+
+-- document 02, A6: over open roads of the class
+abbrev pub StopsRight : CardMap → Machine → (class : ℕ) → (stops : List ℕ) → Lent → Step → Type 0
+StopsRight C m c stops l u =
+    let passed = stopsRefusal (knownTo (C .map) m) c stops (length (l .route)) (length (l .log)) ≡ none in
+    ListRight (C .map) (classLive (C .access) c (m .live)) passed stops u
 
 -- ---- what it leaves in any state whose lengths fit: another target, down totals, estimates and elapsed, beside what it is lent
 

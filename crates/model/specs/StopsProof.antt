@@ -6,13 +6,13 @@ use mathlib.Core.Bool.{Bool, _&&_, false, true}
 use mathlib.Core.Option.{Option, none, some}
 use mathlib.Core.List.{List, List·Memᴰ·head, List·Memᴰ·tail, [], _++_, _∷_}
 use Prim.Native.Nat.{_*_, _<_, _≤_, suc, zero, ℕ}
-use lib.Dec.{leb, lit<}
+use lib.Dec.{leb, lit<, ltb}
 use lib.ListN.{drop, getD, length, length-append, length-drop, take}
 use lib.Seq.{drop-append-seam, length-take-le, take-append-add, take-append-seam}
 use native.Mathlib.Decide.{decLt}
 use native.Mathlib.Nat.{not-suc-le-zero}
 use native.Mathlib.Omega.{arith}
-use Rattle.graph.specs.Total.{Total, _⊕_, none-some, ⊕-some}
+use Rattle.graph.specs.Total.{Total, _⊕_, none-some, some-some, ⊕-some}
 use Rattle.graph.specs.Least.{IsLeast}
 use Rattle.graph.specs.Route.{listed-least, listed-path, path-listed}
 use Rattle.graph.specs.Search.{Problem, logOf, routeOf, totalOf, vertices}
@@ -20,9 +20,11 @@ use Rattle.graph.specs.Stops.{Below, whole-at-most, wholeFrom}
 use Rattle.graph.specs.Map.{Map, liveNet, timeOf, timeOf-least}
 use Rattle.graph.specs.Go.{Demand}
 use Rattle.graph.specs.Effort.{Effort}
-use Rattle.model.specs.Types.{Answer, Leg, LentLengths, NoJunction, NoLeg, Refusal, Refused, StopCount, Stopped}
-use Rattle.model.specs.Limits.{fewestStops, mostStops}
-use Rattle.model.specs.Card.{mapOn}
+use Rattle.model.specs.Types.{Answer, Leg, LentLengths, NoClass, NoJunction, NoLeg, Refusal, Refused, StopCount, Stopped}
+use Rattle.model.specs.Limits.{classes, fewestStops, mostStops}
+use Rattle.model.specs.Layout.{accessIn}
+use Rattle.model.specs.Classes.{accessOf, classLive, classTimes}
+use Rattle.model.specs.Card.{ask, cardMap, mapOn}
 use Rattle.model.specs.State.{Lent, State, Step, first, unless}
 use Rattle.model.specs.Machine.{Known, LivePath, Machine, knownTo, leastBase}
 use Rattle.model.specs.Go.{foundTold, goRoute, liveOf, plainSearch, searchOf}
@@ -33,8 +35,9 @@ use Rattle.model.specs.Calls.{askedOf, step, stopsCall}
 use Rattle.model.specs.Demand3.{Same}
 use Rattle.model.specs.Laws.{first-take}
 use Rattle.model.specs.Accept.{card-facts}
-use Rattle.model.specs.Good.{Good, StopsPassed, after-9, aim-good, below-further, leg-good, stops-passed}
-use Rattle.model.specs.GoProof.{SameLengths, asked-before, asked-is, go-demand, go-figures, go-lengths, go-told, logged-first}
+use Rattle.model.specs.Good.{Good, StopsPassed, after-9, aim-good, below-further, leg-good, met-good, met-lives, metTimes}
+use Rattle.model.specs.Good.{stops-passed}
+use Rattle.model.specs.GoProof.{SameLengths, asked-is, asked-other, go-demand, go-figures, go-lengths, go-told, logged-first}
 use Rattle.model.specs.GoProof.{machineOf, refused-is, route-short, search-is, told-next, total-is}
 
 -- ---- the machine makes the same legs
@@ -66,51 +69,70 @@ agree-leg (some t) P r m u j p e next same on =
       log = on .log;
     }
 
-module _ {card : List ℕ} where
+-- the times in force on a card, as a class meets them
+abbrev metLive : (card : List ℕ) → (class : ℕ) → State → ℕ → Total
+metLive card c s = classLive (accessOf (accessIn card)) c (liveOf (s .areas .live))
+
+module _ {card : List ℕ} {c : ℕ} (lc : c < classes) where
+  -- of one leg: the unit's total is the machine's, and so is its route
+  leg-total : {s : State} → Good card s → (a b : ℕ) → a < mapOn card .vertices → b < mapOn card .vertices
+      → totalOf (searchOf (mapOn card) (classTimes (accessOf (accessIn card)) c (s .areas .live)) a b)
+      ≡ timeOf (mapOn card) (metLive card c s) a b
+  leg-total g a b la lb =
+      total-is (met-good g c) a b la lb ∙ ap (λ (live : ℕ → Total). timeOf (mapOn card) live a b) (met-lives g c lc)
+
+  leg-route : {s : State} → Good card s → (a b : ℕ) → b < mapOn card .vertices
+      → routeOf (searchOf (mapOn card) (classTimes (accessOf (accessIn card)) c (s .areas .live)) a b)
+      ≡ routeOf (plainSearch (mapOn card) (metLive card c s) a b)
+  leg-route g a b lb =
+      search-is (met-good g c) a b lb .1 ∙ ap (λ (live : ℕ → Total). routeOf (plainSearch (mapOn card) live a b)) (met-lives g c lc)
+
   agree : (s : State) (log : List ℕ) (a : ℕ) (stops : List ℕ) (l : Lent) → Good card s → a < mapOn card .vertices
       → Below (mapOn card .vertices) stops → take (length log) (l .log) ≡ log
-      → Agree (journey (mapOn card) s a stops l) (plainJourney (mapOn card) (machineOf s) log a stops)
+      → Agree (journey (cardMap card) c s a stops l) (plainJourney (cardMap card) c (machineOf s) log a stops)
   agree s log a [] l g la below h = record { legs = refl; complete = refl; next = refl; roads = refl; log = h }
   agree s log a (b ∷ stops) l g la below h =
+      let C = cardMap card in
       let M = mapOn card in
-      let live = liveOf (s .areas .live) in
+      let live = metLive card c s in
       let lb = below b (List·Memᴰ·head refl) in
-      let G = searchOf M (s .areas .live) a b in
+      let G = searchOf M (classTimes (accessOf (accessIn card)) c (s .areas .live)) a b in
       let P = plainSearch M live a b in
       let k = length (routeOf G) in
-      let u = legMade M s a b l in
+      let u = legMade C c s a b l in
       let m = machineOf (u .state) in
       let t = foundTold (timeOf M live a b) P m in
-      let same : Same u t = go-told (aim-good g b l lb) a l la refl in
+      let same : Same u t = go-told (aim-good g b l lb) c a l lc la refl in
       let further : Below (M .vertices) stops = λ v w. below v (List·Memᴰ·tail w) in
-      let on = agree (u .state) (t .log) b stops (past k (u .lent)) (leg-good g a b l lb) lb further (same .log) in
-      let j = journey M (u .state) b stops (past k (u .lent)) in
+      let on = agree (u .state) (t .log) b stops (past k (u .lent)) (leg-good g c a b l lb) lb further (same .log) in
+      let j = journey C c (u .state) b stops (past k (u .lent)) in
       let next = told-next (timeOf M live a b) P m in
-      let p = plainJourney M (t .next) (t .log) b stops in
-      let on′ : Agree j p = subst (λ (m′ : Machine). Agree j (plainJourney M m′ (t .log) b stops)) (sym next) on in
-      let leg = agree-leg (timeOf M live a b) P (routeOf G) m u j p (search-is g a b lb .1) refl same on′ in
-      subst (λ (x : Total). Agree (withLeg x k u j) (plainLeg (timeOf M live a b) t p)) (sym (total-is g a b la lb)) leg
+      let p = plainJourney C c (t .next) (t .log) b stops in
+      let on′ : Agree j p = subst (λ (m′ : Machine). Agree j (plainJourney C c m′ (t .log) b stops)) (sym next) on in
+      let leg = agree-leg (timeOf M live a b) P (routeOf G) m u j p (leg-route g a b lb) refl same on′ in
+      subst (λ (x : Total). Agree (withLeg x k u j) (plainLeg (timeOf M live a b) t p)) (sym (leg-total g a b la lb)) leg
 
 -- the first stop of a list that 16 and 12 passed
 first-below : {n : ℕ} (stops : List ℕ) → fewestStops ≤ length stops → Below n stops → getD stops 0 0 < n
 first-below [] few below = absurd (not-suc-le-zero few)
 first-below (a ∷ stops) few below = below a (List·Memᴰ·head refl)
 
-module _ {card : List ℕ} {s : State} (g : Good card s) (stops : List ℕ) (l : Lent)
-    (q : StopsPassed g stops (length (l .route)) (length (l .log))) where
-  stops-agree : Agree (journey (mapOn card) s (getD stops 0 0) (drop 1 stops) l)
-      (plainJourney (mapOn card) (machineOf s) [] (getD stops 0 0) (drop 1 stops))
+module _ {card : List ℕ} {s : State} (g : Good card s) (c : ℕ) (stops : List ℕ) (l : Lent)
+    (q : StopsPassed g c stops (length (l .route)) (length (l .log))) where
+  stops-agree : Agree (journey (cardMap card) c s (getD stops 0 0) (drop 1 stops) l)
+      (plainJourney (cardMap card) c (machineOf s) [] (getD stops 0 0) (drop 1 stops))
   stops-agree =
-      agree s [] (getD stops 0 0) (drop 1 stops) l g (first-below stops (q .fewest) (q .below)) (below-further stops (q .below)) refl
+      let first = first-below stops (q .fewest) (q .below) in
+      agree (q .class) s [] (getD stops 0 0) (drop 1 stops) l g first (below-further stops (q .below)) refl
 
   -- a list of stops that no question refuses is the machine's
-  pub stops-told : Same (stopsMade (mapOn card) s stops l) (stopsTold (mapOn card) (machineOf s) stops)
+  pub stops-told : Same (stopsMade (cardMap card) s c stops l) (stopsTold (cardMap card) (machineOf s) c stops)
   stops-told =
       let a = stops-agree in
       record { answer = ap₂ stopsAnswer (a .complete) (a .legs); roads = a .roads; log = a .log }
 
   -- and the machine goes on as the unit does
-  pub stops-next : stopsTold (mapOn card) (machineOf s) stops .next ≡ machineOf (stopsMade (mapOn card) s stops l .state)
+  pub stops-next : stopsTold (cardMap card) (machineOf s) c stops .next ≡ machineOf (stopsMade (cardMap card) s c stops l .state)
   stops-next = stops-agree .next
 
 -- ---- lengths
@@ -128,33 +150,33 @@ leg-lengths (some t) k u j l leg on =
 
 module _ {card : List ℕ} where
   -- each leg has fewer than n roads, so n entries are left of the route for each leg to come
-  pub journey-lengths : (s : State) (a : ℕ) (stops : List ℕ) (l : Lent) → Good card s → a < mapOn card .vertices
+  pub journey-lengths : (c : ℕ) (s : State) (a : ℕ) (stops : List ℕ) (l : Lent) → Good card s → a < mapOn card .vertices
       → Below (mapOn card .vertices) stops → length stops * mapOn card .vertices ≤ length (l .route)
-      → mapOn card .vertices ≤ length (l .log) → SameLengths (journey (mapOn card) s a stops l .lent) l
-  journey-lengths s a [] l g la below room log = record { route = refl; log = refl }
-  journey-lengths s a (b ∷ stops) l g la below room log =
-      let M = mapOn card in
-      let n = M .vertices in
+      → mapOn card .vertices ≤ length (l .log) → SameLengths (journey (cardMap card) c s a stops l .lent) l
+  journey-lengths c s a [] l g la below room log = record { route = refl; log = refl }
+  journey-lengths c s a (b ∷ stops) l g la below room log =
+      let C = cardMap card in
+      let n = mapOn card .vertices in
       let lb = below b (List·Memᴰ·head refl) in
-      let G = searchOf M (s .areas .live) a b in
+      let G = searchOf (mapOn card) (metTimes g c) a b in
       let k = length (routeOf G) in
-      let u = legMade M s a b l in
+      let u = legMade C c s a b l in
       let one : n ≤ length (l .route) = omega (arith, room) in
-      let leg = go-lengths (aim-good g b l lb) a l la refl one log in
+      let leg = go-lengths (aim-good g b l lb) c a l la refl one log in
       let left = length-drop k (u .lent .route) in
-      leg-lengths (totalOf G) k u (journey M (u .state) b stops (past k (u .lent))) l leg (λ t e.
-      let short = route-short g a b t la lb e in (
+      leg-lengths (totalOf G) k u (journey C c (u .state) b stops (past k (u .lent))) l leg (λ t e.
+      let short = route-short (met-good g c) a b t la lb e in (
         omega (arith, short, one),
-        journey-lengths (u .state) b stops (past k (u .lent)) (leg-good g a b l lb) lb (λ v w. below v (List·Memᴰ·tail w))
+        journey-lengths c (u .state) b stops (past k (u .lent)) (leg-good g c a b l lb) lb (λ v w. below v (List·Memᴰ·tail w))
             (omega (arith, room, short, left, leg .route)) (omega (arith, log, leg .log)),
       ))
 
-  pub stops-lengths : {s : State} (g : Good card s) (stops : List ℕ) (l : Lent)
-      → StopsPassed g stops (length (l .route)) (length (l .log)) → SameLengths (stopsMade (mapOn card) s stops l .lent) l
-  stops-lengths {s} g [] l q = absurd (not-suc-le-zero (q .fewest))
-  stops-lengths {s} g (a ∷ stops) l q =
+  pub stops-lengths : {s : State} (g : Good card s) (c : ℕ) (stops : List ℕ) (l : Lent)
+      → StopsPassed g c stops (length (l .route)) (length (l .log)) → SameLengths (stopsMade (cardMap card) s c stops l .lent) l
+  stops-lengths {s} g c [] l q = absurd (not-suc-le-zero (q .fewest))
+  stops-lengths {s} g c (a ∷ stops) l q =
       let room : length stops * mapOn card .vertices ≤ length (l .route) = omega (arith, q .route) in
-      journey-lengths s a stops l g (q .below a (List·Memᴰ·head refl)) (λ v w. q .below v (List·Memᴰ·tail w)) room (q .log)
+      journey-lengths c s a stops l g (q .below a (List·Memᴰ·head refl)) (λ v w. q .below v (List·Memᴰ·tail w)) room (q .log)
 
 -- ---- how a journey ends: with its last leg, or at the first one that has no chain
 
@@ -215,19 +237,25 @@ module _ {M : Map} {live : ℕ → Total} {a b : ℕ} {G : Problem} (D : Demand 
       arrived c (rw roads (leg-right t (j .lent .route) e, rw rest legs)) (ap₂ _⊕_ (sym timed ∙ e) whole)
       (log-later t (j .legs) (u .lent .log) (l .log) (j .lent .log) e g later stays) (λ h. absurd (omega arith))
 
-module _ {card : List ℕ} where
+module _ {card : List ℕ} {c : ℕ} (lc : c < classes) where
   ended : (s : State) (a : ℕ) (stops : List ℕ) (l : Lent) → Good card s → a < mapOn card .vertices → Below (mapOn card .vertices) stops
-      → Ended (mapOn card) (liveOf (s .areas .live)) a stops (l .log) (journey (mapOn card) s a stops l)
+      → Ended (mapOn card) (metLive card c s) a stops (l .log) (journey (cardMap card) c s a stops l)
   ended s a [] l g la below = arrived refl tt refl (λ k h. absurd (omega arith)) (λ h. refl)
   ended s a (b ∷ stops) l g la below =
+      let C = cardMap card in
       let M = mapOn card in
       let lb = below b (List·Memᴰ·head refl) in
-      let G = searchOf M (s .areas .live) a b in
+      let G = searchOf M (metTimes g c) a b in
       let k = length (routeOf G) in
-      let u = legMade M s a b l in
-      let on = ended (u .state) b stops (past k (u .lent)) (leg-good g a b l lb) lb (λ v w. below v (List·Memᴰ·tail w)) in
-      let j = journey M (u .state) b stops (past k (u .lent)) in
-      ended-leg (go-demand g a b la lb) (go-figures g a b la lb) (total-is g a b la lb) stops (totalOf G) u l j refl refl refl on
+      let u = legMade C c s a b l in
+      let on = ended (u .state) b stops (past k (u .lent)) (leg-good g c a b l lb) lb (λ v w. below v (List·Memᴰ·tail w)) in
+      let j = journey C c (u .state) b stops (past k (u .lent)) in
+      let met = met-good g c in
+      let lives = met-lives g c lc in
+      let D : Demand M (metLive card c s) a b G = subst (λ (live : ℕ → Total). Demand M live a b G) lives (go-demand met a b la lb) in
+      let E : Effort (M .vertices) (timeOf M (metLive card c s) a) (leastBase M b) G =
+      subst (λ (live : ℕ → Total). Effort (M .vertices) (timeOf M live a) (leastBase M b) G) lives (go-figures met a b la lb) in
+      ended-leg D E (leg-total lc g a b la lb) stops (totalOf G) u l j refl refl refl on
 
 -- ---- answers
 
@@ -246,15 +274,16 @@ answer-arrived c legs e = rw e
 answer-left-off : (c : Bool) (legs : List Leg) → c ≡ false → stopsAnswer c legs ≡ Refused (NoLeg (length legs))
 answer-left-off c legs e = rw e
 
-before-17 : (k : Known) (stops : List ℕ) (r l : ℕ) (p : Refusal) → stopsRefusal k stops r l ≡ some p → p .question < 17
+-- the questions before the legs are not 17
+not-17 : (k : Known) (c : ℕ) (stops : List ℕ) (r l : ℕ) (p : Refusal) {i : ℕ} → stopsRefusal k c stops r l ≡ some p → p ≡ NoLeg i → ⊥
 unfolding stopsRefusal
-before-17 k stops r l =
-    asked-before 17 (leb fewestStops (length stops) && leb (length stops) mostStops) StopCount _ (lit< tt)
-    (asked-before 17 (allBelow (k .n) stops) NoJunction _ (lit< tt)
-    (asked-before 17 (leb (length stops * k .n) r && leb (k .n) l) LentLengths none (lit< tt) (λ p e. absurd (none-some refl e))))
-
-not-17 : {p : Refusal} {i : ℕ} → p .question < 17 → p ≡ NoLeg i → ⊥
-not-17 {p} {i} h e = let z : p .question ≡ 17 = ap (λ (r : Refusal). r .question) e in omega arith
+not-17 k c stops r l p h e =
+    asked-other 17 (leb fewestStops (length stops) && leb (length stops) mostStops) StopCount _ (λ q. omega (arith, q))
+    (asked-other 17 (ltb c classes) NoClass _ (λ q. omega (arith, q))
+    (asked-other 17 (allBelow (k .n) stops) NoJunction _ (λ q. omega (arith, q))
+    (asked-other 17 (leb (length stops * k .n) r && leb (k .n) l) LentLengths none (λ q. omega (arith, q))
+    (λ p e. absurd (none-some refl e)))))
+    p h (ap (λ (r : Refusal). r .question) e)
 
 -- ---- what is right about a journey, by how it ended
 
@@ -307,13 +336,13 @@ module _ {M : Map} {live : ℕ → Total} (least : (a b : ℕ) → IsLeast (Live
 -- ---- a list of stops that was asked
 
 module _ {card : List ℕ} {s : State} (g : Good card s) where
-  made-right : (stops : List ℕ) (l : Lent) → StopsPassed g stops (length (l .route)) (length (l .log))
-      → StopsRight (mapOn card) (machineOf s) stops l (stopsMade (mapOn card) s stops l)
-  made-right [] l q = absurd (not-suc-le-zero (q .fewest))
-  made-right (a ∷ stops) l q =
-      let live = liveOf (s .areas .live) in
+  made-right : (c : ℕ) (stops : List ℕ) (l : Lent) → StopsPassed g c stops (length (l .route)) (length (l .log))
+      → StopsRight (cardMap card) (machineOf s) c stops l (stopsMade (cardMap card) s c stops l)
+  made-right c [] l q = absurd (not-suc-le-zero (q .fewest))
+  made-right c (a ∷ stops) l q =
+      let live = metLive card c s in
       let below = q .below in
-      let end = ended s a stops l g (below a (List·Memᴰ·head refl)) (λ v w. below v (List·Memᴰ·tail w)) in
+      let end = ended (q .class) s a stops l g (below a (List·Memᴰ·head refl)) (λ v w. below v (List·Memᴰ·tail w)) in
       let least : (x y : ℕ) → IsLeast (LivePath (mapOn card) live x y) (timeOf (mapOn card) live x y) =
       λ x y. listed-least (timeOf-least (card-facts card (g .accepted) .valid) live x y) in
       record {
@@ -322,18 +351,19 @@ module _ {card : List ℕ} {s : State} (g : Good card s) where
         told = λ h. first-told least below end;
       }
 
-  pub stops-right : (stops : List ℕ) (l : Lent) → StopsRight (mapOn card) (machineOf s) stops l (step card s (stopsCall stops l))
+  pub stops-right : (c : ℕ) (stops : List ℕ) (l : Lent)
+      → StopsRight (cardMap card) (machineOf s) c stops l (step card s (stopsCall c stops l))
   unfolding step
-  stops-right stops l = go (askedOf card s (stopsCall stops l)) refl
+  stops-right c stops l = go (askedOf card s (stopsCall c stops l)) refl
     where
-      go : (x : Option Refusal) → askedOf card s (stopsCall stops l) ≡ x
-          → StopsRight (mapOn card) (machineOf s) stops l (unless x s l (stopsMade (mapOn card) s stops l))
-      go none h = made-right stops l (stops-passed g stops (length (l .route)) (length (l .log)) (after-9 g (stopsCall stops l) h))
+      go : (x : Option Refusal) → askedOf card s (stopsCall c stops l) ≡ x
+          → StopsRight (cardMap card) (machineOf s) c stops l (unless x s l (stopsMade (cardMap card) s c stops l))
+      go none h = made-right c stops l (stops-passed g c stops (length (l .route)) (length (l .log)) (after-9 g (stopsCall c stops l) h))
       go (some q) h =
-          let asked = sym (asked-is g (stopsCall stops l)) ∙ h in
-          let earlier = before-17 (knownTo (mapOn card) (machineOf s)) stops (length (l .route)) (length (l .log)) q asked in
+          let asked = sym (asked-is g (stopsCall c stops l)) ∙ h in
+          let known = knownTo (mapOn card) (machineOf s) in
           record {
             found = λ legs whole e. absurd (stopped-not-refused refl e);
-            lost = λ k e. absurd (not-17 earlier (refused-is refl e));
+            lost = λ k e. absurd (not-17 known c stops (length (l .route)) (length (l .log)) q asked (refused-is refl e));
             told = λ e k f. absurd (none-some e asked);
           }

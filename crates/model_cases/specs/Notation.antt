@@ -24,7 +24,9 @@ use Rattle.model.specs.Word.{ofWord}
 use Rattle.model.specs.Types.{Absent, Accepted, Answer, At, Estimated, Gone, Header, Leg, NoLeg, NoPath, Previewed, Refusal, Refused}
 use Rattle.model.specs.Types.{Stopped, Target}
 use Rattle.model.specs.Bytes.{wordAt}
-use Rattle.model.specs.Card.{Rows, Written, mapOf, writeCard, writeRefusal}
+use Rattle.model.specs.Layout.{bodyAt}
+use Rattle.model.specs.Card.{CardMap, Rows, Written, mapOf, writeCard, writeRefusal}
+use Rattle.model.specs.Classes.{accessOf, admits, classLive}
 use Rattle.model.specs.Areas.{Areas, areasOf}
 use Rattle.model.specs.State.{Lent, State, Step, prepare}
 use Rattle.model.specs.Machine.{targetOf}
@@ -65,6 +67,14 @@ contents a b = bytes (2 ∷ 1 ∷ 28 ∷ a ∷ 2 ∷ (28 + a) ∷ b ∷ [])
 
 abbrev pub card : (roads : List (List ℕ)) (order : List ℕ) → List ℕ
 card roads order = contents (12 * length roads) (4 * length order) ++ bytes (row roads ++ order)
+
+-- the same with a byte for each road in a third section; without it where there are none
+abbrev pub cardWith : (roads : List (List ℕ)) (order access : List ℕ) → List ℕ
+cardWith roads order [] = card roads order
+cardWith roads order (b ∷ l) =
+    let a = 12 * length roads in
+    let o = 4 * length order in
+    bytes (3 ∷ 1 ∷ 40 ∷ a ∷ 2 ∷ (40 + a) ∷ o ∷ 3 ∷ (40 + a + o) ∷ length (b ∷ l) ∷ []) ++ bytes (row roads ++ order) ++ b ∷ l
 
 -- a card with bodies of zeros, of so many bytes
 abbrev pub blank : (roads order : ℕ) → List ℕ
@@ -116,8 +126,8 @@ abbrev full : (w ranks pairs live down estimates elapsed leaving groups : ℕ) �
 full w r p l d e t g h =
     areasOf (replicate r w) (replicate p w) (replicate l w) (replicate d w) (replicate e w) (replicate t w) (replicate g w) (replicate h w)
 
-abbrev pub headerOf : (n m pairs : ℕ) → Target → Header
-headerOf n m p z = record { n = n; m = m; pairs = p; target = z }
+abbrev pub headerOf : (n m pairs card : ℕ) → Target → Header
+headerOf n m p c z = record { n = n; m = m; pairs = p; card = c; target = z }
 
 abbrev nothing : Lent
 nothing = record { route = []; log = [] }
@@ -127,7 +137,7 @@ pub record Preparing : Type 0 where
   pub areas : Areas
 
 unfoldable pub prepares : Preparing → Step
-unfolding prepare wordAt measured up down
+unfolding prepare wordAt bodyAt measured up down
 prepares p = prepare (p .card) (p .areas)
 
 -- a refused preparing leaves w in each area, and a header of zeros
@@ -135,7 +145,7 @@ abbrev pub unprepared : Refusal → (w : ℕ) → (card : List ℕ) (ranks pairs
     → Case Preparing Step
 unprepared q w c r p l d e t g h =
     record { card = c; areas = full 7 r p l d e t g h }
-    ⇒ record { answer = Refused q; state = record { header = headerOf 0 0 0 Absent; areas = full w r p l d e t g h }; lent = nothing }
+    ⇒ record { answer = Refused q; state = record { header = headerOf 0 0 0 0 Absent; areas = full w r p l d e t g h }; lent = nothing }
 
 -- ---- calls
 
@@ -159,10 +169,10 @@ unfolding step
 answers g = map (λ (c : Call). step (g .card) (g .state) c) (g .calls)
 
 -- Each is refused and leaves everything as it was: a card of so many bytes, a header of these numbers, areas of these lengths.
-abbrev pub refused : Refusal → List Call → (n m pairs : ℕ) → Target → (bytes ranks pairs live down estimates elapsed leaving groups : ℕ)
-    → Case Calling (List Step)
-refused q calls n m k z b r p l d e t g h =
-    let s : State = record { header = headerOf n m k z; areas = full 7 r p l d e t g h } in
+abbrev pub refused : Refusal → List Call → (n m pairs card : ℕ) → Target
+    → (bytes ranks pairs live down estimates elapsed leaving groups : ℕ) → Case Calling (List Step)
+refused q calls n m k c z b r p l d e t g h =
+    let s : State = record { header = headerOf n m k c z; areas = full 7 r p l d e t g h } in
     record { card = replicate b 7; state = s; calls = calls }
     ⇒ map (λ (c : Call). record { answer = Refused q; state = s; lent = c .lent }) calls
 
@@ -184,7 +194,7 @@ no q c = record { call = c; answer = Refused q; after = λ s. s; holds = c .lent
 -- another target, live times, down totals, estimates, elapsed
 abbrev becoming : State → Target → (live down estimates elapsed : List ℕ) → State
 becoming s z l d e t = record {
-  header = headerOf (s .header .n) (s .header .m) (s .header .pairs) z;
+  header = headerOf (s .header .n) (s .header .m) (s .header .pairs) (s .header .card) z;
   areas = areasOf (s .areas .built .ranks) (s .areas .built .pairs) l d e t (s .areas .built .leaving) (s .areas .built .groups);
 }
 
@@ -226,9 +236,9 @@ abbrev pub less : ℕ → Option ℤ
 less k = some (negℤ (pos k))
 
 -- an accepted preview, lent twice n words: its totals now and with that time set and their change, with the estimates after it
-abbrev pub preview : (road time start : ℕ) → (present new : Total) → (change : Option ℤ) → (estimates : List ℕ) → Turn
-preview i t j present new change estimates = record {
-  call = previewCall i t j (2 * length estimates);
+abbrev pub preview : (class road time start : ℕ) → (present new : Total) → (change : Option ℤ) → (estimates : List ℕ) → Turn
+preview v i t j present new change estimates = record {
+  call = previewCall v i t j (2 * length estimates);
   answer = Previewed present new change;
   after = λ s. becoming s (s .header .target) (s .areas .live) (s .areas .aimed .down) estimates (s .areas .trip .elapsed);
   holds = nothing;
@@ -239,9 +249,9 @@ preview i t j present new change estimates = record {
 abbrev first : List ℕ → List ℕ → List ℕ
 first l area = l ++ drop (length l) area
 
-abbrev went : Answer → (start : ℕ) → Lent → (roads log estimates elapsed : List ℕ) → Turn
-went a j l roads log estimates elapsed = record {
-  call = goCall j l;
+abbrev went : Answer → (class start : ℕ) → Lent → (roads log estimates elapsed : List ℕ) → Turn
+went a v j l roads log estimates elapsed = record {
+  call = goCall v j l;
   answer = a;
   after = λ s. becoming s (s .header .target) (s .areas .live) (s .areas .aimed .down) estimates elapsed;
   holds = record { route = first roads (l .route); log = first log (l .log) };
@@ -249,21 +259,21 @@ went a j l roads log estimates elapsed = record {
 }
 
 -- a go and its total, roads and log, with the estimates and elapsed after it
-abbrev pub go : (start : ℕ) → Lent → (total : ℕ) → (roads log estimates elapsed : List ℕ) → Turn
-go j l total roads log = went (Gone total (length log) (length roads)) j l roads log
+abbrev pub go : (class start : ℕ) → Lent → (total : ℕ) → (roads log estimates elapsed : List ℕ) → Turn
+go v j l total roads log = went (Gone total (length log) (length roads)) v j l roads log
 
 -- the same where no chain exists
-abbrev pub lost : (start : ℕ) → Lent → (log estimates elapsed : List ℕ) → Turn
-lost j l log = went (Refused (NoPath (length log))) j l [] log
+abbrev pub lost : (class start : ℕ) → Lent → (log estimates elapsed : List ℕ) → Turn
+lost v j l log = went (Refused (NoPath (length log))) v j l [] log
 
 -- a leg of a list of stops: its total, and its number of roads
 infix 70 _over_
 abbrev pub _over_ : (total roads : ℕ) → Leg
 t over k = record { total = t; roads = k }
 
-abbrev called : Answer → (target : ℕ) → (stops : List ℕ) → Lent → (roads log down estimates elapsed : List ℕ) → Turn
-called a z stops l roads log down estimates elapsed = record {
-  call = stopsCall stops l;
+abbrev called : Answer → (target class : ℕ) → (stops : List ℕ) → Lent → (roads log down estimates elapsed : List ℕ) → Turn
+called a z v stops l roads log down estimates elapsed = record {
+  call = stopsCall v stops l;
   answer = a;
   after = λ s. becoming s (At z) (s .areas .live) down estimates elapsed;
   holds = record { route = first roads (l .route); log = first log (l .log) };
@@ -272,17 +282,20 @@ called a z stops l roads log down estimates elapsed = record {
 
 -- A list of stops, its legs and the whole total; the roads of all legs, what stands first in the log area, which may be more than the last
 -- leg's log, and the down totals, estimates and elapsed after it. Its last stop is the target.
-abbrev pub stops : (stops : List ℕ) → Lent → (legs : List Leg) → (whole : ℕ) → (roads log down estimates elapsed : List ℕ) → Turn
-stops s l legs whole = called (Stopped legs whole) (getD s (length s - 1) 0) s l
+abbrev pub stops : (class : ℕ) → (stops : List ℕ) → Lent → (legs : List Leg) → (whole : ℕ)
+    → (roads log down estimates elapsed : List ℕ) → Turn
+stops v s l legs whole = called (Stopped legs whole) (getD s (length s - 1) 0) v s l
 
 -- the same where leg k, from 0, is the first that has no chain: its end is the target, the roads are those of the legs before it
-abbrev pub stranded : (stops : List ℕ) → Lent → (k : ℕ) → (roads log down estimates elapsed : List ℕ) → Turn
-stranded s l k = called (Refused (NoLeg k)) (getD s (suc k) 0) s l
+abbrev pub stranded : (class : ℕ) → (stops : List ℕ) → Lent → (k : ℕ) → (roads log down estimates elapsed : List ℕ) → Turn
+stranded v s l k = called (Refused (NoLeg k)) (getD s (suc k) 0) v s l
 
 -- A map that is prepared with room for so many pairs, the ranks, records and roads by tail that this leaves, and the turns that follow.
+-- Where there are bytes for the roads, the card has a third section.
 pub record Script : Type 0 where
   pub roads : List (List ℕ)
   pub order : List ℕ
+  pub access : List ℕ
   pub room : ℕ
   pub ranks : List ℕ
   pub pairs : List (List ℕ)
@@ -291,40 +304,40 @@ pub record Script : Type 0 where
   pub turns : List Turn
 
 -- Demand 3's figure for a go that was answered so, in the state before it: the junctions counted, in their order.
-abbrev figureOf : Map → State → (start : ℕ) → Answer → List ℕ
-figureOf M s j (Gone t c k) =
-    let live = liveOf (s .areas .live) in
+abbrev figureOf : CardMap → State → (class start : ℕ) → Answer → List ℕ
+figureOf C s v j (Gone t c k) =
+    let live = classLive (C .access) v (liveOf (s .areas .live)) in
     let z = targetOf (s .header .target) in
-    effortLog M live j z (withinTotal M live j z t)
-figureOf M s j (Refused q) =
-    let live = liveOf (s .areas .live) in
+    effortLog (C .map) live j z (withinTotal (C .map) live j z t)
+figureOf C s v j (Refused q) =
+    let live = classLive (C .access) v (liveOf (s .areas .live)) in
     let z = targetOf (s .header .target) in
-    cond (eqb (q .question) 15) (effortLog M live j z (reachedEstimated M live j z)) []
-figureOf M s j Accepted = []
-figureOf M s j (Estimated t) = []
-figureOf M s j (Previewed a b d) = []
-figureOf M s j (Stopped legs t) = []
+    cond (eqb (q .question) 15) (effortLog (C .map) live j z (reachedEstimated (C .map) live j z)) []
+figureOf C s v j Accepted = []
+figureOf C s v j (Estimated t) = []
+figureOf C s v j (Previewed a b d) = []
+figureOf C s v j (Stopped legs t) = []
 
 -- the same of any call; one that is no go has none
-abbrev figureAfter : Map → State → Asked → Answer → List ℕ
-figureAfter M s (Go j) a = figureOf M s j a
-figureAfter M s (Set i t) a = []
-figureAfter M s (Aim j) a = []
-figureAfter M s (Estimate j) a = []
-figureAfter M s (Preview i t j w) a = []
-figureAfter M s (Stops l) a = []
+abbrev figureAfter : CardMap → State → Asked → Answer → List ℕ
+figureAfter C s (Go v j) a = figureOf C s v j a
+figureAfter C s (Set i t) a = []
+figureAfter C s (Aim j) a = []
+figureAfter C s (Estimate j) a = []
+figureAfter C s (Preview v i t j w) a = []
+figureAfter C s (Stops v l) a = []
 
 -- of each turn, in the states that the turns say
-abbrev figuresOf : Map → State → List Turn → List (List ℕ)
-figuresOf M s [] = []
-figuresOf M s (t ∷ l) = figureAfter M s (t .call .asked) (t .answer) ∷ figuresOf M (t .after s) l
+abbrev figuresOf : CardMap → State → List Turn → List (List ℕ)
+figuresOf C s [] = []
+figuresOf C s (t ∷ l) = figureAfter C s (t .call .asked) (t .answer) ∷ figuresOf C (t .after s) l
 
 -- what the definitions answer and leave: preparing, then each call
 unfoldable pub played : Script → List Step
-unfolding wordAt prepare step measured upTotal offerVia offered below-or before better consider bestBelow next hasGoal push extend run is
-    firstVia backStep back totalIn wayIn up down
+unfolding wordAt bodyAt prepare step admits measured upTotal offerVia offered below-or before better consider bestBelow next hasGoal push
+    extend run is firstVia backStep back totalIn wayIn up down
 played c =
-    let k = card (c .roads) (c .order) in
+    let k = cardWith (c .roads) (c .order) (c .access) in
     let n = length (c .order) in
     let m = length (c .roads) in
     let p = prepare k (full 7 n (4 * c .room) m n n n m (suc n)) in
@@ -335,7 +348,7 @@ abbrev prepared : Script → State
 prepared c =
     let n = length (c .order) in
     record {
-      header = headerOf n (length (c .roads)) (length (c .pairs)) Absent;
+      header = headerOf n (length (c .roads)) (length (c .pairs)) (length (cardWith (c .roads) (c .order) (c .access))) Absent;
       areas =
           areasOf
           (c .ranks) (row (c .pairs) ++ replicate (4 * (c .room - length (c .pairs))) 0)
@@ -355,8 +368,10 @@ told c = record { answer = Accepted; state = prepared c; lent = nothing } ∷ af
 
 -- demand 3's figures of the turns
 unfoldable pub figures : Script → List (List ℕ)
-unfolding ofWord dist direct filter range noMore isNumber inOrder sorted insert sooner smaller-or
-figures c = figuresOf (mapOf (record { roads = row (c .roads); order = c .order })) (prepared c) (c .turns)
+unfolding ofWord dist direct filter range noMore isNumber inOrder sorted insert sooner smaller-or admits
+figures c =
+    let M = mapOf (record { roads = row (c .roads); order = c .order }) in
+    figuresOf (record { map = M; access = accessOf (c .access) }) (prepared c) (c .turns)
 
 -- The calls answer and leave what the turns say, and demand 3's figures are the logs that they say.
 pub record Holds (c : Script) : Type 0 where

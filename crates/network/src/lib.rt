@@ -9,6 +9,7 @@ ghost use Rattle.graph.specs.Total.{_⊕_};
 ghost use Rattle.model.specs.Types as model;
 ghost use Rattle.model.specs.Word.{closedWord, noneWord, ofWord, unasked, word};
 ghost use Rattle.model.specs.Bytes.{bytesOf, wordAt};
+ghost use Rattle.model.specs.Classes.{accessOf, admits, halved};
 ghost use Rattle.network.specs.Width.{fit};
 ghost use Rattle.model.specs.Card.{ask};
 ghost use Rattle.network.specs.Refusals.{refusalIn, verdictIn};
@@ -28,6 +29,15 @@ pub const FEWEST_STOPS: usize = 2;
 
 pub const MOST_STOPS: usize = 32;
 
+// Vehicle classes, and the sections that a card may have (document 02, A6).
+pub const CLASSES: u32 = 8;
+
+const EVERY_CLASS: u32 = 255;
+
+pub const FEWEST_SECTIONS: u32 = 2;
+
+pub const MOST_SECTIONS: u32 = 3;
+
 // The limits as lengths: of an area by junction, of one by road, and of the pairs' area, of which a record has four words (two ranks and
 // two times).
 pub const JUNCTIONS: usize = MOST_JUNCTIONS as usize;
@@ -43,11 +53,12 @@ pub const MOST_PAIR_WORDS: usize = RECORD * (MOST_PAIRS as usize);
 // The word of a time: its width is known here and nowhere else.
 pub type TimeWord = u32;
 
-// Numbers of junctions, roads and pairs.
+// Numbers of junctions, roads and pairs, and the card's length in bytes.
 pub struct Sizes {
     pub n: u32,
     pub m: u32,
     pub pairs: u32,
+    pub card: u32,
 }
 
 // The number of a junction (a vertex).
@@ -258,6 +269,12 @@ impl Refusal {
             count: 0,
         }
     }
+
+    pub const NO_CLASS: Refusal = Refusal {
+        question: 18,
+        place: 0,
+        count: 0,
+    };
 }
 
 // What questions find: nothing to refuse, or the first that says no.
@@ -273,7 +290,8 @@ pub fn ask(passes: bool, q: Refusal, rest: Verdict) -> Verdict
     if passes { rest } else { Verdict::Failed(q) }
 }
 
-fn wide(x: u8) -> u32
+// A byte as a word.
+pub fn wide(x: u8) -> u32
     ensures { λ r. ⌜ (r ≡ x) × (r < 256) ⌝ }
 {
     x as u32
@@ -324,6 +342,34 @@ pub fn junction_of(order: &[u8], r: Rank) -> Junction
 {
     let k = r.0 as usize;
     Junction(word_at(order, 4 * k))
+}
+
+// The byte of road i; a road without one lets every class in.
+fn byte_of(access: &[u8], i: usize) -> u32
+    ensures { λ r. ⌜ (r ≡ accessOf (now (access .entry)) i) × (r < 256) ⌝ }
+{
+    if access.len() <= i {
+        return EVERY_CLASS;
+    }
+    wide(access[i])
+}
+
+// The byte without its lowest bits, as many as the class says: a number that is no class leaves none.
+fn halved(byte: u32, class: u32) -> u32
+    requires { ⌜ byte < 256 ⌝ }
+    ensures { λ r. ⌜ r ≡ halved class byte ⌝ }
+{
+    if CLASSES <= class {
+        return 0;
+    }
+    byte >> class
+}
+
+// Does road i let this class in?
+pub fn admits(access: &[u8], class: u32, i: usize) -> bool
+    ensures { λ r. ⌜ r ≡ admits (accessOf (now (access .entry)) i) class ⌝ }
+{
+    halved(byte_of(access, i), class) % 2 == 1
 }
 
 // The rank of a junction, by the area of ranks.

@@ -6,7 +6,7 @@ use mathlib.Core.List.{List, [], _++_}
 use Prim.Native.Nat.{_+_, ℕ}
 use lib.ListN.{length, take}
 use native.Mathlib.Omega.{arith}
-use Rattle.model.specs.Card.{mapOn}
+use Rattle.model.specs.Card.{cardMap, mapOn}
 use Rattle.model.specs.Areas.{Areas}
 use Rattle.model.specs.State.{Lent, State}
 use Rattle.model.specs.Machine.{started}
@@ -76,7 +76,7 @@ module _ {file : List ℕ} (lent : Areas) {a : Areas} (lends : shell.Lends file 
         stops = lines-stop lines;
         lines = λ e. lines-right at-start lines e;
         texts = λ e. printed .printed
-            ∙ ap (λ (x : List (List ℕ)). machineTexts x (mapOn file) (started (mapOn file))) (sym (lines-right at-start lines e));
+            ∙ ap (λ (x : List (List ℕ)). machineTexts x (cardMap file) (started (mapOn file))) (sym (lines-right at-start lines e));
         printed = printed;
       }
 

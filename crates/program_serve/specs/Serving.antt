@@ -7,7 +7,7 @@ use mathlib.Core.List.{List, [], _++_, _∷_}
 use Prim.Native.Nat.{ℕ}
 use denote.Triple.Both.{Both}
 use lib.ListN.{length, take}
-use Rattle.model.specs.Card.{mapOn}
+use Rattle.model.specs.Card.{cardMap, mapOn}
 use Rattle.model.specs.Areas.{Areas}
 use Rattle.model.specs.State.{Lent, State}
 use Rattle.model.specs.Machine.{started}
@@ -92,7 +92,7 @@ pub record Attends (file : List ℕ) (s : State) (lent : Lent) (z : Held) (l : T
   pub stops : (l .reader .ended ≡ true) ⊎ (l .reader .turns ≡ 0)
   pub lines : l .reader .ended ≡ true → linesOf (served .input) ≡ linesIn (served .turns)
   pub texts : l .reader .ended ≡ true
-      → textsIn (served .turns) ≡ machineTexts (linesOf (served .input)) (mapOn file) (started (mapOn file))
+      → textsIn (served .turns) ≡ machineTexts (linesOf (served .input)) (cardMap file) (started (mapOn file))
   pub printed : Conversed file (served .turns)
 
 abbrev pub Runs : (file : List ℕ) → Opening → (lent : Lent) → Held → Talk → Type 0

@@ -15,16 +15,14 @@ use Rattle.graph.specs.Total.{Tested, Total, decide, none-some, some-some, true
 use Rattle.graph.specs.Map.{Map, pairsOf}
 use Rattle.model.specs.Types.{Accepted, Answer, Answered, AreaLengths, Header, Kinds, Place, Refusal, Refused, Road, Room, Short, Sizes}
 use Rattle.model.specs.Types.{Starts}
-use Rattle.model.specs.Layout as layout
-use Rattle.model.specs.Layout.{entryAt, placeSize, roadSize, section, sections, tableSize}
-use Rattle.model.specs.Card.{andThen, ask, askEach, cardRefusal, failingPlace, failingRoad, kindsOk, mapOn, rowsOf, rowsRefusal, sizesOk}
-use Rattle.model.specs.Card.{startsOk}
+use Rattle.model.specs.Layout.{accessFits, countSize, orderIn, roadSize, roadsIn, roadsKind, sections, sectionsFrom, tableSize}
+use Rattle.model.specs.Card.{andThen, ask, askEach, cardRefusal, countOk, failingPlace, failingRoad, kindsOk, mapOn, rowsOf, rowsRefusal}
+use Rattle.model.specs.Card.{sizesOk, startsOk}
 use Rattle.model.specs.Accept.{card-facts}
 use Rattle.model.specs.Areas.{Areas, Each, lengths, lengthsFit, recordSize, zeroed}
 use Rattle.model.specs.State.{State, Step, answering, areasRefusal, fresh, noneLent, prepare, roomRefusal, unless, unprepared}
 use Rattle.model.specs.Contracts.{after}
 use Rattle.model.specs.Good.{LengthFacts, facts-lengths, lengths-facts}
-use Rattle.card_layout.specs.Sections.{entryOf}
 use Rattle.line_texts.specs.Areas.{Written}
 use Rattle.line_console.specs.Texts.{unreadableText}
 use Rattle.program_shell.specs.Limits.{fileLimit, junctionLimit, outRoom, pairWords, roadLimit}
@@ -49,14 +47,17 @@ card-low : (card : List ℕ) (p : Refusal) → cardRefusal card ≡ some p → p
 unfolding cardRefusal rowsRefusal
 card-low card p =
     let r = rowsOf card in
-    let first = section card 0 in
-    let second = section card 1 in
-    ask-low (leb tableSize (length card)) Short _ p (omega arith)
-    (ask-low (kindsOk (sections card) first second) Kinds _ p (omega arith)
-    (ask-low (startsOk first second (length card)) Starts _ p (omega arith)
-    (ask-low (sizesOk (first .size) (second .size)) Sizes _ p (omega arith)
+    let count = sections card in
+    let entries = sectionsFrom card 0 count in
+    ask-low (leb countSize (length card)) Short _ p (omega arith)
+    (ask-low (countOk count) Kinds _ p (omega arith)
+    (ask-low (leb (tableSize count) (length card)) Short _ p (omega arith)
+    (ask-low (kindsOk roadsKind entries) Kinds _ p (omega arith)
+    (ask-low (startsOk (tableSize count) entries (length card)) Starts _ p (omega arith)
+    (ask-low (accessFits card (length (roadsIn card) / roadSize)) Sizes _ p (omega arith)
+    (ask-low (sizesOk (length (roadsIn card)) (length (orderIn card))) Sizes _ p (omega arith)
     (each-low (failingRoad r) Road _ p (λ i. omega arith)
-    (each-low (failingPlace r) Place _ p (λ i. omega arith) (λ e. absurd (none-some refl e)))))))
+    (each-low (failingPlace r) Place _ p (λ i. omega arith) (λ e. absurd (none-some refl e))))))))))
 
 room-low : (M : Map) (a : Areas) (p : Refusal) → roomRefusal M a ≡ some p → p .question ≢ 7
 unfolding roomRefusal
@@ -132,18 +133,11 @@ prepared-way file a {b = b} e f = f b ∙ ap (λ (u : Step). unlessOver (length 
 
 -- ---- the areas of a card that reading accepts
 
--- its table is whole
-entry-is : (file : List ℕ) (i : ℕ) → entryAt (i + 1) ≤ length file → entryOf file i ≡ section file i
-unfolding entryOf
-entry-is file i h = rw (le-leb (entryAt (i + 1)) (length file) h)
-
 module _ (file : List ℕ) (reads : cardRefusal file ≡ none) where
   pub rooms : (junctionRoom file ≡ min (mapOn file .vertices) junctionLimit) × (roadRoom file ≡ min (mapOn file .base .arcs) roadLimit)
   rooms =
       let f = card-facts file reads in
-      let first = ap (λ (s : layout.Section). s .size) (entry-is file 0 (omega (arith, f .size))) ∙ f .roads-size in
-      let second = ap (λ (s : layout.Section). s .size) (entry-is file 1 (omega (arith, f .size))) ∙ f .order-size in
-      (omega (arith, second), omega (arith, first))
+      (omega (arith, f .order-length), omega (arith, f .roads-length))
 
 module _ (file : List ℕ) (a : Areas) (lends : Lends file a) where
   abbrev M : Map
@@ -153,7 +147,7 @@ module _ (file : List ℕ) (a : Areas) (lends : Lends file a) where
   fits l = lengthsFit (M .vertices) (M .base .arcs) 0 l
 
   after-room : (y : Option Refusal) → roomRefusal M a ≡ y
-      → judgedStep (unless y (unprepared (zeroed a)) noneLent (answering Accepted (fresh M a) noneLent)) ≡ onRoom y (fresh M a)
+      → judgedStep (unless y (unprepared (zeroed a)) noneLent (answering Accepted (fresh file a) noneLent)) ≡ onRoom y (fresh file a)
   after-room none e = refl
   after-room (some q) e = ap Ends (line-plain q (room-low M a q e))
 
@@ -196,8 +190,8 @@ module _ (file : List ℕ) (a : Areas) (lends : Lends file a) where
   -- questions 7 and 8, where 1 to 6 pass
   after-card : cardRefusal file ≡ none → Tested (ltb junctionLimit (M .vertices)) → Tested (ltb roadLimit (M .base .arcs))
       → judgedStep (unless (ask (fits (lengths a)) AreaLengths none) (unprepared a) noneLent
-      (unless (roomRefusal M a) (unprepared (zeroed a)) noneLent (answering Accepted (fresh M a) noneLent)))
-      ≡ cond (larger M) (Ends unreadableText) (onRoom (roomRefusal M a) (fresh M a))
+      (unless (roomRefusal M a) (unprepared (zeroed a)) noneLent (answering Accepted (fresh file a) noneLent)))
+      ≡ cond (larger M) (Ends unreadableText) (onRoom (roomRefusal M a) (fresh file a))
   after-card e (inl p) t = rw (not-lent (inl (ltb-true junctionLimit (M .vertices) p)) e, p) (ap Ends (line-seven AreaLengths refl))
   after-card e (inr p) (inl q) = rw (not-lent (inr (ltb-true roadLimit (M .base .arcs) q)) e, p, q) (ap Ends (line-seven AreaLengths refl))
   after-card e (inr p) (inr q) =
@@ -206,8 +200,8 @@ module _ (file : List ℕ) (a : Areas) (lends : Lends file a) where
 
   after-questions : (x : Option Refusal) → cardRefusal file ≡ x
       → judgedStep (unless (andThen x (ask (fits (lengths a)) AreaLengths none)) (unprepared a) noneLent
-      (unless (roomRefusal M a) (unprepared (zeroed a)) noneLent (answering Accepted (fresh M a) noneLent)))
-      ≡ onCard x M a
+      (unless (roomRefusal M a) (unprepared (zeroed a)) noneLent (answering Accepted (fresh file a) noneLent)))
+      ≡ onCard x file a
   after-questions none e = after-card e (decide (ltb junctionLimit (M .vertices))) (decide (ltb roadLimit (M .base .arcs)))
   after-questions (some q) e = ap Ends (line-plain q (λ h. omega (arith, card-low file q e, h)))
 

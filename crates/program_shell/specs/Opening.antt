@@ -10,12 +10,11 @@ use lib.Dec.{eqb, ltb}
 use lib.ListN.{length, take}
 use Rattle.graph.specs.Map.{Map}
 use Rattle.model.specs.Types as model
-use Rattle.model.specs.Layout.{Section, placeSize, roadSize}
+use Rattle.model.specs.Layout.{orderIn, placeSize, roadSize, roadsIn}
 use Rattle.model.specs.Card.{cardRefusal, mapOn}
 use Rattle.model.specs.Areas.{Areas, Each, areasOf, lengths}
 use Rattle.model.specs.State.{State, fresh, prepare, roomRefusal}
 use Rattle.model.specs.Contracts.{before}
-use Rattle.card_layout.specs.Sections.{entryOf}
 use Rattle.unit.specs.Shape.{headerIn}
 use Rattle.line_console.specs.Texts.{answerText, unreadableText}
 use Rattle.program_shell.specs.Limits.{fileLimit, junctionLimit, pairWords, roadLimit}
@@ -39,30 +38,30 @@ onRoom none s = Opens s
 onRoom (some q) s = Ends (noLine q)
 
 -- "otherwise a card refused by 1 to 6, a missing file being an empty card, prints its line; otherwise a larger map prints `no 0`"
-abbrev pub onCard : Option model.Refusal → Map → Areas → Opening
-onCard (some q) M a = Ends (noLine q)
-onCard none M a = cond (larger M) (Ends unreadableText) (onRoom (roomRefusal M a) (fresh M a))
+abbrev pub onCard : Option model.Refusal → (file : List ℕ) → Areas → Opening
+onCard (some q) file a = Ends (noLine q)
+onCard none file a = let M = mapOn file in cond (larger M) (Ends unreadableText) (onRoom (roomRefusal M a) (fresh file a))
 
 -- "A file over 32,768 bytes prints `no 0`"
 abbrev pub unlessOver : (bytes : ℕ) → Opening → Opening
 unlessOver bytes o = cond (ltb fileLimit bytes) (Ends unreadableText) o
 
 unfoldable pub opening : (file : List ℕ) → Areas → Opening
-opening file a = unlessOver (length file) (onCard (cardRefusal file) (mapOn file) a)
+opening file a = unlessOver (length file) (onCard (cardRefusal file) file a)
 
 -- ---- the areas that are lent
 
--- as many records of a size as the body of an entry has room for, but at most so many
-abbrev pub roomIn : Section → (size most : ℕ) → ℕ
-roomIn s size most = min (s .size / size) most
+-- as many records of a size as a body of so many bytes has, but at most so many
+abbrev pub roomIn : (bytes size most : ℕ) → ℕ
+roomIn bytes size most = min (bytes / size) most
 
--- by the table of contents alone, and none where that ends before the entry does; on a card that reading accepts, these are its numbers of
+-- by the bodies that the table of contents names, whatever else the card is; on one that reading accepts, these are its numbers of
 -- junctions and roads, to 200 and 800 (law: `Cards.rooms`)
 abbrev pub junctionRoom : (file : List ℕ) → ℕ
-junctionRoom file = roomIn (entryOf file 1) placeSize junctionLimit
+junctionRoom file = roomIn (length (orderIn file)) placeSize junctionLimit
 
 abbrev pub roadRoom : (file : List ℕ) → ℕ
-roadRoom file = roomIn (entryOf file 0) roadSize roadLimit
+roadRoom file = roomIn (length (roadsIn file)) roadSize roadLimit
 
 -- the lengths of areas for n junctions and m roads, with room for so many words of pairs
 abbrev pub lengthsFor : (n pairs m : ℕ) → Each ℕ

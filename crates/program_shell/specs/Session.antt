@@ -9,9 +9,10 @@ use lib.ListN.{drop, getD, length, take}
 use lib.Seq.{take-length}
 use Rattle.graph.specs.Total.{Total}
 use Rattle.graph.specs.Search.{Problem, countOf, routeOf}
-use Rattle.graph.specs.Map.{Map, timeOf}
+use Rattle.graph.specs.Map.{timeOf}
 use Rattle.model.specs.Types.{Accepted, Answer, Leg, Refusal}
-use Rattle.model.specs.Card.{mapOn}
+use Rattle.model.specs.Classes.{classLive}
+use Rattle.model.specs.Card.{CardMap, cardMap, mapOn}
 use Rattle.model.specs.Areas.{Areas}
 use Rattle.model.specs.State.{Lent, State, Step, answering, prepare}
 use Rattle.model.specs.Machine.{Machine, Told, knownTo, started, targetOf, unlessAsked}
@@ -57,16 +58,16 @@ abbrev pub fed : Asked → (route log : ℕ) → Plain
 fed c r l = record { asked = c; route = r; log = l }
 
 -- the line that the plain machine's answer prints; an unreadable one prints `no 0` and changes nothing
-abbrev pub toldOn : Line → Map → Machine → (Machine → List (List ℕ)) → List (List ℕ)
-toldOn Unreadable M m rest = unreadableText ∷ rest m
-toldOn (Call c) M m rest =
-    let t = machineStep M m (fed (callIn c) junctionLimit junctionLimit) in
+abbrev pub toldOn : Line → CardMap → Machine → (Machine → List (List ℕ)) → List (List ℕ)
+toldOn Unreadable C m rest = unreadableText ∷ rest m
+toldOn (Call c) C m rest =
+    let t = machineStep C m (fed (callIn c) junctionLimit junctionLimit) in
     answerText (t .answer) (t .roads) ∷ rest (t .next)
 
 -- what the plain machine's answers to lines print, one after the other
-abbrev pub machineTexts : (lines : List (List ℕ)) → Map → Machine → List (List ℕ)
-machineTexts [] M m = []
-machineTexts (l ∷ lines) M m = toldOn (lineOf l) M m (machineTexts lines M)
+abbrev pub machineTexts : (lines : List (List ℕ)) → CardMap → Machine → List (List ℕ)
+machineTexts [] C m = []
+machineTexts (l ∷ lines) C m = toldOn (lineOf l) C m (machineTexts lines C)
 
 abbrev pub linesIn : List Turn → List (List ℕ)
 linesIn turns = map (λ (t : Turn). t .line) turns
@@ -77,8 +78,8 @@ textsIn turns = map (λ (t : Turn). t .left .text) turns
 -- what the calls answered and left, with demand 3; and what was printed
 pub record Conversed (card : List ℕ) (turns : List Turn) : Type 0 where
   pub results : List Step
-  pub demand : Demand3 (mapOn card) (started (mapOn card)) (callsOf turns) results
-  pub printed : textsIn turns ≡ machineTexts (linesIn turns) (mapOn card) (started (mapOn card))
+  pub demand : Demand3 (cardMap card) (started (mapOn card)) (callsOf turns) results
+  pub printed : textsIn turns ≡ machineTexts (linesIn turns) (cardMap card) (started (mapOn card))
 
 -- ---- the calls, one after the other
 
@@ -134,37 +135,39 @@ stops-text true legs route roads = refl
 stops-text false legs route roads = refl
 
 -- the machine's roads stand first in go's route area, so the same line is printed from it
-machine-text : (M : Map) (m : Machine) (c : Asked) (r l : ℕ) (route : List ℕ) → let t = machineStep M m (fed c r l) in
+machine-text : (C : CardMap) (m : Machine) (c : Asked) (r l : ℕ) (route : List ℕ) → let t = machineStep C m (fed c r l) in
     take (length (t .roads)) route ≡ t .roads → answerText (t .answer) route ≡ answerText (t .answer) (t .roads)
-machine-text M m (Set i t) r l route h = unless-text (refusalOf (knownTo M m) (Set i t) r l) m _ route refl
-machine-text M m (Aim j) r l route h = unless-text (refusalOf (knownTo M m) (Aim j) r l) m _ route refl
-machine-text M m (Estimate j) r l route h = unless-text (refusalOf (knownTo M m) (Estimate j) r l) m _ route refl
-machine-text M m (Go j) r l route h =
+machine-text C m (Set i t) r l route h = unless-text (refusalOf (knownTo (C .map) m) (Set i t) r l) m _ route refl
+machine-text C m (Aim j) r l route h = unless-text (refusalOf (knownTo (C .map) m) (Aim j) r l) m _ route refl
+machine-text C m (Estimate j) r l route h = unless-text (refusalOf (knownTo (C .map) m) (Estimate j) r l) m _ route refl
+machine-text C m (Go c j) r l route h =
     let z = targetOf (m .target) in
-    go-text (refusalOf (knownTo M m) (Go j) r l) (timeOf M (m .live) j z) (plainSearch M (m .live) j z) m route h
-machine-text M m (Preview i t j w) r l route h = unless-text (refusalOf (knownTo M m) (Preview i t j w) r l) m _ route refl
-machine-text M m (Stops stops) r l route h =
-    let j = plainJourney M m [] (getD stops 0 0) (drop 1 stops) in
-    unless-text (refusalOf (knownTo M m) (Stops stops) r l) m _ route (stops-text (j .complete) (j .legs) route (j .roads))
+    let live = classLive (C .access) c (m .live) in
+    go-text (refusalOf (knownTo (C .map) m) (Go c j) r l) (timeOf (C .map) live j z) (plainSearch (C .map) live j z) m route h
+machine-text C m (Preview c i t j w) r l route h =
+    unless-text (refusalOf (knownTo (C .map) m) (Preview c i t j w) r l) m _ route refl
+machine-text C m (Stops c stops) r l route h =
+    let j = plainJourney C c m [] (getD stops 0 0) (drop 1 stops) in
+    unless-text (refusalOf (knownTo (C .map) m) (Stops c stops) r l) m _ route (stops-text (j .complete) (j .legs) route (j .roads))
 
-texts : (M : Map) (turns : List Turn) (m : Machine) (r : List Step) → Demand3 M m (callsOf turns) r → Prints turns r
-    → textsIn turns ≡ machineTexts (linesIn turns) M m
-texts M [] m [] d p = refl
-texts M [] m (u ∷ r) d p = absurd p
-texts M (t ∷ l) m r d p = on (lineOf (t .line)) r d p (λ n q e f. texts M l n q e f)
+texts : (C : CardMap) (turns : List Turn) (m : Machine) (r : List Step) → Demand3 C m (callsOf turns) r → Prints turns r
+    → textsIn turns ≡ machineTexts (linesIn turns) C m
+texts C [] m [] d p = refl
+texts C [] m (u ∷ r) d p = absurd p
+texts C (t ∷ l) m r d p = on (lineOf (t .line)) r d p (λ n q e f. texts C l n q e f)
   where
-    on : (x : Line) (r : List Step) → Demand3 M m (callOn x (t .lent) (callsOf l)) r → PrintsOn x t (Prints l) r
-        → ((n : Machine) (q : List Step) → Demand3 M n (callsOf l) q → Prints l q → textsIn l ≡ machineTexts (linesIn l) M n)
-        → textsIn (t ∷ l) ≡ toldOn x M m (machineTexts (linesIn l) M)
+    on : (x : Line) (r : List Step) → Demand3 C m (callOn x (t .lent) (callsOf l)) r → PrintsOn x t (Prints l) r
+        → ((n : Machine) (q : List Step) → Demand3 C n (callsOf l) q → Prints l q → textsIn l ≡ machineTexts (linesIn l) C n)
+        → textsIn (t ∷ l) ≡ toldOn x C m (machineTexts (linesIn l) C)
     on Unreadable r d p more = ap₂ _∷_ (p .0) (more m r d (p .1))
     on (Call c) [] d p more = absurd p
     on (Call c) (u ∷ r) d p more =
         let route = u .lent .route in
         let says = ap (λ (a : Answer). answerText a route) (d .0 .same .answer) in
-        let same = machine-text M m (callIn c) (length (t .lent .route)) (length (t .lent .log)) route (d .0 .same .roads) in
-        ap₂ _∷_ (p .0 ∙ says ∙ same) (more (machineStep M m (plain (calling (callIn c) (t .lent))) .next) r (d .1) (p .1))
-        ∙ ap₂ (λ (a : ℕ) (b : ℕ). let k = machineStep M m (fed (callIn c) a b) in
-        answerText (k .answer) (k .roads) ∷ machineTexts (linesIn l) M (k .next)) (p .2 .0) (p .2 .1)
+        let same = machine-text C m (callIn c) (length (t .lent .route)) (length (t .lent .log)) route (d .0 .same .roads) in
+        ap₂ _∷_ (p .0 ∙ says ∙ same) (more (machineStep C m (plain (calling (callIn c) (t .lent))) .next) r (d .1) (p .1))
+        ∙ ap₂ (λ (a : ℕ) (b : ℕ). let k = machineStep C m (fed (callIn c) a b) in
+        answerText (k .answer) (k .roads) ∷ machineTexts (linesIn l) C (k .next)) (p .2 .0) (p .2 .1)
 
 -- ---- the theorem
 
@@ -173,4 +176,4 @@ pub session-right : (card : List ℕ) (a : Areas) (turns : List Turn) → prepar
 session-right card a turns e w =
     let c = chained card turns (prepare card a .state) w in
     let d = chain-demand3 card a e (callsOf turns) (c .0) (c .1) in
-    record { results = c .0; demand = d; printed = texts (mapOn card) turns (started (mapOn card)) (c .0) d (c .2) }
+    record { results = c .0; demand = d; printed = texts (cardMap card) turns (started (mapOn card)) (c .0) d (c .2) }

@@ -8,7 +8,6 @@ ghost use Rattle.model.specs.Areas.{Areas};
 ghost use Rattle.network.specs.Refusals.{refusalIn};
 ghost use Rattle.network.specs.Lending.{areas};
 ghost use Rattle.unit_questions.specs.Lending.{lent};
-ghost use Rattle.card_layout.specs.Sections.{sectionIn};
 ghost use Rattle.unit_answers.specs.Shape.{answerIn};
 ghost use Rattle.unit.specs.Shape.{headerIn};
 ghost use Rattle.line_console.specs.Lines.{lineOf};
@@ -17,7 +16,6 @@ ghost use Rattle.line_input.specs.Holds.{Holds};
 ghost use Rattle.program_shell.specs.Limits.{outRoom};
 ghost use Rattle.program_shell.specs.Opening.{OpensCard, judged, junctionRoom, openedIn, refusalLine, roadRoom, roomIn, unlessOver};
 ghost use Rattle.program_shell.specs.Answering.{AnswersLine};
-use card_layout::Section;
 use line_console::Line;
 use line_input::Part;
 use network::Refusal;
@@ -60,12 +58,12 @@ pub struct Opened {
     pub prepared: bool,
 }
 
-// As many records of a size as the body of an entry has room for, but at most so many.
-fn records_in(s: Section, size: usize, most: usize) -> usize
+// As many records of a size as a body of so many bytes has, but at most so many.
+fn records_in(bytes: usize, size: usize, most: usize) -> usize
     requires { ⌜ 0 < size ⌝ }
-    ensures { λ r. ⌜ r ≡ roomIn (sectionIn s) size most ⌝ }
+    ensures { λ r. ⌜ r ≡ roomIn bytes size most ⌝ }
 {
-    let k = (s.size as usize) / size;
+    let k = bytes / size;
     if k < most { k } else { most }
 }
 
@@ -73,11 +71,11 @@ fn records_in(s: Section, size: usize, most: usize) -> usize
 pub fn room_for(file: &[u8]) -> Room
     ensures { λ r. ⌜ (r .n ≡ junctionRoom (now (file .entry))) × (r .m ≡ roadRoom (now (file .entry))) ⌝ }
 {
-    let order = card_layout::section_at(file, 1);
-    let roads = card_layout::section_at(file, 0);
+    let order = card_layout::order_of(file);
+    let roads = card_layout::roads_of(file);
     Room {
-        n: records_in(order, card_layout::PLACE_SIZE, JUNCTIONS),
-        m: records_in(roads, card_layout::ROAD_SIZE, ROADS),
+        n: records_in(order.len(), card_layout::PLACE_SIZE, JUNCTIONS),
+        m: records_in(roads.len(), card_layout::ROAD_SIZE, ROADS),
     }
 }
 

@@ -22,12 +22,13 @@ use Rattle.road_groups.specs.Lending.{GroupsMade}
 use Rattle.search_queue.specs.Order.{blankWord}
 use Rattle.search_labels.specs.Labelling.{labelsIn}
 use Rattle.search_labels.specs.Ways.{arcsBack, wayOf}
+use Rattle.search_junctions.specs.declared.Trip.{Trip}
 use Rattle.search_junctions.specs.declared.View.{View}
-use Rattle.search_junctions.specs.Views.{seen, seen-length}
+use Rattle.search_junctions.specs.Views.{met, met-length}
 use Rattle.search_junctions.specs.State.{Given, Ready, goGiven, mapGiven}
 use Rattle.search_junctions.specs.Facts.{codes}
 use Rattle.search_run.specs.Runs.{Advanced, Advances, BlankRoom, Within, Written, backIn}
-use Rattle.search.specs.Searches.{AsLeft, FindsBoth, FindsTotal, Searches, atTimes}
+use Rattle.search.specs.Searches.{AsLeft, FindsBoth, FindsTotal, Searches, atTimes, seenBy}
 use Rattle.search.proofs.Answers.{answer-found, answer-lost, answer-total, routed}
 
 -- a room that is made for k junctions is blank, and large enough for n of them
@@ -130,8 +131,8 @@ module _ {g : Given} {leaving groups : List ℕ} {s z e t : ℕ} (within : Withi
   }
 
 -- two views of the same times have as many
-pub views-long : (v v′ : View) (live : List ℕ) → length (seen v′ live) ≡ length (seen v live)
-views-long v v′ live = seen-length v′ live ∙ sym (seen-length v live)
+pub views-long : (t : Trip) (v : View) (access live : List ℕ) → length (met (seenBy t v) access live) ≡ length (met t access live)
+views-long t v access live = met-length (seenBy t v) access live ∙ sym (met-length t access live)
 
 or-turned : (a b : Bool) → b || a ≡ a || b
 or-turned true true = refl

@@ -18,6 +18,8 @@ use Rattle.model.specs.Preview.{eitherAsks, workSize}
 use Rattle.model.specs.Good.{AimFacts}
 use Rattle.network.specs.Bodies.{Prepared}
 use Rattle.road_groups.specs.Lending.{GroupsMade}
+use Rattle.search_junctions.specs.declared.Trip.{Trip}
+use Rattle.search_junctions.specs.declared.View.{View}
 use Rattle.search_junctions.specs.State.{Given, givenOf, goGiven, mapGiven}
 use Rattle.search_run.specs.Runs.{BlankRoom, Lends, Within, Written}
 
@@ -71,6 +73,10 @@ pub record Searches (g : Given) (leaving groups : List ℕ) (s z : ℕ) (l l′ 
   pub exact : AsLeft g leaving groups z (l .estimates) → Found g s z l l′ total count number
 
 -- ---- the two searches of a preview
+
+-- the same trip by another view
+abbrev pub seenBy : Trip → View → Trip
+seenBy t v = record { sizes = t .sizes; start = t .start; target = t .target; class = t .class; view = v }
 
 -- the same at other times
 abbrev pub atTimes : Given → (live : List ℕ) → Given

@@ -2,10 +2,10 @@
 // preview (document 02, A2): the total alone, twice.
 ghost use Prim.Native.Nat.{_≤_};
 ghost use lib.ListN.{length};
-ghost use Rattle.search_junctions.specs.Views.{seen};
-ghost use Rattle.search_junctions.specs.State.{given};
+ghost use Rattle.search_junctions.specs.Views.{met};
+ghost use Rattle.search_junctions.specs.State.{given, givenTo};
 ghost use Rattle.search_run.specs.Runs.{BlankRoom, Lends, Within, written};
-ghost use Rattle.search.specs.Searches.{FindsBoth, FindsTotal, LendsBoth, LendsIn, Searches};
+ghost use Rattle.search.specs.Searches.{FindsBoth, FindsTotal, LendsBoth, LendsIn, Searches, seenBy};
 use network::MOST_JUNCTIONS;
 use network::Time;
 use network::TimeWord;
@@ -41,6 +41,7 @@ fn search_in(
     order: &[u8],
     ranks: &[u32],
     pairs: &[u32],
+    access: &[u8],
     live: &[TimeWord],
     down: &[TimeWord],
     leaving: &[u32],
@@ -51,11 +52,10 @@ fn search_in(
     log: &mut [u32],
     room: &mut [u64],
 ) -> Searched
-    requires { ⌜ LendsIn (given trip roads order ranks pairs live down) (now leaving) (now groups) (trip .start .0) (trip .target .0)
+    requires { ⌜ LendsIn (given trip roads order ranks pairs access live down) (now leaving) (now groups) (trip .start .0) (trip .target .0)
         (written estimates elapsed route log) (now room) ⌝ }
-    ensures { λ r. ⌜ Searches (given trip (roads .entry) (order .entry) (ranks .entry) (pairs .entry) (live .entry)
-        (down .entry)) (now (leaving .entry)) (now (groups .entry)) (trip .start .0) (trip .target .0)
-        (written (estimates .entry) (elapsed .entry) (route .entry) (log .entry))
+    ensures { λ r. ⌜ Searches (givenTo trip roads order ranks pairs access live down) (now (leaving .entry)) (now (groups .entry))
+        (trip .start .0) (trip .target .0) (written (estimates .entry) (elapsed .entry) (route .entry) (log .entry))
         (written (estimates .exit) (elapsed .exit) (route .exit) (log .exit)) (r .total .0) (r .count) (r .roads) ⌝ }
 {
     let sizes = trip.sizes;
@@ -69,6 +69,7 @@ fn search_in(
         order,
         ranks,
         pairs,
+        access,
         live,
         down,
         leaving,
@@ -102,6 +103,7 @@ fn search_small(
     order: &[u8],
     ranks: &[u32],
     pairs: &[u32],
+    access: &[u8],
     live: &[TimeWord],
     down: &[TimeWord],
     leaving: &[u32],
@@ -111,11 +113,10 @@ fn search_small(
     route: &mut [u32],
     log: &mut [u32],
 ) -> Searched
-    requires { ⌜ Lends (given trip roads order ranks pairs live down) (now leaving) (now groups) (trip .start .0) (trip .target .0)
+    requires { ⌜ Lends (given trip roads order ranks pairs access live down) (now leaving) (now groups) (trip .start .0) (trip .target .0)
         (written estimates elapsed route log) × (trip .sizes .n ≤ 1024) ⌝ }
-    ensures { λ r. ⌜ Searches (given trip (roads .entry) (order .entry) (ranks .entry) (pairs .entry) (live .entry)
-        (down .entry)) (now (leaving .entry)) (now (groups .entry)) (trip .start .0) (trip .target .0)
-        (written (estimates .entry) (elapsed .entry) (route .entry) (log .entry))
+    ensures { λ r. ⌜ Searches (givenTo trip roads order ranks pairs access live down) (now (leaving .entry)) (now (groups .entry))
+        (trip .start .0) (trip .target .0) (written (estimates .entry) (elapsed .entry) (route .entry) (log .entry))
         (written (estimates .exit) (elapsed .exit) (route .exit) (log .exit)) (r .total .0) (r .count) (r .roads) ⌝ }
 {
     let n = trip.sizes.n as usize;
@@ -127,6 +128,7 @@ fn search_small(
             order,
             ranks,
             pairs,
+            access,
             live,
             down,
             leaving,
@@ -145,6 +147,7 @@ fn search_small(
         order,
         ranks,
         pairs,
+        access,
         live,
         down,
         leaving,
@@ -164,6 +167,7 @@ fn search_large(
     order: &[u8],
     ranks: &[u32],
     pairs: &[u32],
+    access: &[u8],
     live: &[TimeWord],
     down: &[TimeWord],
     leaving: &[u32],
@@ -173,11 +177,10 @@ fn search_large(
     route: &mut [u32],
     log: &mut [u32],
 ) -> Searched
-    requires { ⌜ Lends (given trip roads order ranks pairs live down) (now leaving) (now groups) (trip .start .0) (trip .target .0)
+    requires { ⌜ Lends (given trip roads order ranks pairs access live down) (now leaving) (now groups) (trip .start .0) (trip .target .0)
         (written estimates elapsed route log) ⌝ }
-    ensures { λ r. ⌜ Searches (given trip (roads .entry) (order .entry) (ranks .entry) (pairs .entry) (live .entry)
-        (down .entry)) (now (leaving .entry)) (now (groups .entry)) (trip .start .0) (trip .target .0)
-        (written (estimates .entry) (elapsed .entry) (route .entry) (log .entry))
+    ensures { λ r. ⌜ Searches (givenTo trip roads order ranks pairs access live down) (now (leaving .entry)) (now (groups .entry))
+        (trip .start .0) (trip .target .0) (written (estimates .entry) (elapsed .entry) (route .entry) (log .entry))
         (written (estimates .exit) (elapsed .exit) (route .exit) (log .exit)) (r .total .0) (r .count) (r .roads) ⌝ }
 {
     let n = trip.sizes.n as usize;
@@ -189,6 +192,7 @@ fn search_large(
             order,
             ranks,
             pairs,
+            access,
             live,
             down,
             leaving,
@@ -207,6 +211,7 @@ fn search_large(
         order,
         ranks,
         pairs,
+        access,
         live,
         down,
         leaving,
@@ -226,6 +231,7 @@ pub fn search(
     order: &[u8],
     ranks: &[u32],
     pairs: &[u32],
+    access: &[u8],
     live: &[TimeWord],
     down: &[TimeWord],
     leaving: &[u32],
@@ -235,11 +241,10 @@ pub fn search(
     route: &mut [u32],
     log: &mut [u32],
 ) -> Searched
-    requires { ⌜ Lends (given trip roads order ranks pairs live down) (now leaving) (now groups) (trip .start .0) (trip .target .0)
+    requires { ⌜ Lends (given trip roads order ranks pairs access live down) (now leaving) (now groups) (trip .start .0) (trip .target .0)
         (written estimates elapsed route log) ⌝ }
-    ensures { λ r. ⌜ Searches (given trip (roads .entry) (order .entry) (ranks .entry) (pairs .entry) (live .entry)
-        (down .entry)) (now (leaving .entry)) (now (groups .entry)) (trip .start .0) (trip .target .0)
-        (written (estimates .entry) (elapsed .entry) (route .entry) (log .entry))
+    ensures { λ r. ⌜ Searches (givenTo trip roads order ranks pairs access live down) (now (leaving .entry)) (now (groups .entry))
+        (trip .start .0) (trip .target .0) (written (estimates .entry) (elapsed .entry) (route .entry) (log .entry))
         (written (estimates .exit) (elapsed .exit) (route .exit) (log .exit)) (r .total .0) (r .count) (r .roads) ⌝ }
 {
     if trip.sizes.n as usize <= MIDDLE {
@@ -249,6 +254,7 @@ pub fn search(
             order,
             ranks,
             pairs,
+            access,
             live,
             down,
             leaving,
@@ -265,6 +271,7 @@ pub fn search(
         order,
         ranks,
         pairs,
+        access,
         live,
         down,
         leaving,
@@ -285,6 +292,7 @@ fn total_in(
     order: &[u8],
     ranks: &[u32],
     pairs: &[u32],
+    access: &[u8],
     live: &[TimeWord],
     down: &[TimeWord],
     leaving: &[u32],
@@ -294,12 +302,11 @@ fn total_in(
     log: &mut [u32],
     room: &mut [u64],
 ) -> Time
-    requires { ⌜ Within (given trip roads order ranks pairs live down) (now leaving) (now groups) (trip .start .0) (trip .target .0)
+    requires { ⌜ Within (given trip roads order ranks pairs access live down) (now leaving) (now groups) (trip .start .0) (trip .target .0)
         (length (now estimates)) (length (now elapsed))
         × (trip .sizes .n ≤ length (now log)) × BlankRoom (trip .sizes .n) (now room) ⌝ }
-    ensures { λ r. ⌜ FindsTotal (given trip (roads .entry) (order .entry) (ranks .entry) (pairs .entry) (live .entry) (down .entry))
-        (now (leaving .entry)) (now (groups .entry)) (trip .start .0) (trip .target .0)
-        (now (estimates .entry)) (now (estimates .exit)) (r .0) ⌝ }
+    ensures { λ r. ⌜ FindsTotal (givenTo trip roads order ranks pairs access live down) (now (leaving .entry)) (now (groups .entry))
+        (trip .start .0) (trip .target .0) (now (estimates .entry)) (now (estimates .exit)) (r .0) ⌝ }
 {
     let target = trip.target;
     // no junction is logged twice
@@ -311,6 +318,7 @@ fn total_in(
         order,
         ranks,
         pairs,
+        access,
         live,
         down,
         leaving,
@@ -330,6 +338,7 @@ fn total_small(
     order: &[u8],
     ranks: &[u32],
     pairs: &[u32],
+    access: &[u8],
     live: &[TimeWord],
     down: &[TimeWord],
     leaving: &[u32],
@@ -337,11 +346,10 @@ fn total_small(
     estimates: &mut [TimeWord],
     elapsed: &mut [TimeWord],
 ) -> Time
-    requires { ⌜ Within (given trip roads order ranks pairs live down) (now leaving) (now groups) (trip .start .0) (trip .target .0)
+    requires { ⌜ Within (given trip roads order ranks pairs access live down) (now leaving) (now groups) (trip .start .0) (trip .target .0)
         (length (now estimates)) (length (now elapsed)) × (trip .sizes .n ≤ 1024) ⌝ }
-    ensures { λ r. ⌜ FindsTotal (given trip (roads .entry) (order .entry) (ranks .entry) (pairs .entry) (live .entry) (down .entry))
-        (now (leaving .entry)) (now (groups .entry)) (trip .start .0) (trip .target .0)
-        (now (estimates .entry)) (now (estimates .exit)) (r .0) ⌝ }
+    ensures { λ r. ⌜ FindsTotal (givenTo trip roads order ranks pairs access live down) (now (leaving .entry)) (now (groups .entry))
+        (trip .start .0) (trip .target .0) (now (estimates .entry)) (now (estimates .exit)) (r .0) ⌝ }
 {
     let n = trip.sizes.n as usize;
     if n <= SMALL {
@@ -353,6 +361,7 @@ fn total_small(
             order,
             ranks,
             pairs,
+            access,
             live,
             down,
             leaving,
@@ -371,6 +380,7 @@ fn total_small(
         order,
         ranks,
         pairs,
+        access,
         live,
         down,
         leaving,
@@ -389,6 +399,7 @@ fn total_large(
     order: &[u8],
     ranks: &[u32],
     pairs: &[u32],
+    access: &[u8],
     live: &[TimeWord],
     down: &[TimeWord],
     leaving: &[u32],
@@ -396,11 +407,10 @@ fn total_large(
     estimates: &mut [TimeWord],
     elapsed: &mut [TimeWord],
 ) -> Time
-    requires { ⌜ Within (given trip roads order ranks pairs live down) (now leaving) (now groups) (trip .start .0) (trip .target .0)
+    requires { ⌜ Within (given trip roads order ranks pairs access live down) (now leaving) (now groups) (trip .start .0) (trip .target .0)
         (length (now estimates)) (length (now elapsed)) ⌝ }
-    ensures { λ r. ⌜ FindsTotal (given trip (roads .entry) (order .entry) (ranks .entry) (pairs .entry) (live .entry) (down .entry))
-        (now (leaving .entry)) (now (groups .entry)) (trip .start .0) (trip .target .0)
-        (now (estimates .entry)) (now (estimates .exit)) (r .0) ⌝ }
+    ensures { λ r. ⌜ FindsTotal (givenTo trip roads order ranks pairs access live down) (now (leaving .entry)) (now (groups .entry))
+        (trip .start .0) (trip .target .0) (now (estimates .entry)) (now (estimates .exit)) (r .0) ⌝ }
 {
     let n = trip.sizes.n as usize;
     if n <= LARGE {
@@ -412,6 +422,7 @@ fn total_large(
             order,
             ranks,
             pairs,
+            access,
             live,
             down,
             leaving,
@@ -430,6 +441,7 @@ fn total_large(
         order,
         ranks,
         pairs,
+        access,
         live,
         down,
         leaving,
@@ -448,6 +460,7 @@ fn least_total(
     order: &[u8],
     ranks: &[u32],
     pairs: &[u32],
+    access: &[u8],
     live: &[TimeWord],
     down: &[TimeWord],
     leaving: &[u32],
@@ -455,11 +468,10 @@ fn least_total(
     estimates: &mut [TimeWord],
     elapsed: &mut [TimeWord],
 ) -> Time
-    requires { ⌜ Within (given trip roads order ranks pairs live down) (now leaving) (now groups) (trip .start .0) (trip .target .0)
+    requires { ⌜ Within (given trip roads order ranks pairs access live down) (now leaving) (now groups) (trip .start .0) (trip .target .0)
         (length (now estimates)) (length (now elapsed)) ⌝ }
-    ensures { λ r. ⌜ FindsTotal (given trip (roads .entry) (order .entry) (ranks .entry) (pairs .entry) (live .entry) (down .entry))
-        (now (leaving .entry)) (now (groups .entry)) (trip .start .0) (trip .target .0)
-        (now (estimates .entry)) (now (estimates .exit)) (r .0) ⌝ }
+    ensures { λ r. ⌜ FindsTotal (givenTo trip roads order ranks pairs access live down) (now (leaving .entry)) (now (groups .entry))
+        (trip .start .0) (trip .target .0) (now (estimates .entry)) (now (estimates .exit)) (r .0) ⌝ }
 {
     if trip.sizes.n as usize <= MIDDLE {
         return total_small(
@@ -468,6 +480,7 @@ fn least_total(
             order,
             ranks,
             pairs,
+            access,
             live,
             down,
             leaving,
@@ -482,6 +495,7 @@ fn least_total(
         order,
         ranks,
         pairs,
+        access,
         live,
         down,
         leaving,
@@ -506,6 +520,7 @@ pub fn totals(
     order: &[u8],
     ranks: &[u32],
     pairs: &[u32],
+    access: &[u8],
     live: &[TimeWord],
     down: &[TimeWord],
     leaving: &[u32],
@@ -513,11 +528,11 @@ pub fn totals(
     estimates: &mut [TimeWord],
     work: &mut [TimeWord],
 ) -> TwoTotals
-    requires { ⌜ LendsBoth (given trip roads order ranks pairs live down) (now leaving) (now groups) (trip .start .0) (trip .target .0)
-        (now estimates) (now work) ⌝ }
-    ensures { λ r. ⌜ FindsBoth (given trip (roads .entry) (order .entry) (ranks .entry) (pairs .entry) (live .entry) (down .entry))
-        (seen view (now (live .entry))) (now (leaving .entry)) (now (groups .entry)) (trip .start .0) (trip .target .0)
-        (now (estimates .entry)) (now (estimates .exit)) (r .present .0) (r .new .0) ⌝ }
+    requires { ⌜ LendsBoth (given trip roads order ranks pairs access live down) (now leaving) (now groups)
+        (trip .start .0) (trip .target .0) (now estimates) (now work) ⌝ }
+    ensures { λ r. ⌜ FindsBoth (givenTo trip roads order ranks pairs access live down)
+        (met (seenBy trip view) (now (access .entry)) (now (live .entry))) (now (leaving .entry)) (now (groups .entry))
+        (trip .start .0) (trip .target .0) (now (estimates .entry)) (now (estimates .exit)) (r .present .0) (r .new .0) ⌝ }
 {
     let sizes = trip.sizes;
     let start = trip.start;
@@ -529,6 +544,7 @@ pub fn totals(
         order,
         ranks,
         pairs,
+        access,
         live,
         down,
         leaving,
@@ -540,6 +556,7 @@ pub fn totals(
         sizes: sizes,
         start: start,
         target: target,
+        class: trip.class,
         view: view,
     };
     let new = least_total(
@@ -548,6 +565,7 @@ pub fn totals(
         order,
         ranks,
         pairs,
+        access,
         live,
         down,
         leaving,

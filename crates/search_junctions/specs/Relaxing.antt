@@ -16,7 +16,7 @@ use Rattle.network.specs.declared.Sizes.{Sizes}
 use Rattle.search_labels.specs.Labelling.{Room, labelsIn}
 use Rattle.search_labels.specs.Labelled.{Labels, Searchable}
 use Rattle.search_junctions.specs.declared.Trip.{Trip}
-use Rattle.search_junctions.specs.Views.{seen}
+use Rattle.search_junctions.specs.Views.{met}
 use Rattle.search_junctions.specs.Groups.{IsGroup}
 
 -- what is read: the roads, their times in force, and the estimates
@@ -26,8 +26,8 @@ pub record Read : Type 0 where
   pub live : List ℕ
   pub estimates : List ℕ
 
-abbrev pub readOf : Trip → (roads live estimates : RefT (List ℕ)) → Read
-readOf t a b c = record { sizes = t .sizes; roads = a .now; live = seen (t .view) (b .now); estimates = c .now }
+abbrev pub readOf : Trip → (roads access live estimates : RefT (List ℕ)) → Read
+readOf t a b c d = record { sizes = t .sizes; roads = a .now; live = met t (b .now) (c .now); estimates = d .now }
 
 -- lengths of what is read
 pub record ReadIn (r : Read) : Type 0 where

@@ -11,10 +11,11 @@ use Rattle.graph.specs.Map.{Map}
 use Rattle.model.specs.Limits.{mostJunctions, mostPairs, mostRoads}
 use Rattle.model.specs.Set.{settable}
 use Rattle.model.specs.Go.{liveOf, searchOf}
+use Rattle.network.specs.Lending.{Slice}
 use Rattle.network.specs.declared.Sizes.{Sizes}
 use Rattle.network.specs.Bodies.{Prepared, mapIn}
 use Rattle.search_junctions.specs.declared.Trip.{Trip}
-use Rattle.search_junctions.specs.Views.{seen}
+use Rattle.search_junctions.specs.Views.{met}
 
 -- ---- what is given to the search: it reads this, and alters nothing of it
 pub record Given : Type 0 where
@@ -31,8 +32,12 @@ abbrev pub givenOf : Sizes → (roads order ranks pairs live down : List ℕ) �
 givenOf n a b c d e f = record { sizes = n; roads = a; order = b; ranks = c; pairs = d; live = e; down = f }
 
 -- the same of what is lent to a function, at the times that the trip goes by
-abbrev pub given : Trip → (roads order ranks pairs live down : RefT (List ℕ)) → Given
-given t a b c d e f = givenOf (t .sizes) (a .now) (b .now) (c .now) (d .now) (seen (t .view) (e .now)) (f .now)
+abbrev pub given : Trip → (roads order ranks pairs access live down : RefT (List ℕ)) → Given
+given t a b c d e f g = givenOf (t .sizes) (a .now) (b .now) (c .now) (d .now) (met t (e .now) (f .now)) (g .now)
+
+-- the same of what it was lent, as its `ensures` names it
+abbrev pub givenTo : Trip → (roads order ranks pairs access live down : Slice) → Given
+givenTo t a b c d x e f = given t (a .entry) (b .entry) (c .entry) (d .entry) (x .entry) (e .entry) (f .entry)
 
 -- the map that the bodies hold, and document 01's search on it
 abbrev pub mapGiven : Given → Map

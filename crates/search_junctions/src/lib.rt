@@ -9,7 +9,7 @@ ghost use Rattle.model.specs.Bytes.{wordAt};
 ghost use Rattle.pairs_hierarchy.specs.Estimates.{Estimated};
 ghost use Rattle.search_labels.specs.Labelling.{Room, Taken, labelsIn};
 ghost use Rattle.search_junctions.specs.Groups.{partOf};
-ghost use Rattle.search_junctions.specs.Views.{seen};
+ghost use Rattle.search_junctions.specs.Views.{met, seen};
 ghost use Rattle.search_junctions.specs.State.{given};
 ghost use Rattle.search_junctions.specs.Asking.{Asks, AsksGroup, EstimatesIn, PairsIn};
 ghost use Rattle.search_junctions.specs.Relaxing.{ReadIn, Relaxes, RelaxesGroup, readOf};
@@ -18,6 +18,7 @@ use network::Junction;
 use network::Sizes;
 use network::Time;
 use network::TimeWord;
+use network::admits;
 use network::head_of;
 use network::tail_of;
 use pairs_hierarchy::estimate;
@@ -65,12 +66,28 @@ impl View {
     }
 }
 
-// A trip on a map of so many junctions and roads, from the start to the target.
+// A trip on a map of so many junctions and roads, from the start to the target, by a vehicle of a class (document 02, A6).
 pub struct Trip {
     pub sizes: Sizes,
     pub start: Junction,
     pub target: Junction,
+    pub class: u32,
     pub view: View,
+}
+
+impl Trip {
+    // The time of a road in force for the trip: a road that is barred to its class counts as closed.
+    fn time_of(self, access: &[u8], live: &[TimeWord], i: u32) -> Time
+        requires { ⌜ i < length (met self (now access) (now live)) ⌝ }
+        ensures { λ r. ⌜ r .0 ≡ getD (met self (now (access .entry)) (now (live .entry))) i 0 ⌝ }
+    {
+        let view = self.view;
+        if admits(access, self.class, i as usize) {
+            view.time_of(live, i)
+        } else {
+            Time::CLOSED
+        }
+    }
 }
 
 // ---- one road
@@ -82,19 +99,20 @@ fn ask_head(
     order: &[u8],
     ranks: &[u32],
     pairs: &[u32],
+    access: &[u8],
     live: &[TimeWord],
     down: &[TimeWord],
     estimates: &mut [TimeWord],
     i: u32,
 )
-    requires { ⌜ (i < trip .sizes .m) × EstimatesIn (given trip roads order ranks pairs live down) (now estimates) ⌝ }
-    ensures { λ _. ⌜ Asks (given trip (roads .entry) (order .entry) (ranks .entry) (pairs .entry) (live .entry) (down .entry))
+    requires { ⌜ (i < trip .sizes .m) × EstimatesIn (given trip roads order ranks pairs access live down) (now estimates) ⌝ }
+    ensures { λ _. ⌜ Asks
+        (given trip (roads .entry) (order .entry) (ranks .entry) (pairs .entry) (access .entry) (live .entry) (down .entry))
         (wordAt (now (roads .entry)) (roadSize * i)) i (i + 1) (now (estimates .entry)) (now (estimates .exit)) ⌝ }
 {
     let sizes = trip.sizes;
-    let view = trip.view;
-    let cost = view.time_of(live, i);
-    if cost.is_closed() {
+    let time = trip.time_of(access, live, i);
+    if time.is_closed() {
         return;
     }
     let head = head_of(roads, i as usize);
@@ -112,20 +130,20 @@ fn ask_head(
 fn relax_road(
     trip: Trip,
     roads: &[u8],
+    access: &[u8],
     live: &[TimeWord],
     estimates: &[TimeWord],
     room: &mut [u64],
     i: u32,
     from: Time,
 )
-    requires { ⌜ (i < trip .sizes .m) × ReadIn (readOf trip roads live estimates)
+    requires { ⌜ (i < trip .sizes .m) × ReadIn (readOf trip roads access live estimates)
         × Room (trip .sizes .n) (now room) ⌝ }
-    ensures { λ _. ⌜ Relaxes (readOf trip (roads .entry) (live .entry) (estimates .entry))
+    ensures { λ _. ⌜ Relaxes (readOf trip (roads .entry) (access .entry) (live .entry) (estimates .entry))
         (wordAt (now (roads .entry)) (roadSize * i)) (from .0) i (i + 1) (now (room .entry)) (now (room .exit)) ⌝ }
 {
     let sizes = trip.sizes;
-    let view = trip.view;
-    let cost = view.time_of(live, i);
+    let cost = trip.time_of(access, live, i);
     if cost.is_closed() {
         return;
     }
@@ -176,14 +194,15 @@ impl Trip {
         order: &[u8],
         ranks: &[u32],
         pairs: &[u32],
+        access: &[u8],
         live: &[TimeWord],
         down: &[TimeWord],
         estimates: &mut [TimeWord],
         group: &[u32],
     )
-        requires { ⌜ EstimatesIn (given self roads order ranks pairs live down) (now estimates) ⌝ }
+        requires { ⌜ EstimatesIn (given self roads order ranks pairs access live down) (now estimates) ⌝ }
         ensures { λ _. ⌜ AsksGroup
-            (given self (roads .entry) (order .entry) (ranks .entry) (pairs .entry) (live .entry) (down .entry))
+            (given self (roads .entry) (order .entry) (ranks .entry) (pairs .entry) (access .entry) (live .entry) (down .entry))
             (now (group .entry)) (now (estimates .entry)) (now (estimates .exit)) ⌝ }
     {
         let m = self.sizes.m;
@@ -192,7 +211,18 @@ impl Trip {
             let i = group[k];
             k += 1;
             if i < m {
-                ask_head(self, roads, order, ranks, pairs, live, down, estimates, i);
+                ask_head(
+                    self,
+                    roads,
+                    order,
+                    ranks,
+                    pairs,
+                    access,
+                    live,
+                    down,
+                    estimates,
+                    i,
+                );
             }
         }
     }
@@ -201,14 +231,15 @@ impl Trip {
     pub fn relax(
         self,
         roads: &[u8],
+        access: &[u8],
         live: &[TimeWord],
         estimates: &[TimeWord],
         room: &mut [u64],
         group: &[u32],
         from: Time,
     )
-        requires { ⌜ ReadIn (readOf self roads live estimates) × Room (self .sizes .n) (now room) ⌝ }
-        ensures { λ _. ⌜ RelaxesGroup (readOf self (roads .entry) (live .entry) (estimates .entry))
+        requires { ⌜ ReadIn (readOf self roads access live estimates) × Room (self .sizes .n) (now room) ⌝ }
+        ensures { λ _. ⌜ RelaxesGroup (readOf self (roads .entry) (access .entry) (live .entry) (estimates .entry))
             (now (group .entry)) (from .0) (now (room .entry)) (now (room .exit)) ⌝ }
     {
         let m = self.sizes.m;
@@ -217,7 +248,7 @@ impl Trip {
             let i = group[j];
             j += 1;
             if i < m {
-                relax_road(self, roads, live, estimates, room, i, from);
+                relax_road(self, roads, access, live, estimates, room, i, from);
             }
         }
     }

@@ -7,7 +7,7 @@ ghost use lib.ListN.{length};
 ghost use Rattle.model.specs.Layout.{roadSize};
 ghost use Rattle.model.specs.State.{first};
 ghost use Rattle.search_labels.specs.Ways.{arcsBack, wayOf};
-ghost use Rattle.search_junctions.specs.State.{given};
+ghost use Rattle.search_junctions.specs.State.{given, givenTo};
 ghost use Rattle.search_labels.specs.Labelling.{labelsIn};
 ghost use Rattle.search_run.specs.Runs.{Advances, LendsRoom, backIn, written};
 use areas::fill;
@@ -45,6 +45,7 @@ pub fn advance(
     order: &[u8],
     ranks: &[u32],
     pairs: &[u32],
+    access: &[u8],
     live: &[TimeWord],
     down: &[TimeWord],
     leaving: &[u32],
@@ -54,11 +55,10 @@ pub fn advance(
     log: &mut [u32],
     room: &mut [u64],
 ) -> Progress
-    requires { ⌜ LendsRoom (given trip roads order ranks pairs live down) (now leaving) (now groups) (trip .start .0) (trip .target .0)
-        (written estimates elapsed room log) ⌝ }
-    ensures { λ r. ⌜ Advances (given trip (roads .entry) (order .entry) (ranks .entry) (pairs .entry) (live .entry) (down .entry))
-        (now (leaving .entry)) (now (groups .entry)) (trip .start .0) (trip .target .0) budget
-        (written (estimates .entry) (elapsed .entry) (room .entry) (log .entry))
+    requires { ⌜ LendsRoom (given trip roads order ranks pairs access live down) (now leaving) (now groups)
+        (trip .start .0) (trip .target .0) (written estimates elapsed room log) ⌝ }
+    ensures { λ r. ⌜ Advances (givenTo trip roads order ranks pairs access live down) (now (leaving .entry)) (now (groups .entry))
+        (trip .start .0) (trip .target .0) budget (written (estimates .entry) (elapsed .entry) (room .entry) (log .entry))
         (written (estimates .exit) (elapsed .exit) (room .exit) (log .exit)) (r .count) (r .complete) ⌝ }
 {
     let n = trip.sizes.n;
@@ -80,8 +80,18 @@ pub fn advance(
             let a = groups[v as usize];
             let b = groups[v as usize + 1];
             let group = group_at(leaving, a, b);
-            trip.ask(roads, order, ranks, pairs, live, down, estimates, group);
-            trip.relax(roads, live, estimates, room, group, from);
+            trip.ask(
+                roads,
+                order,
+                ranks,
+                pairs,
+                access,
+                live,
+                down,
+                estimates,
+                group,
+            );
+            trip.relax(roads, access, live, estimates, room, group, from);
             v = choose(room, n);
         }
     }

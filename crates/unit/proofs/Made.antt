@@ -8,18 +8,19 @@ use borrow.Author.Tests.{ltb-true}
 use lib.Dec.{ltb}
 use lib.ListN.{length, replicate, set}
 use Rattle.graph.specs.Total.{true-false}
-use Rattle.graph.specs.Map.{Map, downTotalOf, estimateOf, fills}
+use Rattle.graph.specs.Map.{downTotalOf}
 use Rattle.model.specs.Types as model
 use Rattle.model.specs.Types.{At, Header, Lengths, NoJunction, NoRoad, NoTarget, Refusal, Target}
 use Rattle.model.specs.Word.{unasked, word}
 use Rattle.model.specs.Bytes.{listed}
-use Rattle.model.specs.Card.{ask, mapOn}
+use Rattle.model.specs.Layout.{orderIn, roadsIn}
+use Rattle.model.specs.Card.{ask, cardMap, mapOn}
 use Rattle.model.specs.Areas.{Aimed, Areas, Each, lengths}
 use Rattle.model.specs.State.{Lent, State, Step, answering, leaving}
 use Rattle.model.specs.Machine.{isAt, targetOf}
 use Rattle.model.specs.Set.{setRefusal}
 use Rattle.model.specs.Aim.{aimRefusal}
-use Rattle.model.specs.Estimate.{EstimateWrites, estimateRefusal, filled, withEstimates}
+use Rattle.model.specs.Estimate.{EstimateWrites, estimateRefusal, withEstimates}
 use Rattle.model.specs.Calls.{Aim, Asked, Call, Estimate, Set, calling, knownOf, made, refusalBy, refusalOf}
 use Rattle.model.specs.Contracts.{CallContract, after, baseOn, before}
 use Rattle.model.specs.Laws.{ask-none}
@@ -33,7 +34,6 @@ use Rattle.network.specs.declared.Verdict.the-variants.{Failed, Passed}
 use Rattle.unit_answers.specs.Shape.{callIn}
 use Rattle.unit_answers.specs.declared.Call as code-call
 use Rattle.unit_answers.specs.declared.Answer.the-variants as answers
-use Rattle.card_layout.specs.Parts.{orderIn, roadsIn}
 use Rattle.unit_questions.specs.Lending.{fitsBy}
 use Rattle.pairs_descents.specs.Downs.{Descended}
 use Rattle.pairs_hierarchy.specs.Estimates as estimates-of
@@ -42,7 +42,6 @@ use Rattle.unit.specs.declared.Target.the-variants as targets
 use Rattle.unit.specs.declared.Answered.{Answered}
 use Rattle.unit.specs.Shape.{answeredIn, headerIn, targetIn}
 use Rattle.unit.specs.Meets.{asks, withAimed, withLive}
-use Rattle.unit.specs.Roads.{good-map}
 use Rattle.unit.specs.Refused.{made-by, refused-by}
 use Rattle.unit.proofs.Bodies.{descended-at, estimated-at, good-prepared}
 use Rattle.unit.proofs.Fitting.{Fits, fits-facts}
@@ -51,16 +50,16 @@ use Rattle.unit.proofs.Fitting.{Fits, fits-facts}
 
 -- 9 and the questions of the call c itself pass, so card and areas have the lengths that the header calls for
 pub record CallPassed (card : List ℕ) (h : unit.Header) (l : Each ℕ) (c : Asked) : Type 0 where
-  pub fits : fitsBy (headerIn h) (length card) l ≡ true
+  pub fits : fitsBy (headerIn h) card l ≡ true
   pub asked : refusalOf (knownOf (baseOn card) (headerIn h)) c 0 0 ≡ none
   pub sizes : Fits (headerIn h) card l
 
 module _ {card : List ℕ} {h : unit.Header} {l : Each ℕ} where
-  pub call-passed : {c : Asked} {x : Verdict} → x ≡ Passed → verdictIn x ≡ asks (baseOn card) (headerIn h) (length card) l c 0 0
+  pub call-passed : {c : Asked} {x : Verdict} → x ≡ Passed → verdictIn x ≡ asks (baseOn card) (headerIn h) card l c 0 0
       → CallPassed card h l c
   call-passed {c} passes verdict-is =
       let own = refusalOf (knownOf (baseOn card) (headerIn h)) c 0 0 in
-      let (fits, asked) = ask-none (fitsBy (headerIn h) (length card) l) Lengths own (sym (ap verdictIn (sym passes) ∙ verdict-is)) in
+      let (fits, asked) = ask-none (fitsBy (headerIn h) card l) Lengths own (sym (ap verdictIn (sym passes) ∙ verdict-is)) in
       record { fits = fits; asked = asked; sizes = fits-facts fits }
 
   -- of areas that have these lengths
@@ -95,14 +94,14 @@ aimed-at {card} {h} {a} g e =
 
 pub refused : {card : List ℕ} {h : unit.Header} {a : Areas} {c : Asked} {k : Lent} {x : Verdict} {q : code.Refusal} {r : Answered}
     {l : Each ℕ} → lengths a ≡ l → x ≡ Failed q
-    → verdictIn x ≡ ask (fitsBy (headerIn h) (length card) l) Lengths (refusalBy (baseOn card) (headerIn h) (calling c k))
+    → verdictIn x ≡ ask (fitsBy (headerIn h) card l) Lengths (refusalBy (baseOn card) (headerIn h) (calling c k))
     → r ≡ record { header = h; answer = answers.Refused q }
     → CallContract card (before (headerIn h) a) (calling c k) (after (answeredIn r) a k)
 refused {card} {h} {a} {c} {k} {q} lengths-are fails verdict-is handed =
     let own = refusalBy (baseOn card) (headerIn h) (calling c k) in
-    let says-no : some (refusalIn q) ≡ ask (fitsBy (headerIn h) (length card) (lengths a)) Lengths own =
+    let says-no : some (refusalIn q) ≡ ask (fitsBy (headerIn h) card (lengths a)) Lengths own =
     ap verdictIn (sym fails) ∙ verdict-is
-    ∙ ap (λ (y : Each ℕ). ask (fitsBy (headerIn h) (length card) y) Lengths own) (sym lengths-are) in
+    ∙ ap (λ (y : Each ℕ). ask (fitsBy (headerIn h) card y) Lengths own) (sym lengths-are) in
     subst (λ (y : Answered). CallContract card (before (headerIn h) a) (calling c k) (after (answeredIn y) a k)) (sym handed)
     (refused-by says-no)
 
@@ -123,7 +122,7 @@ pub set-made : {card : List ℕ} {h : unit.Header} {a : Areas} {k : Lent} {l : E
     → {r : Answered} → r ≡ record { header = h; answer = answers.Accepted }
     → CallContract card (before (headerIn h) a) (calling (Set i t) k) (after (answeredIn r) (withLive a (set live i v)) k)
 set-made {card} {h} {a} {k} {i} {t} lengths-are p {live} live-is {v} time-is {r} handed =
-    let written : after (answeredIn r) (withLive a (set live i v)) k ≡ made (mapOn card) (before (headerIn h) a) (Set i t) k =
+    let written : after (answeredIn r) (withLive a (set live i v)) k ≡ made (cardMap card) (before (headerIn h) a) (Set i t) k =
     ap (λ (s : Answered). after (answeredIn s) (withLive a (set live i v)) k) handed
     ∙ ap₂ (λ (s : List ℕ) (b : ℕ). after (record { header = headerIn h; answer = model.Accepted }) (withLive a (set s i b)) k)
     (sym live-is) time-is in
@@ -138,7 +137,7 @@ module _ (h : Header) (a : Areas) (j : ℕ) (k : Lent) where
 
 pub aim-made : {card : List ℕ} {h : unit.Header} {a : Areas} {k : Lent} {l : Each ℕ} {j : Junction} → lengths a ≡ l
     → CallPassed card h l (Aim (j .0)) → {pairs order down estimates d e : List ℕ} → a .built .pairs ≡ pairs
-    → a .aimed ≡ record { down = down; estimates = estimates } → order ≡ orderIn card (h .sizes .n) (h .sizes .m)
+    → a .aimed ≡ record { down = down; estimates = estimates } → order ≡ orderIn card
     → Descended order pairs (h .sizes .pairs) d (j .0) → e ≡ replicate (length estimates) unasked
     → {r : Answered} → r ≡ record { header = record { sizes = h .sizes; target = targets.At j }; answer = answers.Accepted }
     → CallContract card (before (headerIn h) a) (calling (Aim (j .0)) k) (after (answeredIn r) (withAimed a d e) k)
@@ -154,15 +153,14 @@ aim-made {card} {h} {a} {k} {j} lengths-are p {d = d} {e} pairs-are aimed-is ord
   where
     downs : Good card (before (headerIn h) a) → d ≡ listed (mapOn card .vertices) (λ v. word (downTotalOf (mapOn card) (j .0) v))
     downs g =
-        descended-at order-is pairs-are descended .exact (roadsIn card (h .sizes .m)) (a .built .ranks) (good-prepared g)
-        ∙ ap (λ (M : Map). listed (M .vertices) (λ v. word (downTotalOf M (j .0) v))) (good-map g)
+        descended-at order-is pairs-are descended .exact (roadsIn card) (a .built .ranks) (good-prepared g)
 
 -- ---- estimate: v is that of the junction j, and e are the estimates with those that it filled
 
 pub estimate-made : {card : List ℕ} {h : unit.Header} {a : Areas} {k : Lent} {l : Each ℕ} {j : ℕ} → lengths a ≡ l
     → CallPassed card h l (Estimate j) → {ranks pairs order down estimates e : List ℕ} {v : Time}
     → a .built .ranks ≡ ranks → a .built .pairs ≡ pairs → a .aimed ≡ record { down = down; estimates = estimates }
-    → order ≡ orderIn card (h .sizes .n) (h .sizes .m)
+    → order ≡ orderIn card
     → estimates-of.Estimated order ranks pairs (h .sizes .pairs) down estimates e j (v .0)
     → {r : Answered} → r ≡ record { header = h; answer = answers.Estimated v }
     → CallContract card (before (headerIn h) a) (calling (Estimate j) k) (after (answeredIn r) (withAimed a down e) k)
@@ -180,17 +178,14 @@ estimate-made {card} {h} {a} {k} {j} lengths-are p {down = down} {e = e} {v} ran
     answered-with t z = answering (model.Estimated t) (leaving (before (headerIn h) a) (targetIn (h .target)) (a .live)
         (withEstimates (a .aimed) z) (a .trip)) k
 
-    estimated : estimates-of.Estimated (orderIn card (h .sizes .n) (h .sizes .m)) (a .built .ranks) (a .built .pairs) (h .sizes .pairs)
+    estimated : estimates-of.Estimated (orderIn card) (a .built .ranks) (a .built .pairs) (h .sizes .pairs)
         (a .aimed .down) (a .aimed .estimates) e j (v .0)
-        → Good card (before (headerIn h) a) → answered-with (v .0) e ≡ made (mapOn card) (before (headerIn h) a) (Estimate j) k
+        → Good card (before (headerIn h) a) → answered-with (v .0) e ≡ made (cardMap card) (before (headerIn h) a) (Estimate j) k
     estimated d g =
         let z = targetOf (targetIn (h .target)) in
         let aims = aimed-at g (estimate-below p .1) in
-        let (value-is, estimates-are) = d .exact (roadsIn card (h .sizes .m)) (good-prepared g) z
-        (subst (λ (M : Map). AimFacts M z (a .aimed .down) (a .aimed .estimates)) (sym (good-map g)) aims) in
-        ap₂ answered-with
-        (value-is ∙ ap (λ (M : Map). word (estimateOf M z j)) (good-map g))
-        (estimates-are ∙ ap (λ (M : Map). filled M z (fills M j) (a .aimed .estimates)) (good-map g))
+        let (value-is, estimates-are) = d .exact (roadsIn card) (good-prepared g) z aims in
+        ap₂ answered-with value-is estimates-are
 
 -- ---- any call, by its case
 

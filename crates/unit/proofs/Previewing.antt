@@ -10,32 +10,33 @@ use lib.ListN.{length, set}
 use Rattle.graph.specs.Total.{Total}
 use Rattle.graph.specs.Search.{totalOf}
 use Rattle.graph.specs.Map.{Map}
-use Rattle.model.specs.Types.{Accepted, Answer, Estimated, Gone, Header, Lengths, NoJunction, NoTarget, Previewed, Refused, Stopped}
+use Rattle.model.specs.Types.{Accepted, Answer, Estimated, Gone, Header, Lengths, NoClass, NoJunction, NoTarget, Previewed, Refused}
+use Rattle.model.specs.Types.{Stopped}
+use Rattle.model.specs.Limits.{classes}
+use Rattle.model.specs.Layout.{accessIn, orderIn, roadsIn}
 use Rattle.model.specs.Word.{ofWord}
-use Rattle.model.specs.Card.{mapOn}
+use Rattle.model.specs.Card.{cardMap, mapOn}
 use Rattle.model.specs.Areas.{Areas}
 use Rattle.model.specs.State.{Lent, Step, answering}
 use Rattle.model.specs.Machine.{isAt, targetOf}
 use Rattle.model.specs.Set.{setRefusal}
 use Rattle.model.specs.Estimate.{estimateRefusal, filled}
 use Rattle.model.specs.Go.{searchOf}
-use Rattle.model.specs.Preview.{WorkLeft, changeOf, eitherAsks, previewAnswer, previewMade, previewRefusal, workSize}
+use Rattle.model.specs.Preview.{WorkLeft, changeOf, eitherAsks, previewAnswer, previewAt, previewMade, previewRefusal, workSize}
 use Rattle.model.specs.Calls.{Preview, calling, knownOf}
 use Rattle.model.specs.Contracts.{CallContract, after, baseOn, before}
 use Rattle.model.specs.Laws.{andThen-none, ask-none, kept-refl}
-use Rattle.model.specs.Good.{Good, set-good}
+use Rattle.model.specs.Good.{Good, met-good, set-good}
 use Rattle.unit_answers.specs.Shape.{answerIn}
 use Rattle.unit_answers.specs.declared.Answer as code-answer
-use Rattle.card_layout.specs.Parts.{orderIn, roadsIn}
 use Rattle.network.specs.Bodies.{mapIn}
 use Rattle.search.specs.Searches.{FindsBoth, FoundBoth, Settable}
 use Rattle.unit.specs.declared.Header as unit
 use Rattle.unit.specs.declared.Answered.{Answered}
 use Rattle.unit.specs.Shape.{answeredIn, headerIn, targetIn}
 use Rattle.unit.specs.Meets.{withAimed}
-use Rattle.unit.specs.Roads.{good-map}
 use Rattle.unit.specs.Refused.{made-by, set-same}
-use Rattle.unit.proofs.Trips.{TripPassed, Trips, as-left, givenIn, on-card, total-read}
+use Rattle.unit.proofs.Trips.{TripPassed, Trips, as-left, givenIn, metBy, on-card, total-read}
 
 -- ---- answers
 
@@ -64,34 +65,36 @@ pub record PreviewFacts (card : List ℕ) (h : Header) (i t w : ℕ) : Type 0 wh
   pub work-is : w ≡ workSize (h .n)
   pub allowed : setRefusal (knownOf (baseOn card) h) i t ≡ none
 
-module _ (card : List ℕ) (h : Header) (i t j w : ℕ) where
-  -- 9 of the work area; 10 and 11; 12 and 13
-  parts : previewRefusal (knownOf (baseOn card) h) i t j w ≡ none
+module _ (card : List ℕ) (h : Header) (v i t j w : ℕ) where
+  -- 9 of the work area; 18; 10 and 11; 12 and 13
+  parts : previewRefusal (knownOf (baseOn card) h) v i t j w ≡ none
       → PreviewFacts card h i t w × (estimateRefusal (knownOf (baseOn card) h) j ≡ none)
   unfolding previewRefusal
   parts e =
       let (work-is, then) = ask-none (eqb w (workSize (h .n))) Lengths _ e in
-      let (allowed, way) = andThen-none (setRefusal (knownOf (baseOn card) h) i t) _ then in
+      let (_, after-18) = ask-none (ltb v classes) NoClass _ then in
+      let (allowed, way) = andThen-none (setRefusal (knownOf (baseOn card) h) i t) _ after-18 in
       (record { work-is = eqb-true w (workSize (h .n)) work-is; allowed = allowed }, way)
 
-pub preview-trips : {card : List ℕ} {h : Header} {a : Areas} {i t j w : ℕ} {k : Lent} → Trips card h a (Preview i t j w) k j
+pub preview-trips : {card : List ℕ} {h : Header} {a : Areas} {v i t j w : ℕ} {k : Lent} → Trips card h a (Preview v i t j w) k j
 unfolding estimateRefusal
-preview-trips {card} {h} {i = i} {t} {j} {w} = record {
+preview-trips {card} {h} {v = v} {i} {t} {j} {w} = record {
   starts = λ e.
-      let (_, way) = parts card h i t j w e in
+      let (_, way) = parts card h v i t j w e in
       let (below, then) = ask-none (ltb j (h .n)) NoJunction _ way in
       let (aimed, _) = ask-none (isAt (h .target)) NoTarget none then in
       record { start = ltb-true j (h .n) below; aimed = aimed };
   idle = record { leaves = refl; lent = refl; kept = kept-refl; change = λ x y z e. subst ChangeIs e tt };
 }
 
-pub preview-facts : {card : List ℕ} {u : unit.Header} {a : Areas} {i t j w : ℕ} {k : Lent} → TripPassed card u a (Preview i t j w) k j
-    → PreviewFacts card (headerIn u) i t w
-preview-facts {card} {u} {i = i} {t} {j} {w} p = parts card (headerIn u) i t j w (p .asked) .0
+pub preview-facts : {card : List ℕ} {u : unit.Header} {a : Areas} {v i t j w : ℕ} {k : Lent}
+    → TripPassed card u a (Preview v i t j w) k j → PreviewFacts card (headerIn u) i t w
+preview-facts {card} {u} {v = v} {i} {t} {j} {w} p = parts card (headerIn u) v i t j w (p .asked) .0
 
 -- ---- a preview that was made
 
-module _ (card : List ℕ) (u : unit.Header) (a : Areas) (i t j : ℕ) (k : Lent) where
+-- with searches at these times and at those
+module _ (u : unit.Header) (a : Areas) (now then : List ℕ) (j : ℕ) (k : Lent) where
   abbrev h : Header
   h = headerIn u
 
@@ -99,73 +102,71 @@ module _ (card : List ℕ) (u : unit.Header) (a : Areas) (i t j : ℕ) (k : Lent
   abbrev z : ℕ
   z = targetOf (targetIn (u .target))
 
-  -- the times with that one set
-  abbrev then : List ℕ
-  then = set (a .live) i t
-
   -- what a preview leaves by its answer and the estimates
   unfoldable left-by : Answer → (estimates : List ℕ) → Step
   left-by x e = answering x (before h (withAimed a (a .aimed .down) e)) k
 
   -- what it leaves on the map M
-  unfoldable previewed-on : Map → Step
+  made-is : (M : Map) →
+      left-by (previewAnswer (totalOf (searchOf M now j z)) (totalOf (searchOf M then j z)))
+      (filled M z (eitherAsks M now then j z) (a .aimed .estimates)) ≡ previewAt M (before h a) now then j k
   unfolding left-by
-  previewed-on M =
-      left-by (previewAnswer (totalOf (searchOf M (a .live) j z)) (totalOf (searchOf M then j z)))
-      (filled M z (eitherAsks M (a .live) then j z) (a .aimed .estimates))
-
-  made-is : previewed-on (mapOn card) ≡ previewMade (mapOn card) (before h a) i t j k
-  unfolding previewed-on left-by
-  made-is = refl
+  made-is M = refl
 
   -- both searches found it on the map of what they were given
   found-is : {roads order e : List ℕ} {present new : ℕ}
-      → FoundBoth (givenIn u a roads order) then j z (a .aimed .estimates) e present new
-      → left-by (previewAnswer (ofWord present) (ofWord new)) e ≡ previewed-on (mapIn roads order)
-  unfolding previewed-on
+      → FoundBoth (givenIn u a now roads order) then j z (a .aimed .estimates) e present new
+      → left-by (previewAnswer (ofWord present) (ofWord new)) e ≡ previewAt (mapIn roads order) (before h a) now then j k
   found-is {roads} {order} d =
       let M = mapIn roads order in
       ap₂ left-by
-      (ap₂ previewAnswer (total-read (totalOf (searchOf M (a .live) j z)) (d .present-is) (d .present-fits))
+      (ap₂ previewAnswer (total-read (totalOf (searchOf M now j z)) (d .present-is) (d .present-fits))
       (total-read (totalOf (searchOf M then j z)) (d .new-is) (d .new-fits)))
       (d .estimates-are)
+      ∙ made-is M
 
-  -- the times with that one set are those that a set leaves
-  then-settable : Good card (before h a) → setRefusal (knownOf (baseOn card) h) i t ≡ none
-      → Settable (mapIn (roadsIn card (u .sizes .m)) (orderIn card (u .sizes .n) (u .sizes .m))) then
-  then-settable g allowed =
-      subst (λ (M : Map). Settable M then) (sym (good-map g)) (set-good g i t k (set-same i t (λ b. g) ∙ allowed) .times)
+-- the times with that one set, as a class meets them, are those that a set leaves
+then-settable : {card : List ℕ} {h : Header} {a : Areas} → Good card (before h a) → (k : Lent) (v i t : ℕ)
+    → setRefusal (knownOf (baseOn card) h) i t ≡ none → Settable (mapOn card) (metBy (accessIn card) v (set (a .live) i t))
+then-settable g k v i t allowed = met-good (set-good g i t k (set-same i t (λ b. g) ∙ allowed)) v .times
 
--- a preview whose searches answered so
-pub preview-handed : {card : List ℕ} {u : unit.Header} {a : Areas} {i t j w : ℕ} {k : Lent} → TripPassed card u a (Preview i t j w) k j
-    → {z : ℕ} → z ≡ targetOf (targetIn (u .target)) → {roads order : List ℕ} → roads ≡ roadsIn card (u .sizes .m)
-    → order ≡ orderIn card (u .sizes .n) (u .sizes .m) → {e : List ℕ} {present new : ℕ}
-    → FindsBoth (givenIn u a roads order) (set (a .live) i t) (a .built .leaving) (a .built .groups) j z (a .aimed .estimates) e present new
+-- a preview of class v whose searches answered so
+pub preview-handed : {card : List ℕ} {u : unit.Header} {a : Areas} {v i t j w : ℕ} {k : Lent}
+    → TripPassed card u a (Preview v i t j w) k j → {z : ℕ} → z ≡ targetOf (targetIn (u .target)) → {access roads order : List ℕ}
+    → roads ≡ roadsIn card → order ≡ orderIn card → access ≡ accessIn card → {e : List ℕ} {present new : ℕ}
+    → FindsBoth (givenIn u a (metBy access v (a .live)) roads order) (metBy access v (set (a .live) i t)) (a .built .leaving)
+    (a .built .groups) j z (a .aimed .estimates) e present new
     → {x : code-answer.Answer} → answerIn x ≡ previewAnswer (ofWord present) (ofWord new)
     → {r : Answered} → r ≡ record { header = u; answer = x }
-    → CallContract card (before (headerIn u) a) (calling (Preview i t j w) k)
+    → CallContract card (before (headerIn u) a) (calling (Preview v i t j w) k)
     (after (answeredIn r) (withAimed a (a .aimed .down) e) k)
 unfolding left-by
-preview-handed {card} {u} {a} {i} {t} {j} {w} {k} p target-is roads-are order-is {e} {present} {new} d answer-is handed =
-    subst (λ (r : Answered). CallContract card (before (headerIn u) a) (calling (Preview i t j w) k)
+preview-handed {card} {u} {a} {v} {i} {t} {j} {w} {k} p target-is roads-are order-is access-is {e} {present} {new} d answer-is handed =
+    subst (λ (r : Answered). CallContract card (before (headerIn u) a) (calling (Preview v i t j w) k)
     (after (answeredIn r) (withAimed a (a .aimed .down) e) k)) (sym handed)
-    (subst (λ (y : Answer). CallContract card (before (headerIn u) a) (calling (Preview i t j w) k) (left-by card u a i t j k y e))
+    (subst (λ (y : Answer). CallContract card (before (headerIn u) a) (calling (Preview v i t j w) k) (left-by u a now then j k y e))
     (sym answer-is)
     (made-by (p .fits) (p .asked) exactly
     (record { leaves = refl; lent = refl; kept = d .kept; change = λ x y c q. subst ChangeIs q refl })))
   where
-    Searched : (z : ℕ) → (roads order : List ℕ) → Type 0
-    Searched z r o =
-        FindsBoth (givenIn u a r o) (set (a .live) i t) (a .built .leaving) (a .built .groups) j z (a .aimed .estimates) e present new
+    now : List ℕ
+    now = metBy (accessIn card) v (a .live)
+
+    then : List ℕ
+    then = metBy (accessIn card) v (set (a .live) i t)
+
+    Searched : (z : ℕ) → (access roads order : List ℕ) → Type 0
+    Searched z x r o =
+        FindsBoth (givenIn u a (metBy x v (a .live)) r o) (metBy x v (set (a .live) i t)) (a .built .leaving) (a .built .groups) j z
+        (a .aimed .estimates) e present new
 
     exactly : Good card (before (headerIn u) a)
-        → left-by card u a i t j k (previewAnswer (ofWord present) (ofWord new)) e
-        ≡ previewMade (mapOn card) (before (headerIn u) a) i t j k
+        → left-by u a now then j k (previewAnswer (ofWord present) (ofWord new)) e
+        ≡ previewMade (cardMap card) (before (headerIn u) a) v i t j k
     exactly g =
-        let searched = on-card card u Searched target-is roads-are order-is d in
-        let both = searched .exact (as-left u g (p .starts .aimed))
-        (then-settable card u a i t j k g (preview-facts p .allowed)) in
-        found-is card u a i t j k both ∙ ap (previewed-on card u a i t j k) (good-map g) ∙ made-is card u a i t j k
+        let searched = on-card card u Searched target-is access-is roads-are order-is d in
+        let both = searched .exact (as-left u g v (p .starts .aimed)) (then-settable g k v i t (preview-facts p .allowed)) in
+        found-is u a now then j k both
 
 -- ---- its work area
 

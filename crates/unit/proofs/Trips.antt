@@ -11,10 +11,11 @@ use lib.Dec.{ltb}
 use lib.ListN.{length}
 use native.Mathlib.Omega.{arith}
 use Rattle.graph.specs.Total.{Total, some-some}
-use Rattle.graph.specs.Map.{Map}
 use Rattle.model.specs.Types.{Header, Lengths, Refusal}
 use Rattle.model.specs.Word.{noneWord, ofWord, ofWord-word, word}
 use Rattle.model.specs.Limits.{mostTotal}
+use Rattle.model.specs.Layout.{accessIn, orderIn, roadsIn}
+use Rattle.model.specs.Classes.{accessOf, classTimes}
 use Rattle.model.specs.Card.{andThen, ask, mapOn}
 use Rattle.model.specs.Areas.{Areas, Each, lengths}
 use Rattle.model.specs.State.{Lent}
@@ -22,22 +23,21 @@ use Rattle.model.specs.Machine.{isAt, targetOf}
 use Rattle.model.specs.Calls.{Asked, Writes, calling, refusalBy}
 use Rattle.model.specs.Contracts.{CallContract, after, baseOn, before, refusing}
 use Rattle.model.specs.Laws.{andThen-none, ask-none}
-use Rattle.model.specs.Good.{AimFacts, Good}
+use Rattle.model.specs.ClassLaws.{times-length}
+use Rattle.model.specs.Good.{Good, met-good, metTimes}
 use Rattle.network.specs.Refusals.{refusalIn, verdictIn}
 use Rattle.network.specs.declared.Refusal as code
 use Rattle.network.specs.declared.Verdict.{Verdict}
 use Rattle.network.specs.declared.Verdict.the-variants.{Failed, Passed}
 use Rattle.unit_answers.specs.declared.Answer.the-variants as answers
-use Rattle.card_layout.specs.Parts.{orderIn, roadsIn}
 use Rattle.unit_questions.specs.Lending.{fitsBy}
 use Rattle.search_junctions.specs.State.{Given, givenOf}
 use Rattle.search_run.specs.Runs.{Within}
-use Rattle.search.specs.Searches.{AsLeft, Settable}
+use Rattle.search.specs.Searches.{AsLeft}
 use Rattle.unit.specs.declared.Header as unit
 use Rattle.unit.specs.declared.Answered.{Answered}
 use Rattle.unit.specs.Shape.{answeredIn, headerIn, targetIn}
 use Rattle.unit.specs.Meets.{asksTrip}
-use Rattle.unit.specs.Roads.{good-map}
 use Rattle.unit.specs.Refused.{never-left, refused-by}
 use Rattle.unit.proofs.Bodies.{good-groups, good-prepared}
 use Rattle.unit.proofs.Fitting.{Fits, fits-facts, sized}
@@ -61,11 +61,11 @@ pub record Trips (card : List ℕ) (h : Header) (a : Areas) (c : Asked) (k : Len
 
 -- what is asked: 9, the call's own questions, and the target's range
 abbrev pub tripVerdict : (card : List ℕ) → Header → Each ℕ → Asked → Lent → Option Refusal
-tripVerdict card h l c k = asksTrip (baseOn card) h (length card) l c (length (k .route)) (length (k .log))
+tripVerdict card h l c k = asksTrip (baseOn card) h card l c (length (k .route)) (length (k .log))
 
 -- and passed
 pub record TripPassed (card : List ℕ) (u : unit.Header) (a : Areas) (c : Asked) (k : Lent) (s : ℕ) : Type 0 where
-  pub fits : fitsBy (headerIn u) (length card) (lengths a) ≡ true
+  pub fits : fitsBy (headerIn u) card (lengths a) ≡ true
   pub asked : own card (headerIn u) c k ≡ none
   pub sizes : Fits (headerIn u) card (lengths a)
   pub starts : Starts (headerIn u) s
@@ -82,7 +82,7 @@ module _ {card : List ℕ} {u : unit.Header} {a : Areas} {c : Asked} {k : Lent} 
   pub trip-passed : {x : Verdict} → x ≡ Passed → verdictIn x ≡ tripVerdict card (headerIn u) (lengths a) c k → TripPassed card u a c k s
   trip-passed passes verdict-is =
       let h = headerIn u in
-      let fits = fitsBy h (length card) (lengths a) in
+      let fits = fitsBy h card (lengths a) in
       let none-says-no = sym (ap verdictIn (sym passes) ∙ verdict-is) in
       let (first-ones, then) = andThen-none (ask fits Lengths (own card h c k)) _ none-says-no in
       let (fits-is, asked) = ask-none fits Lengths (own card h c k) first-ones in
@@ -106,7 +106,7 @@ module _ {card : List ℕ} {u : unit.Header} {a : Areas} {c : Asked} {k : Lent} 
       (go (which (ask fits Lengths (own card (headerIn u) c k)) inside (refusalIn q) (ap verdictIn (sym fails) ∙ verdict-is)))
     where
       fits : Bool
-      fits = fitsBy (headerIn u) (length card) (lengths a)
+      fits = fitsBy (headerIn u) card (lengths a)
 
       Refusing : Refusal → Type 0
       Refusing z = CallContract card (before (headerIn u) a) (calling c k) (refusing z (before (headerIn u) a) (calling c k))
@@ -127,46 +127,51 @@ module _ {card : List ℕ} {u : unit.Header} {a : Areas} {c : Asked} {k : Lent} 
           subst Refusing (sym is-9)
           (astray fits-is asked (ltb-false (targetOf (targetIn (u .target))) (u .sizes .n) outside))
 
--- ---- what a search is given, at the live times
+-- ---- what a search is given: the live times as the class meets them, or these with one of them set
 
-abbrev pub givenIn : unit.Header → Areas → (roads order : List ℕ) → Given
-givenIn u a roads order = givenOf (u .sizes) roads order (a .built .ranks) (a .built .pairs) (a .live) (a .aimed .down)
+-- the times as a class meets them, by the bytes of the card
+abbrev pub metBy : (access : List ℕ) → (class : ℕ) → (live : List ℕ) → List ℕ
+metBy access v live = classTimes (accessOf access) v live
+
+pub met-length : (access : List ℕ) (v : ℕ) (live : List ℕ) → length (metBy access v live) ≡ length live
+met-length access v live = times-length (accessOf access) v live
+
+abbrev pub givenIn : unit.Header → Areas → (times roads order : List ℕ) → Given
+givenIn u a times roads order = givenOf (u .sizes) roads order (a .built .ranks) (a .built .pairs) times (a .aimed .down)
 
 -- lengths and ranges; z is the target, and t entries stand in elapsed's place
 pub within : {card : List ℕ} {u : unit.Header} {a : Areas} {c : Asked} {k : Lent} {s : ℕ} → TripPassed card u a c k s → {z : ℕ}
-    → z ≡ targetOf (targetIn (u .target)) → {roads order : List ℕ} → roads ≡ roadsIn card (u .sizes .m)
-    → order ≡ orderIn card (u .sizes .n) (u .sizes .m) → {t : ℕ} → t ≡ u .sizes .n
-    → Within (givenIn u a roads order) (a .built .leaving) (a .built .groups) s z (length (a .aimed .estimates)) t
-within {a = a} p {z} target-is roads-are order-is elapsed-is = record {
+    → z ≡ targetOf (targetIn (u .target)) → {roads order : List ℕ} → roads ≡ roadsIn card → order ≡ orderIn card
+    → {times : List ℕ} → length times ≡ length (a .live) → {t : ℕ} → t ≡ u .sizes .n
+    → Within (givenIn u a times roads order) (a .built .leaving) (a .built .groups) s z (length (a .aimed .estimates)) t
+within {a = a} p {z} target-is roads-are order-is times-are elapsed-is = record {
   start-in = p .starts .start;
   target-in = omega (arith, target-is, p .target);
   leaving-is = p .sizes .lengths .leaving;
   groups-are = p .sizes .lengths .groups;
-  sized = sized a (p .sizes) roads-are order-is elapsed-is;
+  sized = sized a (p .sizes) roads-are order-is times-are elapsed-is;
 }
 
 -- ---- where a list of calls left the areas
 
--- what it is given of the card
-abbrev pub givenOn : (card : List ℕ) → unit.Header → Areas → Given
-givenOn card u a = givenIn u a (roadsIn card (u .sizes .m)) (orderIn card (u .sizes .n) (u .sizes .m))
-
-pub as-left : {card : List ℕ} (u : unit.Header) {a : Areas} → Good card (before (headerIn u) a) → isAt (targetIn (u .target)) ≡ true
-    → AsLeft (givenOn card u a) (a .built .leaving) (a .built .groups) (targetOf (targetIn (u .target))) (a .aimed .estimates)
-as-left u {a} g aimed = record {
+pub as-left : {card : List ℕ} (u : unit.Header) {a : Areas} → (g : Good card (before (headerIn u) a)) → (v : ℕ)
+    → isAt (targetIn (u .target)) ≡ true
+    → AsLeft (givenIn u a (metTimes g v) (roadsIn card) (orderIn card)) (a .built .leaving) (a .built .groups)
+    (targetOf (targetIn (u .target))) (a .aimed .estimates)
+as-left u g v aimed = record {
   prepared = good-prepared g;
   grouped = good-groups g;
-  aims = subst (λ (M : Map). AimFacts M (targetOf (targetIn (u .target))) (a .aimed .down) (a .aimed .estimates)) (sym (good-map g))
-      (aimed-at g aimed);
-  times = subst (λ (M : Map). Settable M (a .live)) (sym (good-map g)) (g .times);
+  aims = aimed-at g aimed;
+  times = met-good g v .times;
 }
 
 -- what holds of the target and of the parts of the card as they were handed on
-pub on-card : (card : List ℕ) (u : unit.Header) (P : (z : ℕ) → (roads order : List ℕ) → Type 0) {z : ℕ} {roads order : List ℕ}
-    → z ≡ targetOf (targetIn (u .target)) → roads ≡ roadsIn card (u .sizes .m) → order ≡ orderIn card (u .sizes .n) (u .sizes .m)
-    → P z roads order → P (targetOf (targetIn (u .target))) (roadsIn card (u .sizes .m)) (orderIn card (u .sizes .n) (u .sizes .m))
-on-card card u P {roads = roads} {order} target-is roads-are order-is holds =
-    subst₂ (P (targetOf (targetIn (u .target)))) roads-are order-is (subst (λ (z : ℕ). P z roads order) target-is holds)
+pub on-card : (card : List ℕ) (u : unit.Header) (P : (z : ℕ) → (access roads order : List ℕ) → Type 0) {z : ℕ}
+    {access roads order : List ℕ} → z ≡ targetOf (targetIn (u .target)) → access ≡ accessIn card → roads ≡ roadsIn card
+    → order ≡ orderIn card → P z access roads order → P (targetOf (targetIn (u .target))) (accessIn card) (roadsIn card) (orderIn card)
+on-card card u P {z} {access} {roads} {order} target-is access-is roads-are order-is holds =
+    subst₂ (P (targetOf (targetIn (u .target))) (accessIn card)) roads-are order-is
+    (subst₂ (λ (z : ℕ) (x : List ℕ). P z x roads order) target-is access-is holds)
 
 -- ---- the total that a search tells, read in its word
 

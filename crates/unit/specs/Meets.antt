@@ -33,15 +33,15 @@ abbrev pub MeetsAlone : (card : List ℕ) → Header → Both Areas Areas → As
 MeetsAlone card h a c r = (l : Lent) → Meets card h a (untouched l) c r
 
 -- a preview is lent a work area beside them, of whose content nothing is said
-pub record MeetsPreview (card : List ℕ) (h : Header) (a : Both Areas Areas) (work work′ : List ℕ) (road time start : ℕ) (r : Answered)
-    : Type 0 where
-  pub call : MeetsAlone card h a (Preview road time start (length work)) r
+pub record MeetsPreview (card : List ℕ) (h : Header) (a : Both Areas Areas) (work work′ : List ℕ) (class road time start : ℕ)
+    (r : Answered) : Type 0 where
+  pub call : MeetsAlone card h a (Preview class road time start (length work)) r
   pub work-left : WorkLeft work work′ (answerIn (r .answer))
 
--- ---- questions 9 to 14, of the header and of lengths
+-- ---- questions 9 to 14 and 18, of the header, the card and lengths
 
 -- 9 first, then the call's own questions; route and log are the lengths of what is lent
-abbrev pub asks : (base : ℕ → Total) → model.Header → (card : ℕ) → Each ℕ → Asked → (route log : ℕ) → Option model.Refusal
+abbrev pub asks : (base : ℕ → Total) → model.Header → (card : List ℕ) → Each ℕ → Asked → (route log : ℕ) → Option model.Refusal
 asks base h card l c r k = ask (fitsBy h card l) model.Lengths (refusalOf (knownOf base h) c r k)
 
 -- the target is a junction: no list of calls leaves another, and 9 refuses it
@@ -49,7 +49,7 @@ abbrev pub targetAsked : model.Header → Option model.Refusal
 targetAsked h = ask (ltb (targetOf (h .target)) (h .n)) model.Lengths none
 
 -- the same of a call that searches; then 9 for a target out of range
-abbrev pub asksTrip : (base : ℕ → Total) → model.Header → (card : ℕ) → Each ℕ → Asked → (route log : ℕ) → Option model.Refusal
+abbrev pub asksTrip : (base : ℕ → Total) → model.Header → (card : List ℕ) → Each ℕ → Asked → (route log : ℕ) → Option model.Refusal
 asksTrip base h card l c r k = andThen (asks base h card l c r k) (targetAsked h)
 
 -- 12 and 13 of a start; then 9 for a target out of range

@@ -12,21 +12,21 @@ use native.Mathlib.Decide.{decLt}
 use native.Mathlib.Omega.{arith}
 use Rattle.graph.specs.Total.{Tested, and-true, decide, none-some, some-some, true-false}
 use Rattle.model.specs.Types.{Header, Lengths, Refusal}
-use Rattle.model.specs.Card.{andThen, ask, mapOn}
+use Rattle.model.specs.Card.{andThen, ask, cardMap, mapOn}
 use Rattle.model.specs.Areas.{Areas, lengths}
-use Rattle.model.specs.State.{Lent, State, Step, fitting, inRange}
+use Rattle.model.specs.State.{Lent, State, Step, fitting, usable}
 use Rattle.model.specs.Set.{setRefusal}
 use Rattle.model.specs.Aim.{aimRefusal}
 use Rattle.model.specs.Estimate.{estimateRefusal}
-use Rattle.model.specs.Go.{goRefusal}
+use Rattle.model.specs.Go.{askClass, goRefusal}
 use Rattle.model.specs.Preview.{previewRefusal, workSize}
 use Rattle.model.specs.Stops.{stopsRefusal}
 use Rattle.model.specs.Calls.{Aim, Asked, Call, Estimate, Go, Left, Preview, Set, Stops, Writes, calling, knownOf, made, refusalBy, step}
 use Rattle.model.specs.Contracts.{CallContract, baseOn, before, refusing}
-use Rattle.model.specs.Good.{Good, left-good, left-in-range, zero-refused}
+use Rattle.model.specs.Good.{Good, left-good, left-usable, zero-refused}
 use Rattle.model.specs.Chain.{step-lengths}
 use Rattle.unit_questions.specs.Lending.{fitsBy}
-use Rattle.unit.specs.Roads.{good-base, road-word}
+use Rattle.unit.specs.Roads.{good-base}
 
 -- ---- in a state that a list of calls left
 
@@ -38,7 +38,7 @@ set-same {card} {s} i t good = go (decLt i (s .header .m))
   where
     go : Dec (i < s .header .m)
         → setRefusal (knownOf (mapOn card .base .cost) (s .header)) i t ≡ setRefusal (knownOf (baseOn card) (s .header)) i t
-    go (yes b) = rw (good-base (good b) i b ∙ ap some (road-word card (s .header .m) i b))
+    go (yes b) = rw (good-base (good b) i b)
     go (no b) = rw (le-ltb i (s .header .m) (omega arith))
 
 module _ {card : List ℕ} {s : State} (w : Left card s) where
@@ -51,18 +51,19 @@ module _ {card : List ℕ} {s : State} (w : Left card s) where
       good i b = left-good w (omega arith)
 
       -- what a preview asks once x has told what a set would
-      previewed : (j work : ℕ) → Option Refusal → Option Refusal
-      previewed j work x =
-          ask (eqb work (workSize (s .header .n))) Lengths (andThen x (estimateRefusal (knownOf (baseOn card) (s .header)) j))
+      previewed : (k j work : ℕ) → Option Refusal → Option Refusal
+      previewed k j work x =
+          ask (eqb work (workSize (s .header .n))) Lengths
+          (askClass k (andThen x (estimateRefusal (knownOf (baseOn card) (s .header)) j)))
 
       go : (a : Asked) (l : Lent)
           → refusalBy (mapOn card .base .cost) (s .header) (calling a l) ≡ refusalBy (baseOn card) (s .header) (calling a l)
       go (Set i t) l = set-same i t (good i)
       go (Aim j) l = refl
       go (Estimate j) l = refl
-      go (Go j) l = refl
-      go (Preview i t j work) l = ap (previewed j work) (set-same i t (good i))
-      go (Stops stops) l = refl
+      go (Go k j) l = refl
+      go (Preview k i t j work) l = ap (previewed k j work) (set-same i t (good i))
+      go (Stops k stops) l = refl
 
 -- a call that none of its own questions refuses is made where there is a junction or a road
 pub passed-there : (base : ℕ → Option ℕ) (h : Header) (c : Call) → refusalBy base h c ≡ none → 0 < h .n + h .m
@@ -73,17 +74,17 @@ passed-there base h c e = go (decLt 0 (h .n + h .m))
     go (no l) = let z = zero-refused base h c (omega arith) in absurd (none-some e (z .1))
 
 -- where no question says no, a step is what was made
-steps-made : (card : List ℕ) (h : Header) (a : Areas) (c : Call) → fitsBy h (length card) (lengths a) ≡ true
+steps-made : (card : List ℕ) (h : Header) (a : Areas) (c : Call) → fitsBy h card (lengths a) ≡ true
     → refusalBy (baseOn card) h c ≡ none → Left card (before h a)
-    → made (mapOn card) (before h a) (c .asked) (c .lent) ≡ step card (before h a) c
+    → made (cardMap card) (before h a) (c .asked) (c .lent) ≡ step card (before h a) c
 unfolding step
-steps-made card h a c f x w = let (_, fits) = and-true (inRange h) (fitting card (before h a)) f in rw (fits, same-questions w c, x)
+steps-made card h a c f x w = let (_, fits) = and-true (usable card h) (fitting card (before h a)) f in rw (fits, same-questions w c, x)
 
 -- ---- the two ways through a call
 
 module _ {card : List ℕ} {h : Header} {a : Areas} {c : Call} where
-  -- 9, of a header out of range too
-  refused-9 : fitsBy h (length card) (lengths a) ≡ false → CallContract card (before h a) c (refusing Lengths (before h a) c)
+  -- 9, of a header out of range and of a table that names other bodies too
+  refused-9 : fitsBy h card (lengths a) ≡ false → CallContract card (before h a) c (refusing Lengths (before h a) c)
   refused-9 e = record {
     lengths = λ f. refl;
     exact = λ w. go w (decide (fitting card (before h a)));
@@ -92,21 +93,21 @@ module _ {card : List ℕ} {h : Header} {a : Areas} {c : Call} where
     where
       go : Left card (before h a) → Tested (fitting card (before h a)) → refusing Lengths (before h a) c ≡ step card (before h a) c
       go w (inr f) = sym (step-lengths card (before h a) c f)
-      go w (inl f) = absurd (true-false (rw (left-in-range w, f)) e)
+      go w (inl f) = absurd (true-false (rw (left-usable w f, f)) e)
 
   -- the first question that says no
-  pub refused-by : {q : Refusal} → some q ≡ ask (fitsBy h (length card) (lengths a)) Lengths (refusalBy (baseOn card) h c)
+  pub refused-by : {q : Refusal} → some q ≡ ask (fitsBy h card (lengths a)) Lengths (refusalBy (baseOn card) h c)
       → CallContract card (before h a) c (refusing q (before h a) c)
   unfolding step
-  refused-by {q} e = go (decide (fitsBy h (length card) (lengths a)))
+  refused-by {q} e = go (decide (fitsBy h card (lengths a)))
     where
-      go : Tested (fitsBy h (length card) (lengths a)) → CallContract card (before h a) c (refusing q (before h a) c)
+      go : Tested (fitsBy h card (lengths a)) → CallContract card (before h a) c (refusing q (before h a) c)
       go (inr f) =
           let i : q ≡ Lengths = some-some refl (rw f at e) in
           subst (λ (x : Refusal). CallContract card (before h a) c (refusing x (before h a) c)) (sym i) (refused-9 f)
       go (inl f) =
           let x : refusalBy (baseOn card) h c ≡ some q = sym (rw f at e) in
-          let (_, fits) = and-true (inRange h) (fitting card (before h a)) f in
+          let (_, fits) = and-true (usable card h) (fitting card (before h a)) f in
           record {
             lengths = λ g. absurd (true-false f g);
             exact = λ w. stepped w fits x;
@@ -121,7 +122,7 @@ module _ {card : List ℕ} {h : Header} {a : Areas} {c : Call} where
           stepped w g x = rw (g, same-questions w c, x)
 
   -- no question says no
-  module _ (f : fitsBy h (length card) (lengths a) ≡ true) (x : refusalBy (baseOn card) h c ≡ none) where
+  module _ (f : fitsBy h card (lengths a) ≡ true) (x : refusalBy (baseOn card) h c ≡ none) where
     made-where : {r : Step} → (Left card (before h a) → r ≡ step card (before h a) c) → Writes (before h a) (c .asked) (c .lent) r
         → CallContract card (before h a) c r
     made-where e w = record {
@@ -131,11 +132,11 @@ module _ {card : List ℕ} {h : Header} {a : Areas} {c : Call} where
     }
 
     -- what a list of calls left, as the definition makes it
-    pub made-left : {r : Step} → (Left card (before h a) → r ≡ made (mapOn card) (before h a) (c .asked) (c .lent))
+    pub made-left : {r : Step} → (Left card (before h a) → r ≡ made (cardMap card) (before h a) (c .asked) (c .lent))
         → Writes (before h a) (c .asked) (c .lent) r → CallContract card (before h a) c r
     made-left e w = made-where (λ l. e l ∙ steps-made card h a c f x l) w
 
-    pub made-by : {r : Step} → (Good card (before h a) → r ≡ made (mapOn card) (before h a) (c .asked) (c .lent))
+    pub made-by : {r : Step} → (Good card (before h a) → r ≡ made (cardMap card) (before h a) (c .asked) (c .lent))
         → Writes (before h a) (c .asked) (c .lent) r → CallContract card (before h a) c r
     made-by e w = made-left (λ l. e (left-good l (passed-there (baseOn card) h c x))) w
 

@@ -11,7 +11,7 @@ targetIn (At z) = model.At (z .0)
 targetIn Absent = model.Absent
 
 abbrev pub headerIn : Header → model.Header
-headerIn h = record { n = h .sizes .n; m = h .sizes .m; pairs = h .sizes .pairs; target = targetIn (h .target) }
+headerIn h = record { n = h .sizes .n; m = h .sizes .m; pairs = h .sizes .pairs; card = h .sizes .card; target = targetIn (h .target) }
 
 abbrev pub answeredIn : Answered → model.Answered
 answeredIn r = record { header = headerIn (r .header); answer = answerIn (r .answer) }

@@ -69,9 +69,9 @@ fn and_then(first: Verdict, rest: Verdict) -> Verdict
 }
 
 impl Header {
-    // Question 9; a header out of range is refused too: no list of calls leaves one.
-    fn fits(self, card: usize, l: Lengths) -> bool
-        ensures { λ r. ⌜ r ≡ fitsBy (headerIn self) card (lengthsIn l) ⌝ }
+    // Question 9; a header out of range is refused too, and a card whose table names other bodies: no list of calls leaves one.
+    fn fits(self, card: &[u8], l: Lengths) -> bool
+        ensures { λ r. ⌜ r ≡ fitsBy (headerIn self) (now (card .entry)) (lengthsIn l) ⌝ }
     {
         let sizes = self.sizes;
         unit_questions::fits(sizes, card, l)
@@ -101,17 +101,16 @@ impl Header {
 
     // Questions 9 to 11 of a set.
     fn set_asked(self, card: &[u8], l: Lengths, road: u32, time: Time) -> Verdict
-        ensures { λ r. ⌜ verdictIn r ≡ asks (baseOn (now (card .entry))) (headerIn self) (length (now (card .entry))) (lengthsIn l)
+        ensures { λ r. ⌜ verdictIn r ≡ asks (baseOn (now (card .entry))) (headerIn self) (now (card .entry)) (lengthsIn l)
             (Set road (time .0)) 0 0 ⌝ }
     {
-        let m = self.sizes.m;
-        if !self.fits(card.len(), l) {
+        if !self.fits(card, l) {
             return Verdict::Failed(Refusal::LENGTHS);
         }
-        if m <= road {
+        if self.sizes.m <= road {
             return Verdict::Failed(Refusal::NO_ROAD);
         }
-        let base = network::base_of(card_layout::roads_of(card, m), road as usize);
+        let base = network::base_of(card_layout::roads_of(card), road as usize);
         network::ask(
             unit_questions::allowed(base, time),
             Refusal::NOT_ALLOWED,
@@ -120,8 +119,9 @@ impl Header {
     }
 
     // Questions 9 and 12 of an aim.
-    fn aim_asked(self, card: usize, l: Lengths, j: Junction) -> Verdict
-        ensures { λ r. ⌜ ((base : ℕ → Total) → verdictIn r ≡ asks base (headerIn self) card (lengthsIn l) (Aim (j .0)) 0 0) ⌝ }
+    fn aim_asked(self, card: &[u8], l: Lengths, j: Junction) -> Verdict
+        ensures { λ r. ⌜ ((base : ℕ → Total) → verdictIn r ≡ asks base (headerIn self) (now (card .entry)) (lengthsIn l)
+            (Aim (j .0)) 0 0) ⌝ }
     {
         let fits = self.fits(card, l);
         let below = j.0 < self.sizes.n;
@@ -130,8 +130,9 @@ impl Header {
     }
 
     // Questions 9, 12 and 13 of an estimate.
-    fn estimate_asked(self, card: usize, l: Lengths, j: Junction) -> Verdict
-        ensures { λ r. ⌜ ((base : ℕ → Total) → verdictIn r ≡ asks base (headerIn self) card (lengthsIn l) (Estimate (j .0)) 0 0) ⌝ }
+    fn estimate_asked(self, card: &[u8], l: Lengths, j: Junction) -> Verdict
+        ensures { λ r. ⌜ ((base : ℕ → Total) → verdictIn r ≡ asks base (headerIn self) (now (card .entry)) (lengthsIn l)
+            (Estimate (j .0)) 0 0) ⌝ }
     {
         let fits = self.fits(card, l);
         let below = j.0 < self.sizes.n;
@@ -141,12 +142,22 @@ impl Header {
         network::ask(fits, Refusal::LENGTHS, there)
     }
 
-    // Questions 9 and 12 to 14 of a go; then 9 for a target out of range, which no list of calls leaves.
-    fn go_asked(self, card: usize, l: Lengths, route: usize, log: usize, start: Junction) -> Verdict
-        ensures { λ r. ⌜ ((base : ℕ → Total) → verdictIn r ≡ asksTrip base (headerIn self) card (lengthsIn l) (Go (start .0)) route log) ⌝ }
+    // Questions 9, 18 and 12 to 14 of a go; then 9 for a target out of range, which no list of calls leaves.
+    fn go_asked(
+        self,
+        card: &[u8],
+        l: Lengths,
+        route: usize,
+        log: usize,
+        class: u32,
+        start: Junction,
+    ) -> Verdict
+        ensures { λ r. ⌜ ((base : ℕ → Total) → verdictIn r ≡ asksTrip base (headerIn self) (now (card .entry)) (lengthsIn l)
+            (Go class (start .0)) route log) ⌝ }
     {
         let n = self.sizes.n;
         let fits = self.fits(card, l);
+        let driven = unit_questions::class_fits(class);
         let below = start.0 < n;
         let aimed = self.is_aimed();
         let roomy = unit_questions::lent_fit(n, route, log);
@@ -155,7 +166,8 @@ impl Header {
         let lent = network::ask(roomy, Refusal::LENT_LENGTHS, led);
         let known = network::ask(aimed, Refusal::NO_TARGET, lent);
         let starts = network::ask(below, Refusal::NO_JUNCTION, known);
-        network::ask(fits, Refusal::LENGTHS, starts)
+        let classed = network::ask(driven, Refusal::NO_CLASS, starts);
+        network::ask(fits, Refusal::LENGTHS, classed)
     }
 
     // Questions 12 and 13 of a preview; then 9 for a target out of range, as a go.
@@ -171,24 +183,30 @@ impl Header {
         network::ask(below, Refusal::NO_JUNCTION, known)
     }
 
-    // Questions 9 to 13 of a preview: its work area's length first, then as a set of that road; then as a go from that start.
+    // Questions 9, 18 and 10 to 13 of a preview: 9, its work area's length first; the class; then as a set of that road, and as a go from
+    // that start.
     fn preview_asked(
         self,
         card: &[u8],
         l: Lengths,
         work: usize,
+        class: u32,
         road: u32,
         time: Time,
         start: Junction,
     ) -> Verdict
-        ensures { λ r. ⌜ verdictIn r ≡ asksTrip (baseOn (now (card .entry))) (headerIn self) (length (now (card .entry))) (lengthsIn l)
-            (Preview road (time .0) (start .0) work) 0 0 ⌝ }
+        ensures { λ r. ⌜ verdictIn r ≡ asksTrip (baseOn (now (card .entry))) (headerIn self) (now (card .entry)) (lengthsIn l)
+            (Preview class road (time .0) (start .0) work) 0 0 ⌝ }
     {
         let sized = unit_questions::work_fits(self.sizes.n, work);
+        let fits = self.fits(card, l);
+        let driven = unit_questions::class_fits(class);
         let setting = self.set_asked(card, l, road, time);
         let way = self.way_asked(start);
         let rest = and_then(setting, way);
-        network::ask(sized, Refusal::LENGTHS, rest)
+        let classed = network::ask(driven, Refusal::NO_CLASS, rest);
+        let fitted = network::ask(fits, Refusal::LENGTHS, classed);
+        network::ask(sized, Refusal::LENGTHS, fitted)
     }
 
     // ---- what is handed back
@@ -252,10 +270,10 @@ impl Header {
         requires { ⌜ (l .pairs ≡ length (now pairs)) × (l .down ≡ length (now down)) ⌝ }
         ensures { λ r. ⌜ AimPart (now (card .entry)) self (lengthsIn l) pairs down estimates (j .0) r ⌝ }
     {
-        match self.aim_asked(card.len(), l, j) {
+        match self.aim_asked(card, l, j) {
             Verdict::Failed(q) => self.answered(Answer::Refused(q)),
             Verdict::Passed => {
-                let order = card_layout::order_of(card, self.sizes.n, self.sizes.m);
+                let order = card_layout::order_of(card);
                 pairs_descents::down_totals(self.sizes.n, self.sizes.pairs, order, pairs, down, j);
                 areas::fill(estimates, Time::UNASKED.0);
                 self.answering(Target::At(j), Answer::Accepted)
@@ -276,10 +294,10 @@ impl Header {
         requires { ⌜ EstimateLengths (lengthsIn l) (now ranks) (now pairs) (now down) (now estimates) ⌝ }
         ensures { λ r. ⌜ EstimatePart (now (card .entry)) self (lengthsIn l) ranks pairs down estimates (j .0) r ⌝ }
     {
-        match self.estimate_asked(card.len(), l, j) {
+        match self.estimate_asked(card, l, j) {
             Verdict::Failed(q) => self.answered(Answer::Refused(q)),
             Verdict::Passed => {
-                let order = card_layout::order_of(card, self.sizes.n, self.sizes.m);
+                let order = card_layout::order_of(card);
                 let t = pairs_hierarchy::estimate(
                     self.sizes,
                     order,
@@ -387,7 +405,8 @@ impl Header {
         self.estimate_part(card, l, ranks, pairs, down, estimates, j)
     }
 
-    // The way from a start to the target at the live times: total, count and roads, or 15 with the count.
+    // The way of a class from a start to the target at the live times: total, count and roads, or 15 with the count. A road that is barred
+    // to the class counts as closed (document 02, A6).
     pub fn go(
         self,
         card: &[u8],
@@ -401,10 +420,11 @@ impl Header {
         groups: &[u32],
         route: &mut [u32],
         log: &mut [u32],
+        class: u32,
         start: Junction,
     ) -> Answered
         ensures { λ r. ⌜ Meets (now (card .entry)) self (areas ranks pairs live down estimates elapsed leaving groups) (lent route log)
-            (Go (start .0)) r ⌝ }
+            (Go class (start .0)) r ⌝ }
     {
         let l = unit_questions::lengths_of(
             ranks,
@@ -416,7 +436,7 @@ impl Header {
             leaving,
             groups,
         );
-        match self.go_asked(card.len(), l, route.len(), log.len(), start) {
+        match self.go_asked(card, l, route.len(), log.len(), class, start) {
             Verdict::Failed(q) => self.answered(Answer::Refused(q)),
             Verdict::Passed => {
                 let sizes = self.sizes;
@@ -424,14 +444,16 @@ impl Header {
                     sizes: sizes,
                     start: start,
                     target: self.aimed_at(),
+                    class: class,
                     view: View::Live,
                 };
                 let found = search::search(
                     trip,
-                    card_layout::roads_of(card, self.sizes.m),
-                    card_layout::order_of(card, self.sizes.n, self.sizes.m),
+                    card_layout::roads_of(card),
+                    card_layout::order_of(card),
                     ranks,
                     pairs,
+                    card_layout::access_of(card),
                     live,
                     down,
                     leaving,
@@ -446,8 +468,8 @@ impl Header {
         }
     }
 
-    // What if that road took so long? Go's total from a start now and with that time set, and the change (document 02, A2). The work area
-    // serves the two searches; what it holds before and after does not matter.
+    // What if that road took so long? The total of a class's go from a start now and with that time set, and the change (document 02, A2).
+    // The work area serves the two searches; what it holds before and after does not matter.
     pub fn preview(
         self,
         card: &[u8],
@@ -460,12 +482,13 @@ impl Header {
         leaving: &[u32],
         groups: &[u32],
         work: &mut [TimeWord],
+        class: u32,
         road: u32,
         time: Time,
         start: Junction,
     ) -> Answered
         ensures { λ r. ⌜ MeetsPreview (now (card .entry)) self (areas ranks pairs live down estimates elapsed leaving groups)
-            (now (work .entry)) (now (work .exit)) road (time .0) (start .0) r ⌝ }
+            (now (work .entry)) (now (work .exit)) class road (time .0) (start .0) r ⌝ }
     {
         let l = unit_questions::lengths_of(
             ranks,
@@ -477,7 +500,7 @@ impl Header {
             leaving,
             groups,
         );
-        match self.preview_asked(card, l, work.len(), road, time, start) {
+        match self.preview_asked(card, l, work.len(), class, road, time, start) {
             Verdict::Failed(q) => self.answered(Answer::Refused(q)),
             Verdict::Passed => {
                 let sizes = self.sizes;
@@ -485,15 +508,17 @@ impl Header {
                     sizes: sizes,
                     start: start,
                     target: self.aimed_at(),
+                    class: class,
                     view: View::Live,
                 };
                 let found = search::totals(
                     trip,
                     View::Set(road, time),
-                    card_layout::roads_of(card, self.sizes.m),
-                    card_layout::order_of(card, self.sizes.n, self.sizes.m),
+                    card_layout::roads_of(card),
+                    card_layout::order_of(card),
                     ranks,
                     pairs,
+                    card_layout::access_of(card),
                     live,
                     down,
                     leaving,
@@ -564,7 +589,7 @@ pub fn call(
             groups,
             j,
         ),
-        Call::Go(start) => header.go(
+        Call::Go(class, start) => header.go(
             card,
             ranks,
             pairs,
@@ -576,6 +601,7 @@ pub fn call(
             groups,
             route,
             log,
+            class,
             start,
         ),
     }

@@ -34,4 +34,4 @@ abbrev pub callIn : Call → calls.Asked
 callIn (Set i t) = calls.Set i (t .0)
 callIn (Aim j) = calls.Aim (j .0)
 callIn (Estimate j) = calls.Estimate (j .0)
-callIn (Go j) = calls.Go (j .0)
+callIn (Go c j) = calls.Go c (j .0)

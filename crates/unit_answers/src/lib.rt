@@ -10,12 +10,12 @@ use network::Junction;
 use network::Refusal;
 use network::Time;
 
-// One of document 01's four calls with its arguments.
+// One of document 01's four calls with its arguments; a go has a class and a start (document 02, A6).
 pub enum Call {
     Set(u32, Time),
     Aim(Junction),
     Estimate(Junction),
-    Go(Junction),
+    Go(u32, Junction),
 }
 
 // A total, or none.

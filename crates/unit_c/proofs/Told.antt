@@ -83,20 +83,20 @@ module _ {card : List ℕ} {a : Both Areas Areas} {c : Asked} {h k : Header} {w 
   pub alone-told : MeetsAlone card h a c x → Tells (MeetsAlone card k a c) w
   alone-told m = (x, told, subst (λ (y : Header). MeetsAlone card y a c x) e m)
 
-pub preview-told : {card : List ℕ} {a : Both Areas Areas} {work work′ : List ℕ} {road time start : ℕ} {h k : Header} {w : UnitAnswer}
-    (x : Answered) → h ≡ k → w ≡ answerWords x → MeetsPreview card h a work work′ road time start x
-    → Tells (MeetsPreview card k a work work′ road time start) w
-preview-told {card} {a} {work} {work′} {road} {time} {start} x e told m =
-    (x, told, subst (λ (y : Header). MeetsPreview card y a work work′ road time start x) e m)
+pub preview-told : {card : List ℕ} {a : Both Areas Areas} {work work′ : List ℕ} {class road time start : ℕ} {h k : Header}
+    {w : UnitAnswer} (x : Answered) → h ≡ k → w ≡ answerWords x → MeetsPreview card h a work work′ class road time start x
+    → Tells (MeetsPreview card k a work work′ class road time start) w
+preview-told {card} {a} {work} {work′} {class} {road} {time} {start} x e told m =
+    (x, told, subst (λ (y : Header). MeetsPreview card y a work work′ class road time start x) e m)
 
 -- ---- a list of stops
 
 pub stopping-told : {h k : UnitHeader} {x y : Stopping} (l : Legs) → h ≡ k → y ≡ x → stoppingTo h x l ≡ stoppingTo k y l
 stopping-told l p q = ap₂ (λ (u : UnitHeader) (z : Stopping). stoppingTo u z l) p (sym q)
 
-pub stops-told : {card : List ℕ} {a : Both Areas Areas} {l : Both Lent Lent} {stops : List ℕ} {h k : Header} {w : UnitStops} (x : Stopped)
-    → h ≡ k → w ≡ stopsWords x → MeetsStops card h a l stops x → TellsStops (MeetsStops card k a l stops) w
-stops-told {card} {a} {l} {stops} x e told m = (x, told, subst (λ (y : Header). MeetsStops card y a l stops x) e m)
+pub stops-told : {card : List ℕ} {a : Both Areas Areas} {l : Both Lent Lent} {c : ℕ} {stops : List ℕ} {h k : Header} {w : UnitStops}
+    (x : Stopped) → h ≡ k → w ≡ stopsWords x → MeetsStops card h a l c stops x → TellsStops (MeetsStops card k a l c stops) w
+stops-told {card} {a} {l} {c} {stops} x e told m = (x, told, subst (λ (y : Header). MeetsStops card y a l c stops x) e m)
 
 -- ---- the card
 

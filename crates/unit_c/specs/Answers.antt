@@ -26,11 +26,12 @@ targetOf a t = cond (eqb a 0) Absent (At (record { 0 = t }))
 
 -- the header that C's words stand for
 abbrev pub headerOf : UnitHeader → Header
-headerOf h = record { sizes = record { n = h .n; m = h .m; pairs = h .pairs }; target = targetOf (h .aimed) (h .target) }
+headerOf h =
+    record { sizes = record { n = h .n; m = h .m; pairs = h .pairs; card = h .card }; target = targetOf (h .aimed) (h .target) }
 
 abbrev pub headerTo : Sizes → Target → UnitHeader
-headerTo s Absent = record { n = s .n; m = s .m; pairs = s .pairs; aimed = 0; target = 0 }
-headerTo s (At z) = record { n = s .n; m = s .m; pairs = s .pairs; aimed = 1; target = z .0 }
+headerTo s Absent = record { n = s .n; m = s .m; pairs = s .pairs; card = s .card; aimed = 0; target = 0 }
+headerTo s (At z) = record { n = s .n; m = s .m; pairs = s .pairs; card = s .card; aimed = 1; target = z .0 }
 
 -- the words that stand for a header
 abbrev pub headerWords : Header → UnitHeader

@@ -33,12 +33,13 @@ use unit_stops::Stopping;
 
 // ---- headers and answers as C holds them
 
-// A header as C holds it: `aimed` is 0 where there is no target, and `target` is 0 then.
+// A header as C holds it: `card` is the card's length; `aimed` is 0 where there is no target, and `target` is 0 then.
 #[repr(C)]
 pub struct UnitHeader {
     pub n: u32,
     pub m: u32,
     pub pairs: u32,
+    pub card: u32,
     pub aimed: u32,
     pub target: u32,
 }
@@ -94,6 +95,7 @@ fn header_of(h: UnitHeader) -> Header
             n: h.n,
             m: h.m,
             pairs: h.pairs,
+            card: h.card,
         },
         target: target,
     }
@@ -110,6 +112,7 @@ fn words_of(h: Header) -> UnitHeader
             n: s.n,
             m: s.m,
             pairs: s.pairs,
+            card: s.card,
             aimed: 0,
             target: 0,
         },
@@ -117,6 +120,7 @@ fn words_of(h: Header) -> UnitHeader
             n: s.n,
             m: s.m,
             pairs: s.pairs,
+            card: s.card,
             aimed: 1,
             target: z.0,
         },
@@ -400,7 +404,7 @@ pub extern "C" fn unit_estimate(
     ))
 }
 
-// The way from a start to the target.
+// The way of a class from a start to the target.
 #[no_mangle]
 pub extern "C" fn unit_go(
     header: UnitHeader,
@@ -415,10 +419,11 @@ pub extern "C" fn unit_go(
     groups: &[u32],
     route: &mut [u32],
     log: &mut [u32],
+    class: u32,
     start: u32,
 ) -> UnitAnswer
     ensures { λ r. ⌜ Tells (Meets (now (card .entry)) (headerOf header) (areas ranks pairs live down estimates elapsed leaving groups)
-        (lent route log) (Go start)) r ⌝ }
+        (lent route log) (Go class start)) r ⌝ }
 {
     let h = header_of(header);
     answer_of(h.go(
@@ -433,11 +438,12 @@ pub extern "C" fn unit_go(
         groups,
         route,
         log,
+        class,
         Junction(start),
     ))
 }
 
-// The totals from a start now and with a road's time set, and their change.
+// The totals of a class from a start now and with a road's time set, and their change.
 #[no_mangle]
 pub extern "C" fn unit_preview(
     header: UnitHeader,
@@ -451,12 +457,13 @@ pub extern "C" fn unit_preview(
     leaving: &[u32],
     groups: &[u32],
     work: &mut [TimeWord],
+    class: u32,
     road: u32,
     time: TimeWord,
     start: u32,
 ) -> UnitAnswer
     ensures { λ r. ⌜ Tells (MeetsPreview (now (card .entry)) (headerOf header)
-        (areas ranks pairs live down estimates elapsed leaving groups) (now (work .entry)) (now (work .exit)) road time start) r ⌝ }
+        (areas ranks pairs live down estimates elapsed leaving groups) (now (work .entry)) (now (work .exit)) class road time start) r ⌝ }
 {
     let h = header_of(header);
     answer_of(h.preview(
@@ -470,13 +477,14 @@ pub extern "C" fn unit_preview(
         leaving,
         groups,
         work,
+        class,
         road,
         Time(time),
         Junction(start),
     ))
 }
 
-// Calls at the stops in their order.
+// A class calls at the stops in their order.
 #[no_mangle]
 pub extern "C" fn unit_stops(
     header: UnitHeader,
@@ -491,10 +499,11 @@ pub extern "C" fn unit_stops(
     groups: &[u32],
     route: &mut [u32],
     log: &mut [u32],
+    class: u32,
     stops: &[u32],
 ) -> UnitStops
     ensures { λ r. ⌜ TellsStops (MeetsStops (now (card .entry)) (headerOf header)
-        (areas ranks pairs live down estimates elapsed leaving groups) (lent route log) (now (stops .entry))) r ⌝ }
+        (areas ranks pairs live down estimates elapsed leaving groups) (lent route log) class (now (stops .entry))) r ⌝ }
 {
     let h = header_of(header);
     stopped_of(unit_stops::stops(
@@ -510,6 +519,7 @@ pub extern "C" fn unit_stops(
         groups,
         route,
         log,
+        class,
         stops,
     ))
 }
@@ -517,12 +527,12 @@ pub extern "C" fn unit_stops(
 // ---- a script
 
 // Prepares a card on the eight areas and makes the calls of a script: a kind, and as many words as that call has. 0 road time is a set,
-// 1 junction an aim, 2 junction an estimate, 3 start r l a go, which is lent the first r entries of the route and l of the log, all if
-// there are fewer, 4 road time start a preview, which is lent the work area, 5 s r l and then s stops a list of stops, lent as a go. Any
-// other kind ends the script, and so does a call that is cut short. `out` gets 66 words for each answer: the question that refuses, or 0;
-// estimate, total or the leg of 17; count; number of roads; of a preview 0, present total, new total, change as two's complement; of a list
-// of stops 0, whole total, 0, number of legs; then total and number of roads of each of 31 legs, 0 where there is none. As many calls are
-// made as `out` has room for. What is handed back is preparing's answer with the last header.
+// 1 junction an aim, 2 junction an estimate, 3 class start r l a go, which is lent the first r entries of the route and l of the log, all
+// if there are fewer, 4 class road time start a preview, which is lent the work area, 5 class s r l and then s stops a list of stops, lent
+// as a go. Any other kind ends the script, and so does a call that is cut short. `out` gets 66 words for each answer: the question that
+// refuses, or 0; estimate, total or the leg of 17; count; number of roads; of a preview 0, present total, new total, change as two's
+// complement; of a list of stops 0, whole total, 0, number of legs; then total and number of roads of each of 31 legs, 0 where there is
+// none. As many calls are made as `out` has room for. What is handed back is preparing's answer with the last header.
 #[no_mangle]
 pub extern "C" fn unit_replay(
     card: &[u8],

@@ -10,13 +10,12 @@ use Rattle.graph.specs.Map.{Map, pairsOf, rank}
 use Rattle.model.specs.Types.{Absent, Accepted, AreaLengths, Refused, Room}
 use Rattle.model.specs.Word.{noneWord, unasked, word}
 use Rattle.model.specs.Bytes.{listed}
-use Rattle.model.specs.Layout.{cardSize, placeSize, roadSize}
+use Rattle.model.specs.Layout.{orderIn, placeSize, roadSize, roadsIn}
 use Rattle.model.specs.Card.{cardRefusal, mapOn}
 use Rattle.model.specs.Areas.{Areas, Each, areasOf, freshAreas, groupsOf, leavingOf, lengths, lengthsFit, recordSize, recordsIn}
 use Rattle.model.specs.State.{answering, areasRefusal, noneLent, prepare, roomRefusal, unprepared}
 use Rattle.model.specs.Contracts.{PrepareContract, before}
 use Rattle.model.specs.Laws.{andThen-none, ask-none}
-use Rattle.model.specs.Accept.{card-facts}
 use Rattle.model.specs.Good.{LengthFacts, lengths-facts}
 use Rattle.model.specs.Ends.{listed-same}
 use Rattle.network.specs.Bodies.{Prepared, Sound, base-in, map-facts, mapIn}
@@ -26,7 +25,7 @@ use Rattle.road_groups.specs.OnMap.{made-on-map, tails-on-map}
 use Rattle.pairs_contraction.specs.Contraction.{Contraction, contraction-overflow}
 use Rattle.pairs_contraction.specs.declared.Contracted.{Contracted}
 use Rattle.pairs_contraction.specs.declared.Contracted.the-variants.{Kept, Overflow}
-use Rattle.card_layout.specs.Parts.{card-sound, map-is, orderIn, roadsIn}
+use Rattle.card_layout.specs.Parts.{card-sound}
 use Rattle.unit_preparing.specs.Preparing.{Accepts, baseIn, handedBack}
 use Rattle.unit_preparing.proofs.Areas.{alike-same, zerosOf}
 
@@ -45,25 +44,18 @@ module _ {card : List ℕ} {s : Sizes} {a : Areas} (ok : Accepts card s a) where
       let q = andThen-none (cardRefusal card) _ (ok .passes) .1 in
       lengths-facts (M .vertices) (M .base .arcs) 0 (lengths a) (ask-none fits AreaLengths none q .0)
 
-  pub card-size : length card ≡ cardSize (s .n) (s .m)
-  card-size = let c = card-facts card accepted in omega (arith, c .size, ok .n-is, ok .m-is)
-
 -- the two bodies of the card, handed on
 pub record Bodies (card : List ℕ) (s : Sizes) (a : Areas) (roads order : List ℕ) : Type 0 where
   pub accepts : Accepts card s a
-  pub roads-here : roads ≡ roadsIn card (s .m)
-  pub order-here : order ≡ orderIn card (s .n) (s .m)
+  pub roads-here : roads ≡ roadsIn card
+  pub order-here : order ≡ orderIn card
 
 module _ {card : List ℕ} {s : Sizes} {a : Areas} {roads order : List ℕ} (b : Bodies card s a roads order) where
   pub sound : Sound roads order
-  sound =
-      let ok = b .accepts in
-      subst₂ Sound (sym (b .roads-here)) (sym (b .order-here)) (card-sound card (accepted ok) (s .n) (s .m) (ok .n-is) (ok .m-is))
+  sound = subst₂ Sound (sym (b .roads-here)) (sym (b .order-here)) (card-sound card (accepted (b .accepts)))
 
   pub map-here : mapIn roads order ≡ mapOn card
-  map-here =
-      let ok = b .accepts in
-      ap₂ mapIn (b .roads-here) (b .order-here) ∙ map-is card (accepted ok) (s .n) (s .m) (ok .n-is) (ok .m-is)
+  map-here = ap₂ mapIn (b .roads-here) (b .order-here)
 
   pub order-long : length order ≡ placeSize * length (a .built .ranks)
   order-long = omega (arith, map-facts sound .order-is, ap (λ (M : Map). M .vertices) map-here, sized (b .accepts) .ranks)
@@ -132,6 +124,7 @@ module _ {card : List ℕ} {s : Sizes} {a : Areas} {roads order : List ℕ} (b :
       let M = mapOn card in
       let n-is = b .accepts .n-is in
       let m-is = b .accepts .m-is in
+      let card-is = b .accepts .card-is in
       let count-is = p .count-is ∙ ap (λ (M : Map). length (pairsOf M)) map-here in
       let (leaving-is, groups-are) = by-tail groups-made in
       let fresh = alike-same {y = freshAreas M (length (a .built .pairs))} (record {
@@ -145,4 +138,6 @@ module _ {card : List ℕ} {s : Sizes} {a : Areas} {roads order : List ℕ} (b :
         groups = groups-are;
       }) in
       rw (b .accepts .passes, le-leb (recordSize * length (pairsOf M)) (length (a .built .pairs)) (omega (arith, p .room, count-is, k)))
-      (λ i. answering Accepted (before (record { n = n-is i; m = m-is i; pairs = count-is i; target = Absent }) (fresh i)) noneLent)
+      (λ i.
+      answering Accepted (before (record { n = n-is i; m = m-is i; pairs = count-is i; card = card-is i; target = Absent }) (fresh i))
+      noneLent)

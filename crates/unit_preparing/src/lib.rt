@@ -64,8 +64,8 @@ pub fn prepare_areas(
     requires { ⌜ Accepts (now card) s (held ranks pairs live down estimates elapsed leaving groups) ⌝ }
     ensures { λ z. ⌜ Prepares (now (card .entry)) (areas ranks pairs live down estimates elapsed leaving groups) (handedBack s z) ⌝ }
 {
-    let roads = card_layout::roads_of(card, s.m);
-    let order = card_layout::order_of(card, s.n, s.m);
+    let roads = card_layout::roads_of(card);
+    let order = card_layout::order_of(card);
     pairs_contraction::fill_ranks(order, ranks);
     match pairs_contraction::contract(roads, order, ranks, pairs) {
         Contracted::Overflow => {

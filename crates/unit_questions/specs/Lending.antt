@@ -2,10 +2,11 @@
 use mathlib.Core.Bool.{Bool, _&&_}
 use mathlib.Core.List.{List}
 use Prim.Native.Nat.{ℕ}
+use lib.ListN.{length}
 use denote.Triple.Both.{Both}
 use Rattle.model.specs.Types.{Header}
 use Rattle.model.specs.Areas.{Each, areasOf}
-use Rattle.model.specs.State.{Lent, inRange, question9}
+use Rattle.model.specs.State.{Lent, question9, usable}
 use Rattle.network.specs.Lending.{Slice}
 use Rattle.unit_questions.specs.declared.Lengths.{Lengths}
 
@@ -25,6 +26,6 @@ untouched l = record { entry = l; exit = l }
 abbrev pub lengthsIn : Lengths → Each ℕ
 lengthsIn l = areasOf (l .ranks) (l .pairs) (l .live) (l .down) (l .estimates) (l .elapsed) (l .leaving) (l .groups)
 
--- 9, of a header in range
-abbrev pub fitsBy : Header → (card : ℕ) → Each ℕ → Bool
-fitsBy h card l = inRange h && question9 (h .n) (h .m) (h .pairs) card l
+-- 9, of a header in range and a card whose table names its bodies
+abbrev pub fitsBy : Header → (card : List ℕ) → Each ℕ → Bool
+fitsBy h card l = usable card h && question9 (h .n) (h .m) (h .pairs) (h .card) (length card) l

@@ -1,10 +1,12 @@
-// Questions 7, 9, 11 and 14 on numbers, and 9 of a preview's work area.
+// Questions 7, 9, 11, 14 and 18 on numbers, and 9 of a preview's work area.
 ghost use mathlib.Core.Path.{_≡_};
 ghost use mathlib.Core.Bool.{_&&_};
 ghost use mathlib.Core.Option.{some};
-ghost use lib.Dec.{eqb, leb};
+ghost use lib.Dec.{eqb, leb, ltb};
+ghost use lib.ListN.{length};
 ghost use Rattle.model.specs.Word.{ofWord};
-ghost use Rattle.model.specs.Limits.{mostJunctions, mostRoads};
+ghost use Rattle.model.specs.Limits.{classes, mostJunctions, mostRoads};
+ghost use Rattle.model.specs.Layout.{named};
 ghost use Rattle.model.specs.Areas.{lengths, lengthsFit, roomFits};
 ghost use Rattle.model.specs.State.{question9};
 ghost use Rattle.model.specs.Set.{settable};
@@ -77,13 +79,23 @@ pub fn lengths_fit(s: Sizes, l: Lengths) -> bool
         & (l.groups == n + 1)
 }
 
-// Question 9, of the header's numbers and the lengths. A header out of range is refused too: no list of calls leaves one.
-pub fn fits(s: Sizes, card: usize, l: Lengths) -> bool
-    ensures { λ r. ⌜ r ≡ (leb (s .n) mostJunctions && leb (s .m) mostRoads && question9 (s .n) (s .m) (s .pairs) card (lengthsIn l)) ⌝ }
+// Question 9, of the header's numbers, the card and the lengths. A header out of range is refused too, and a card whose table names other
+// bodies: no list of calls leaves one.
+pub fn fits(s: Sizes, card: &[u8], l: Lengths) -> bool
+    ensures { λ r. ⌜ r ≡ (leb (s .n) mostJunctions && leb (s .m) mostRoads && named (now (card .entry)) (s .n) (s .m)
+        && question9 (s .n) (s .m) (s .pairs) (s .card) (length (now (card .entry))) (lengthsIn l)) ⌝ }
 {
     (s.n <= network::MOST_JUNCTIONS)
         & (s.m <= network::MOST_ROADS)
-        & ((card == card_layout::card_size(s.n, s.m)) & lengths_fit(s, l))
+        & card_layout::named(card, s.n, s.m)
+        & ((card.len() == s.card as usize) & lengths_fit(s, l))
+}
+
+// Question 18.
+pub fn class_fits(class: u32) -> bool
+    ensures { λ r. ⌜ r ≡ ltb class classes ⌝ }
+{
+    class < network::CLASSES
 }
 
 // Question 9, of a preview's work area.

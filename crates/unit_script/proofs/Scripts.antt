@@ -11,9 +11,8 @@ use lib.Seq.{drop-append-add, drop-drop, length-take-le, take-at}
 use native.Mathlib.Nat.{sub-zero}
 use native.Mathlib.Omega.{arith}
 use Rattle.graph.specs.Total.{Tested, and-true, decide}
-use Rattle.graph.specs.Map.{Map}
 use Rattle.model.specs.Types.{Accepted, Answer, Answered, Header}
-use Rattle.model.specs.Card.{mapOn}
+use Rattle.model.specs.Card.{CardMap, cardMap, mapOn}
 use Rattle.model.specs.Areas.{Areas}
 use Rattle.model.specs.State.{Lent, State, Step, first, prepare}
 use Rattle.model.specs.Machine.{Machine, started}
@@ -174,10 +173,10 @@ module _ {card : List ℕ} {h : Header} {a b : Areas} {l : Lent} (x : Answered) 
       (one-made {x = x} route-fits log-fits c nr nl header-is words-are)
 
   -- a preview, which leaves route and log as they were
-  pub preview-made : {i : ℕ} {t : Time} {j : Junction} → s .asked ≡ scripts.Preview i t j
-      → ((y : Lent) → CallContract card (before h a) (calling (Preview i (t .0) (j .0) w) y) (after x b y))
+  pub preview-made : {v i : ℕ} {t : Time} {j : Junction} → s .asked ≡ scripts.Preview v i t j
+      → ((y : Lent) → CallContract card (before h a) (calling (Preview v i (t .0) (j .0) w) y) (after x b y))
       → OneContract card h (record { entry = a; exit = b }) (record { entry = l; exit = l }) (scriptedIn s w stops) k words
-  preview-made {i} {t} {j} e c =
+  preview-made {v} {i} {t} {j} e c =
       subst (λ (m : Lent). OneContract card h (record { entry = a; exit = b }) (record { entry = l; exit = m })
       (scriptedIn s w stops) k words)
       (put-back (s .route) (s .log) l)
@@ -311,11 +310,12 @@ module _ {card script work₀ work : List ℕ} {room at k : ℕ} {out₀ out : L
 
 -- ---- the machine's answers
 
-machine-answers : (M : Map) (m : Machine) (l : List Call) (r : List Step) → Demand3 M m l r → answersOf r ≡ machineAnswers M m (map plain l)
-machine-answers M m [] [] d = refl
-machine-answers M m [] (u ∷ r) d = absurd d
-machine-answers M m (c ∷ l) [] d = absurd d
-machine-answers M m (c ∷ l) (u ∷ r) d = ap₂ _∷_ (d .0 .same .answer) (machine-answers M (machineStep M m (plain c) .next) l r (d .1))
+machine-answers : (C : CardMap) (m : Machine) (l : List Call) (r : List Step) → Demand3 C m l r
+    → answersOf r ≡ machineAnswers C m (map plain l)
+machine-answers C m [] [] d = refl
+machine-answers C m [] (u ∷ r) d = absurd d
+machine-answers C m (c ∷ l) [] d = absurd d
+machine-answers C m (c ∷ l) (u ∷ r) d = ap₂ _∷_ (d .0 .same .answer) (machine-answers C (machineStep C m (plain c) .next) l r (d .1))
 
 -- from a preparing on the areas a, which left a′ and handed back y
 pub replay-made : {card : List ℕ} {a b : Areas} {l m : Lent} {w : ℕ} {script out₀ out : List ℕ} {a′ : Areas} (y : Answered) {x : Answered}
@@ -326,7 +326,7 @@ replay-made {card} {a} {b} {l} {m} {w} {script} {out₀} {out} y {x} e f c =
     let spelled : List Plain = callsIn script (lending l w) out₀ in
     let run : Made card spelled out₀ out (begun card a l) (holding (x .header) b m) =
     subst (λ (u : Step). Made card spelled out₀ out (record { state = u .state; lent = l }) (holding (x .header) b m)) e c in
-    let demand : prepare card a .answer ≡ Accepted → Demand3 (mapOn card) (started (mapOn card)) (run .calls) (run .results) =
+    let demand : prepare card a .answer ≡ Accepted → Demand3 (cardMap card) (started (mapOn card)) (run .calls) (run .results) =
     λ q. chain-demand3 card a q (run .calls) (run .results) (run .meets) in
     record {
       prepared = f ∙ ap (λ (u : Step). u .answer) e;
@@ -336,6 +336,6 @@ replay-made {card} {a} {b} {l} {m} {w} {script} {out₀} {out} y {x} e f c =
       machine = λ q.
           run .written
           ∙ ap (λ (z : List Answer). first (told z) out₀)
-          (machine-answers (mapOn card) (started (mapOn card)) (run .calls) (run .results) (demand q)
-          ∙ ap (machineAnswers (mapOn card) (started (mapOn card))) (run .fed));
+          (machine-answers (cardMap card) (started (mapOn card)) (run .calls) (run .results) (demand q)
+          ∙ ap (machineAnswers (cardMap card) (started (mapOn card))) (run .fed));
     }

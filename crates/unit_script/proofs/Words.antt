@@ -16,42 +16,42 @@ use Rattle.unit_script.specs.Words.{Lending, callAt, endAt, spelled, sto
 
 -- ---- the words of a call
 
-pub stops-words : {kind : ℕ} (next : ℕ) → kind ≡ 5 → 4 + next ≡ wordsOf kind next
-stops-words next e = rw e
+pub stops-words : {kind : ℕ} (stops : ℕ) → kind ≡ 5 → 5 + stops ≡ wordsOf kind stops
+stops-words stops e = rw e
 
-pub none-of : {kind : ℕ} (next : ℕ) → kind ≢ 0 → kind ≢ 1 → kind ≢ 2 → kind ≢ 3 → kind ≢ 4 → kind ≢ 5 → 0 ≡ wordsOf kind next
-none-of {kind = zero} next a b c d e f = absurd (a refl)
-none-of {kind = suc zero} next a b c d e f = absurd (b refl)
-none-of {kind = suc (suc zero)} next a b c d e f = absurd (c refl)
-none-of {kind = suc (suc (suc zero))} next a b c d e f = absurd (d refl)
-none-of {kind = suc (suc (suc (suc zero)))} next a b c d e f = absurd (e refl)
-none-of {kind = suc (suc (suc (suc (suc zero))))} next a b c d e f = absurd (f refl)
-none-of {kind = suc (suc (suc (suc (suc (suc k)))))} next a b c d e f = refl
+pub none-of : {kind : ℕ} (stops : ℕ) → kind ≢ 0 → kind ≢ 1 → kind ≢ 2 → kind ≢ 3 → kind ≢ 4 → kind ≢ 5 → 0 ≡ wordsOf kind stops
+none-of {kind = zero} stops a b c d e f = absurd (a refl)
+none-of {kind = suc zero} stops a b c d e f = absurd (b refl)
+none-of {kind = suc (suc zero)} stops a b c d e f = absurd (c refl)
+none-of {kind = suc (suc (suc zero))} stops a b c d e f = absurd (d refl)
+none-of {kind = suc (suc (suc (suc zero)))} stops a b c d e f = absurd (e refl)
+none-of {kind = suc (suc (suc (suc (suc zero))))} stops a b c d e f = absurd (f refl)
+none-of {kind = suc (suc (suc (suc (suc (suc k)))))} stops a b c d e f = refl
 
 -- a call of a kind is what its words spell
-module _ (one two three : ℕ) (stops : List ℕ) (l : Lending) where
-  pub spells-set : {kind t : ℕ} → kind ≡ 0 → t ≡ two → withAll l (Set one t) ≡ spelled kind one two three stops l
+module _ (one two three four : ℕ) (stops : List ℕ) (l : Lending) where
+  pub spells-set : {kind t : ℕ} → kind ≡ 0 → t ≡ two → withAll l (Set one t) ≡ spelled kind one two three four stops l
   spells-set e f = rw (e, f)
 
-  pub spells : {kind k : ℕ} → kind ≡ k → spelled k one two three stops l ≡ spelled kind one two three stops l
+  pub spells : {kind k : ℕ} → kind ≡ k → spelled k one two three four stops l ≡ spelled kind one two three four stops l
   spells e = rw e
 
-  pub spells-preview : {kind t : ℕ} → kind ≡ 4 → t ≡ two
-      → withAll l (Preview one t three (l .work)) ≡ spelled kind one two three stops l
+  pub spells-preview : {kind t : ℕ} → kind ≡ 4 → t ≡ three
+      → withAll l (Preview one two t four (l .work)) ≡ spelled kind one two three four stops l
   spells-preview e f = rw (e, f)
 
-  module _ {kind i j : ℕ} (route-is : i ≡ min two (l .route)) (log-is : j ≡ min three (l .log)) where
-    pub spells-go : kind ≡ 3 → _≡_ {A = Plain} (record { asked = Go one; route = i; log = j }) (spelled kind one two three stops l)
+  module _ {kind i j : ℕ} (route-is : i ≡ min three (l .route)) (log-is : j ≡ min four (l .log)) where
+    pub spells-go : kind ≡ 3 → _≡_ {A = Plain} (record { asked = Go one two; route = i; log = j }) (spelled kind one two three four stops l)
     spells-go e = rw (e, route-is, log-is)
 
     pub spells-stops : kind ≢ 0 → kind ≢ 1 → kind ≢ 2 → kind ≢ 4 → kind ≢ 3
-        → _≡_ {A = Plain} (record { asked = Stops stops; route = i; log = j }) (spelled kind one two three stops l)
+        → _≡_ {A = Plain} (record { asked = Stops one stops; route = i; log = j }) (spelled kind one two three four stops l)
     spells-stops a b c d e =
-        ap₂ (λ (x : ℕ) (y : ℕ). record { asked = Stops stops; route = x; log = y }) route-is log-is ∙ go kind a b c d e
+        ap₂ (λ (x : ℕ) (y : ℕ). record { asked = Stops one stops; route = x; log = y }) route-is log-is ∙ go kind a b c d e
       where
         go : (k : ℕ) → k ≢ 0 → k ≢ 1 → k ≢ 2 → k ≢ 4 → k ≢ 3
-            → _≡_ {A = Plain} (record { asked = Stops stops; route = min two (l .route); log = min three (l .log) })
-            (spelled k one two three stops l)
+            → _≡_ {A = Plain} (record { asked = Stops one stops; route = min three (l .route); log = min four (l .log) })
+            (spelled k one two three four stops l)
         go zero a b c d e = absurd (a refl)
         go (suc zero) a b c d e = absurd (b refl)
         go (suc (suc zero)) a b c d e = absurd (c refl)
@@ -60,14 +60,14 @@ module _ (one two three : ℕ) (stops : List ℕ) (l : Lending) where
         go (suc (suc (suc (suc (suc k))))) a b c d e = refl
 
 -- it is lent no more entries than there are
-spelled-fits : (kind one two three : ℕ) (stops : List ℕ) (l : Lending)
-    → (spelled kind one two three stops l .route ≤ l .route) × (spelled kind one two three stops l .log ≤ l .log)
-spelled-fits zero one two three stops l = (omega arith, omega arith)
-spelled-fits (suc zero) one two three stops l = (omega arith, omega arith)
-spelled-fits (suc (suc zero)) one two three stops l = (omega arith, omega arith)
-spelled-fits (suc (suc (suc zero))) one two three stops l = (omega arith, omega arith)
-spelled-fits (suc (suc (suc (suc zero)))) one two three stops l = (omega arith, omega arith)
-spelled-fits (suc (suc (suc (suc (suc k))))) one two three stops l = (omega arith, omega arith)
+spelled-fits : (kind one two three four : ℕ) (stops : List ℕ) (l : Lending)
+    → (spelled kind one two three four stops l .route ≤ l .route) × (spelled kind one two three four stops l .log ≤ l .log)
+spelled-fits zero one two three four stops l = (omega arith, omega arith)
+spelled-fits (suc zero) one two three four stops l = (omega arith, omega arith)
+spelled-fits (suc (suc zero)) one two three four stops l = (omega arith, omega arith)
+spelled-fits (suc (suc (suc zero))) one two three four stops l = (omega arith, omega arith)
+spelled-fits (suc (suc (suc (suc zero)))) one two three four stops l = (omega arith, omega arith)
+spelled-fits (suc (suc (suc (suc (suc k))))) one two three four stops l = (omega arith, omega arith)
 
 -- ---- at a place of a script
 
@@ -75,9 +75,9 @@ pub kind-at : (script : List ℕ) (at : ℕ) → getD script (at + 0) 0 ≡ getD
 kind-at script at = ap (λ (i : ℕ). getD script i 0) (add-zero at)
 
 -- a call ends behind its words if all of them stand there
-module _ (script : List ℕ) (at : ℕ) {kind next w : ℕ} (k : kind ≡ getD script (at + 0) 0) (n : next ≡ getD script (at + 1) 0)
-    (e : w ≡ wordsOf kind next) where
-  is-words : wordsOf (getD script at 0) (getD script (at + 1) 0) ≡ w
+module _ (script : List ℕ) (at : ℕ) {kind number w : ℕ} (k : kind ≡ getD script (at + 0) 0) (n : number ≡ getD script (at + 2) 0)
+    (e : w ≡ wordsOf kind number) where
+  is-words : wordsOf (getD script at 0) (getD script (at + 2) 0) ≡ w
   is-words = sym (e ∙ ap₂ wordsOf (k ∙ kind-at script at) n)
 
   pub stands-whole : at ≤ length script → w ≤ length script - at → at + w ≡ endAt script at
@@ -94,9 +94,9 @@ module _ (script : List ℕ) (at : ℕ) {kind next w : ℕ} (k : kind ≡ getD s
 pub ends-within : (script : List ℕ) (at : ℕ) {end : ℕ} → at ≤ length script → end ≡ endAt script at → end ≤ length script
 ends-within script at h e =
     subst (λ (i : ℕ). i ≤ length script) (sym e)
-    (go (decide (leb (at + wordsOf (getD script at 0) (getD script (at + 1) 0)) (length script))))
+    (go (decide (leb (at + wordsOf (getD script at 0) (getD script (at + 2) 0)) (length script))))
   where
-    go : Tested (leb (at + wordsOf (getD script at 0) (getD script (at + 1) 0)) (length script)) → endAt script at ≤ length script
+    go : Tested (leb (at + wordsOf (getD script at 0) (getD script (at + 2) 0)) (length script)) → endAt script at ≤ length script
     go (inl q) = rw q (leb-true _ _ q)
     go (inr q) = rw q h
 
@@ -104,17 +104,19 @@ ends-within script at h e =
 pub call-fits : (script : List ℕ) (at : ℕ) (l : Lending) {p : Plain} → p ≡ callAt script at l → (p .route ≤ l .route) × (p .log ≤ l .log)
 call-fits script at l e =
     subst (λ (q : Plain). (q .route ≤ l .route) × (q .log ≤ l .log)) (sym e)
-    (spelled-fits (getD script at 0) (getD script (at + 1) 0) (getD script (at + 2) 0) (getD script (at + 3) 0) (stopsAt script at) l)
+    (spelled-fits (getD script at 0) (getD script (at + 1) 0) (getD script (at + 2) 0) (getD script (at + 3) 0) (getD script (at + 4) 0)
+    (stopsAt script at) l)
 
-call-of : {kind one two three kind′ one′ two′ three′ : ℕ} → kind ≡ kind′ → one ≡ one′ → two ≡ two′ → three ≡ three′
-    → (stops : List ℕ) (l : Lending) {p : Plain} → p ≡ spelled kind one two three stops l → p ≡ spelled kind′ one′ two′ three′ stops l
-call-of a b c d stops l e = e ∙ rw (a, b, c, d)
+call-of : {kind one two three four kind′ one′ two′ three′ four′ : ℕ}
+    → kind ≡ kind′ → one ≡ one′ → two ≡ two′ → three ≡ three′ → four ≡ four′ → (stops : List ℕ) (l : Lending) {p : Plain}
+    → p ≡ spelled kind one two three four stops l → p ≡ spelled kind′ one′ two′ three′ four′ stops l
+call-of a b c d e stops l p-is = p-is ∙ rw (a, b, c, d, e)
 
 -- the call there, of the words from there on
-pub call-there : (script : List ℕ) (at : ℕ) (l : Lending) {kind one two three : ℕ} {p : Plain} → kind ≡ getD script (at + 0) 0
-    → one ≡ getD script (at + 1) 0 → two ≡ getD script (at + 2) 0 → three ≡ getD script (at + 3) 0
-    → p ≡ spelled kind one two three (stopsAt script at) l → p ≡ callAt script at l
-call-there script at l a b c d e = call-of (a ∙ kind-at script at) b c d (stopsAt script at) l e
+pub call-there : (script : List ℕ) (at : ℕ) (l : Lending) {kind one two three four : ℕ} {p : Plain} → kind ≡ getD script (at + 0) 0
+    → one ≡ getD script (at + 1) 0 → two ≡ getD script (at + 2) 0 → three ≡ getD script (at + 3) 0 → four ≡ getD script (at + 4) 0
+    → p ≡ spelled kind one two three four (stopsAt script at) l → p ≡ callAt script at l
+call-there script at l a b c d e p-is = call-of (a ∙ kind-at script at) b c d e (stopsAt script at) l p-is
 
 -- ---- the stops of a list
 
@@ -138,12 +140,12 @@ drop-few at n l h = go (decLt n (length l - at))
         drop-of-length-le l {i = at + min n (length l - at)} (omega (arith, h, ge))
         ∙ sym (drop-of-length-le l {i = at + n} (omega (arith, h, ge)))
 
-pub stops-there : (script : List ℕ) (at : ℕ) {start number end : ℕ} → at ≤ length script → start ≡ min 4 (length script - at)
-    → number ≡ getD script (at + 1) 0 → end ≡ min number (length script - at - start)
+pub stops-there : (script : List ℕ) (at : ℕ) {start number end : ℕ} → at ≤ length script → start ≡ min 5 (length script - at)
+    → number ≡ getD script (at + 2) 0 → end ≡ min number (length script - at - start)
     → take (at + start + end - (at + start)) (drop (at + start) script) ≡ stopsAt script at
 stops-there script at {start} {number} {end} h s n e =
-    let same : drop (at + start) script ≡ drop (at + 4) script =
-    ap (λ (i : ℕ). drop (at + i) script) s ∙ drop-few at 4 script h in
+    let same : drop (at + start) script ≡ drop (at + 5) script =
+    ap (λ (i : ℕ). drop (at + i) script) s ∙ drop-few at 5 script h in
     let long : length script - at - start ≡ length (drop (at + start) script) =
     omega (arith, length-drop (at + start) script) in
     let few : at + start + end - (at + start) ≡ min number (length (drop (at + start) script)) = omega (arith, e, long) in

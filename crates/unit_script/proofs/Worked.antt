@@ -19,9 +19,10 @@ beside = record { route = 2; log = 3; work = 8 }
 abbrev whole : Asked → Plain
 whole a = record { asked = a; route = 2; log = 3 }
 
--- set, aim, estimate, go, which asks for one entry of the route and for more of the log than there are, and preview
-each-call : scripted (0 ∷ 5 ∷ 60 ∷ 1 ∷ 7 ∷ 2 ∷ 8 ∷ 3 ∷ 9 ∷ 1 ∷ 100 ∷ 4 ∷ 5 ∷ 61 ∷ 9 ∷ []) beside 0 9
-    ≡ whole (Set 5 60) ∷ whole (Aim 7) ∷ whole (Estimate 8) ∷ record { asked = Go 9; route = 1; log = 3 } ∷ whole (Preview 5 61 9 8) ∷ []
+-- set, aim, estimate, go of class 6, which asks for one entry of the route and for more of the log than there are, and preview of class 2
+each-call : scripted (0 ∷ 5 ∷ 60 ∷ 1 ∷ 7 ∷ 2 ∷ 8 ∷ 3 ∷ 6 ∷ 9 ∷ 1 ∷ 100 ∷ 4 ∷ 2 ∷ 5 ∷ 61 ∷ 9 ∷ []) beside 0 9
+    ≡ whole (Set 5 60) ∷ whole (Aim 7) ∷ whole (Estimate 8) ∷ record { asked = Go 6 9; route = 1; log = 3 }
+    ∷ whole (Preview 2 5 61 9 8) ∷ []
 each-call = refl
 
 -- a kind that is none ends a script, whatever follows
@@ -29,25 +30,25 @@ unknown-kind : scripted (1 ∷ 7 ∷ 6 ∷ 1 ∷ 8 ∷ []) beside 0 9 ≡ whole 
 unknown-kind = refl
 
 -- so does a call that is cut short, and so does the end of the room for answers
-cut-short-call : scripted (1 ∷ 7 ∷ 3 ∷ 9 ∷ 1 ∷ []) beside 0 9 ≡ whole (Aim 7) ∷ []
+cut-short-call : scripted (1 ∷ 7 ∷ 3 ∷ 6 ∷ 9 ∷ 1 ∷ []) beside 0 9 ≡ whole (Aim 7) ∷ []
 cut-short-call = refl
 
-cut-short-preview : scripted (1 ∷ 7 ∷ 4 ∷ 5 ∷ 61 ∷ []) beside 0 9 ≡ whole (Aim 7) ∷ []
+cut-short-preview : scripted (1 ∷ 7 ∷ 4 ∷ 2 ∷ 5 ∷ 61 ∷ []) beside 0 9 ≡ whole (Aim 7) ∷ []
 cut-short-preview = refl
 
 no-room : scripted (1 ∷ 7 ∷ 1 ∷ 8 ∷ []) beside 0 1 ≡ whole (Aim 7) ∷ []
 no-room = refl
 
--- a list of three stops, which asks for more of the route than there is and for two entries of the log
-stops-call : scripted (5 ∷ 3 ∷ 12 ∷ 2 ∷ 7 ∷ 8 ∷ 7 ∷ 1 ∷ 7 ∷ []) beside 0 9
-    ≡ record { asked = Stops (7 ∷ 8 ∷ 7 ∷ []); route = 2; log = 2 } ∷ whole (Aim 7) ∷ []
+-- a list of three stops of class 4, which asks for more of the route than there is and for two entries of the log
+stops-call : scripted (5 ∷ 4 ∷ 3 ∷ 12 ∷ 2 ∷ 7 ∷ 8 ∷ 7 ∷ 1 ∷ 7 ∷ []) beside 0 9
+    ≡ record { asked = Stops 4 (7 ∷ 8 ∷ 7 ∷ []); route = 2; log = 2 } ∷ whole (Aim 7) ∷ []
 stops-call = refl
 
 -- one that lacks its last stop, and one that lacks a word before the stops, end a script
-cut-short-stops : scripted (1 ∷ 7 ∷ 5 ∷ 3 ∷ 12 ∷ 3 ∷ 7 ∷ 8 ∷ []) beside 0 9 ≡ whole (Aim 7) ∷ []
+cut-short-stops : scripted (1 ∷ 7 ∷ 5 ∷ 4 ∷ 3 ∷ 12 ∷ 3 ∷ 7 ∷ 8 ∷ []) beside 0 9 ≡ whole (Aim 7) ∷ []
 cut-short-stops = refl
 
-no-stops : scripted (1 ∷ 7 ∷ 5 ∷ 0 ∷ 12 ∷ []) beside 0 9 ≡ whole (Aim 7) ∷ []
+no-stops : scripted (1 ∷ 7 ∷ 5 ∷ 4 ∷ 0 ∷ 12 ∷ []) beside 0 9 ≡ whole (Aim 7) ∷ []
 no-stops = refl
 
 -- ---- answers

@@ -6,9 +6,8 @@ use Prim.Native.Nat.{suc, zero, ℕ}
 use lib.Dec.{ltb}
 use lib.ListN.{length, take}
 use denote.Triple.Both.{Both}
-use Rattle.graph.specs.Map.{Map}
 use Rattle.model.specs.Types.{Accepted, Answer, Answered, Header}
-use Rattle.model.specs.Card.{mapOn}
+use Rattle.model.specs.Card.{CardMap, cardMap, mapOn}
 use Rattle.model.specs.Areas.{Areas}
 use Rattle.model.specs.State.{Lent, State, Step, first, prepare}
 use Rattle.model.specs.Machine.{Machine, started}
@@ -44,9 +43,9 @@ told [] = []
 told (x ∷ l) = answerWords x ++ told l
 
 -- the plain machine's answers to a list of calls
-abbrev pub machineAnswers : Map → Machine → List Plain → List Answer
-machineAnswers M m [] = []
-machineAnswers M m (p ∷ l) = machineStep M m p .answer ∷ machineAnswers M (machineStep M m p .next) l
+abbrev pub machineAnswers : CardMap → Machine → List Plain → List Answer
+machineAnswers C m [] = []
+machineAnswers C m (p ∷ l) = machineStep C m p .answer ∷ machineAnswers C (machineStep C m p .next) l
 
 -- ---- calls one after the other
 
@@ -130,7 +129,7 @@ pub record ReplayContract (card : List ℕ) (a : Both Areas Areas) (l : Both Len
   -- what its calls answered and left is what the step functions say
   pub exact : made .results ≡ steps card (prepare card (a .entry) .state) (made .calls)
   -- demand 3 of the whole list, as it was made and answered
-  pub demand : prepare card (a .entry) .answer ≡ Accepted → Demand3 (mapOn card) (started (mapOn card)) (made .calls) (made .results)
+  pub demand : prepare card (a .entry) .answer ≡ Accepted → Demand3 (cardMap card) (started (mapOn card)) (made .calls) (made .results)
   -- so the words written are those of the plain machine, fed the script
   pub machine : prepare card (a .entry) .answer ≡ Accepted
-      → out ≡ first (told (machineAnswers (mapOn card) (started (mapOn card)) (callsIn script (lending (l .entry) w) out₀))) out₀
+      → out ≡ first (told (machineAnswers (cardMap card) (started (mapOn card)) (callsIn script (lending (l .entry) w) out₀))) out₀

@@ -20,19 +20,19 @@ use Rattle.unit_script.specs.declared.Made.{Made}
 --      0 road time
 --      1 junction
 --      2 junction
---      3 start route log
---      4 road time start
---      5 stops route log stop ..
+--      3 class start route log
+--      4 class road time start
+--      5 class stops route log stop ..
 
--- how many words a call has, its kind with them; a list of stops says after its kind how many it has; 0 for a kind that is none
-abbrev pub wordsOf : (kind next : ℕ) → ℕ
-wordsOf zero next = 3
-wordsOf (suc zero) next = 2
-wordsOf (suc (suc zero)) next = 2
-wordsOf (suc (suc (suc zero))) next = 4
-wordsOf (suc (suc (suc (suc zero)))) next = 4
-wordsOf (suc (suc (suc (suc (suc zero))))) next = 4 + next
-wordsOf (suc (suc (suc (suc (suc (suc k)))))) next = 0
+-- how many words a call has, its kind with them; a list of stops says in its third word how many it has; 0 for a kind that is none
+abbrev pub wordsOf : (kind stops : ℕ) → ℕ
+wordsOf zero stops = 3
+wordsOf (suc zero) stops = 2
+wordsOf (suc (suc zero)) stops = 2
+wordsOf (suc (suc (suc zero))) stops = 5
+wordsOf (suc (suc (suc (suc zero)))) stops = 5
+wordsOf (suc (suc (suc (suc (suc zero))))) stops = 5 + stops
+wordsOf (suc (suc (suc (suc (suc (suc k)))))) stops = 0
 
 -- how many entries the areas have that are lent to the calls of a script
 pub record Lending : Type 0 where
@@ -44,23 +44,24 @@ pub record Lending : Type 0 where
 abbrev pub withAll : Lending → Asked → Plain
 withAll l a = record { asked = a; route = l .route; log = l .log }
 
--- the call that a kind and three words spell, with the stops behind them, beside areas of so many entries: the last two words of a go and
+-- the call that a kind and four words spell, with the stops behind them, beside areas of so many entries: the last two words of a go and
 -- of a list of stops say how many entries of route and log it is lent, all of an area that has fewer; any other call is lent all of both,
 -- and leaves them; a preview is lent the whole work area
-abbrev pub spelled : (kind one two three : ℕ) → (stops : List ℕ) → Lending → Plain
-spelled zero one two three stops l = withAll l (Set one two)
-spelled (suc zero) one two three stops l = withAll l (Aim one)
-spelled (suc (suc zero)) one two three stops l = withAll l (Estimate one)
-spelled (suc (suc (suc zero))) one two three stops l = record { asked = Go one; route = min two (l .route); log = min three (l .log) }
-spelled (suc (suc (suc (suc zero)))) one two three stops l = withAll l (Preview one two three (l .work))
-spelled (suc (suc (suc (suc (suc k))))) one two three stops l =
-    record { asked = Stops stops; route = min two (l .route); log = min three (l .log) }
+abbrev pub spelled : (kind one two three four : ℕ) → (stops : List ℕ) → Lending → Plain
+spelled zero one two three four stops l = withAll l (Set one two)
+spelled (suc zero) one two three four stops l = withAll l (Aim one)
+spelled (suc (suc zero)) one two three four stops l = withAll l (Estimate one)
+spelled (suc (suc (suc zero))) one two three four stops l =
+    record { asked = Go one two; route = min three (l .route); log = min four (l .log) }
+spelled (suc (suc (suc (suc zero)))) one two three four stops l = withAll l (Preview one two three four (l .work))
+spelled (suc (suc (suc (suc (suc k))))) one two three four stops l =
+    record { asked = Stops one stops; route = min three (l .route); log = min four (l .log) }
 
 -- the code's form of what is asked, beside a work area of so many entries and with these stops
 abbrev pub askedIn : code.Asked → (work : ℕ) → (stops : List ℕ) → Asked
 askedIn (scripts.Four c) w stops = callIn c
-askedIn (scripts.Preview i t j) w stops = Preview i (t .0) (j .0) w
-askedIn scripts.Stops w stops = Stops stops
+askedIn (scripts.Preview c i t j) w stops = Preview c i (t .0) (j .0) w
+askedIn (scripts.Stops c) w stops = Stops c stops
 
 -- and of the call
 abbrev pub scriptedIn : Scripted → (work : ℕ) → (stops : List ℕ) → Plain
@@ -71,21 +72,22 @@ scriptedIn c w stops = record { asked = askedIn (c .asked) w stops; route = c .r
 -- where the call ends that stands whole there; the place itself if none does
 abbrev pub endAt : (script : List ℕ) → (at : ℕ) → ℕ
 endAt script at =
-    let end = at + wordsOf (getD script at 0) (getD script (at + 1) 0) in
+    let end = at + wordsOf (getD script at 0) (getD script (at + 2) 0) in
     cond (leb end (length script)) end at
 
 -- a call stands whole there: a kind that is one, and all its words
 abbrev pub isCall : (script : List ℕ) → (at : ℕ) → Bool
 isCall script at = ltb at (endAt script at)
 
--- the stops of a list that stands there: as many as its second word says, behind its fourth
+-- the stops of a list that stands there: as many as its third word says, behind its fifth
 abbrev pub stopsAt : (script : List ℕ) → (at : ℕ) → List ℕ
-stopsAt script at = take (getD script (at + 1) 0) (drop (at + 4) script)
+stopsAt script at = take (getD script (at + 2) 0) (drop (at + 5) script)
 
 -- that call, beside areas of so many entries
 abbrev pub callAt : (script : List ℕ) → (at : ℕ) → Lending → Plain
 callAt script at =
-    spelled (getD script at 0) (getD script (at + 1) 0) (getD script (at + 2) 0) (getD script (at + 3) 0) (stopsAt script at)
+    spelled (getD script at 0) (getD script (at + 1) 0) (getD script (at + 2) 0) (getD script (at + 3) 0) (getD script (at + 4) 0)
+    (stopsAt script at)
 
 -- ---- answers
 

@@ -29,12 +29,12 @@ use unit_stops::Stopping;
 
 // ---- the words of a call
 
-// What a call of a script asks: one of document 01's four, a preview of a road, a time and a start, or a list of stops, which stand in the
-// script.
+// What a call of a script asks: one of document 01's four; a preview of a class, a road, a time and a start; or a list of stops of a class,
+// which stand in the script.
 enum Asked {
     Four(Call),
-    Preview(u32, Time, Junction),
-    Stops,
+    Preview(u32, u32, Time, Junction),
+    Stops(u32),
 }
 
 // A call of a script, and how many entries of route and log it is lent.
@@ -50,16 +50,16 @@ const SET_WORDS: usize = 3;
 const AIM_WORDS: usize = 2;
 // Estimate: `2 junction`.
 const ESTIMATE_WORDS: usize = 2;
-// Go: `3 start route log`.
-const GO_WORDS: usize = 4;
-// Preview: `4 road time start`.
-const PREVIEW_WORDS: usize = 4;
-// Stops: `5 stops route log`, and then so many stops.
-const STOPS_WORDS: usize = 4;
+// Go: `3 class start route log`.
+const GO_WORDS: usize = 5;
+// Preview: `4 class road time start`.
+const PREVIEW_WORDS: usize = 5;
+// Stops: `5 class stops route log`, and then so many stops.
+const STOPS_WORDS: usize = 5;
 
-// How many words a call has, its kind with them, by its kind and the word behind it; 0 for a kind that is none.
-fn words_of(kind: u32, next: u32) -> usize
-    ensures { λ r. ⌜ r ≡ wordsOf kind next ⌝ }
+// How many words a call has, its kind with them, by its kind and its third word; 0 for a kind that is none.
+fn words_of(kind: u32, stops: u32) -> usize
+    ensures { λ r. ⌜ r ≡ wordsOf kind stops ⌝ }
 {
     if kind == 0 {
         return SET_WORDS;
@@ -77,7 +77,7 @@ fn words_of(kind: u32, next: u32) -> usize
         return PREVIEW_WORDS;
     }
     if kind == 5 {
-        return STOPS_WORDS + (next as usize);
+        return STOPS_WORDS + (stops as usize);
     }
     0
 }
@@ -101,11 +101,11 @@ fn lending(call: Call, route: usize, log: usize) -> Scripted
     }
 }
 
-// The call that a kind and three words spell, beside areas of so many entries. A go and a list of stops are lent as many of them as their
-// last two words say, all of an area that has fewer; any other call is lent all, and leaves them.
-fn spell(kind: u32, one: u32, two: u32, three: u32, route: usize, log: usize) -> Scripted
+// The call that a kind and four words spell, beside areas of so many entries. A go and a list of stops are lent as many of them as the last
+// two words say, all of an area that has fewer; any other call is lent all, and leaves them.
+fn spell(kind: u32, one: u32, two: u32, three: u32, four: u32, route: usize, log: usize) -> Scripted
     ensures { λ r. ⌜ ((w : ℕ) (stops : List ℕ)
-        → scriptedIn r w stops ≡ spelled kind one two three stops (record { route = route; log = log; work = w })) ⌝ }
+        → scriptedIn r w stops ≡ spelled kind one two three four stops (record { route = route; log = log; work = w })) ⌝ }
 {
     if kind == 0 {
         return lending(Call::Set(one, Time::of_word(two)), route, log);
@@ -118,18 +118,18 @@ fn spell(kind: u32, one: u32, two: u32, three: u32, route: usize, log: usize) ->
     }
     if kind == 4 {
         return Scripted {
-            asked: Asked::Preview(one, Time::of_word(two), Junction(three)),
+            asked: Asked::Preview(one, two, Time::of_word(three), Junction(four)),
             route: route,
             log: log,
         };
     }
-    let roads = at_most(two, route);
-    let logged = at_most(three, log);
+    let roads = at_most(three, route);
+    let logged = at_most(four, log);
     if kind == 3 {
-        return lending(Call::Go(Junction(one)), roads, logged);
+        return lending(Call::Go(one, Junction(two)), roads, logged);
     }
     Scripted {
-        asked: Asked::Stops,
+        asked: Asked::Stops(one),
         route: roads,
         log: logged,
     }
@@ -154,7 +154,7 @@ fn end_at(script: &[u32], at: usize) -> usize
     requires { ⌜ at ≤ length (now script) ⌝ }
     ensures { λ r. ⌜ r ≡ endAt (now (script .entry)) at ⌝ }
 {
-    let w = words_of(word_at(script, at, 0), word_at(script, at, 1));
+    let w = words_of(word_at(script, at, 0), word_at(script, at, 2));
     if w <= script.len() - at { at + w } else { at }
 }
 
@@ -169,6 +169,7 @@ fn call_at(script: &[u32], at: usize, route: usize, log: usize) -> Scripted
         word_at(script, at, 1),
         word_at(script, at, 2),
         word_at(script, at, 3),
+        word_at(script, at, 4),
         route,
         log,
     )
@@ -188,7 +189,7 @@ fn stops_at(script: &[u32], at: usize) -> &[u32]
 {
     let rest = script.len() - at;
     let start = smaller(STOPS_WORDS, rest);
-    let number = word_at(script, at, 1) as usize;
+    let number = word_at(script, at, 2) as usize;
     let end = smaller(number, rest - start);
     &script[at + start..at + start + end]
 }
@@ -384,7 +385,7 @@ fn make_call(
             &mut log[..logged],
             call,
         )),
-        Asked::Preview(road, time, start) => of_answered(header.preview(
+        Asked::Preview(class, road, time, start) => of_answered(header.preview(
             card,
             ranks,
             pairs,
@@ -395,11 +396,12 @@ fn make_call(
             leaving,
             groups,
             work,
+            class,
             road,
             time,
             start,
         )),
-        Asked::Stops => of_stopped(unit_stops::stops(
+        Asked::Stops(class) => of_stopped(unit_stops::stops(
             header,
             card,
             ranks,
@@ -412,6 +414,7 @@ fn make_call(
             groups,
             &mut route[..roads],
             &mut log[..logged],
+            class,
             stops,
         )),
     }

@@ -19,13 +19,14 @@ use Rattle.graph.specs.Map.{Map, liveNet, timeOf-bound}
 use Rattle.model.specs.Types.{Accepted, Answer, Estimated, Gone, Leg, NoLeg, Previewed, Refused, Stopped}
 use Rattle.model.specs.Limits.{mostStops, mostTime, mostTotal}
 use Rattle.model.specs.LimitLaws.{totals-fit}
-use Rattle.model.specs.Card.{mapOn}
+use Rattle.model.specs.Classes.{classTimes}
+use Rattle.model.specs.Card.{CardMap, cardMap, mapOn}
 use Rattle.model.specs.State.{Lent, State, Step, answering}
 use Rattle.model.specs.Go.{goAnswer, liveOf, searchOf}
 use Rattle.model.specs.Stops.{Journey, journey, legMade, past, stopsAnswer, stopsMade, wholeOf, withLeg}
 use Rattle.model.specs.Calls.{Left}
 use Rattle.model.specs.Accept.{card-facts}
-use Rattle.model.specs.Good.{Good, StopsPassed, aim-good, leg-good, settable-most}
+use Rattle.model.specs.Good.{Good, StopsPassed, aim-good, leg-good, met-good, settable-most}
 use Rattle.model.specs.GoProof.{SameLengths, go-lengths, route-short, total-is}
 use Rattle.unit_stops.specs.Shape.{largest, legsFrom, sumIn}
 use Rattle.unit_stops.proofs.OneLeg.{LegDone}
@@ -162,27 +163,28 @@ sum-is {i} {whole} {t} li small fits = rw (le-ltb (largest - whole) t (omega (ar
 
 -- ---- on the way
 
--- after i legs from s₀ and l₀ the state is s, and l is lent; the legs' totals and numbers of roads stand first in `totals` and `roads`
-pub record OnWay (card : List ℕ) (s₀ : State) (l₀ : Lent) (stops : List ℕ) (s : State) (l : Lent) (totals roads : List ℕ) (whole at i : ℕ)
-    : Type 0 where
+-- after i legs of class c from s₀ and l₀ the state is s, and l is lent; the legs' totals and numbers of roads stand first in `totals` and
+-- `roads`
+pub record OnWay (card : List ℕ) (c : ℕ) (s₀ : State) (l₀ : Lent) (stops : List ℕ) (s : State) (l : Lent) (totals roads : List ℕ)
+    (whole at i : ℕ) : Type 0 where
   pub left : Left card s
   pub good : Good card s
   pub room : at ≤ i * mapOn card .vertices
   pub whole-is : whole ≡ wholeOf (legsFrom totals roads 0 i)
   pub whole-small : whole ≤ i * mostTotal
   -- the journey is the legs so far, and the one from here
-  pub journey-is : journey (mapOn card) s₀ (getD stops 0 0) (drop 1 stops) l₀
+  pub journey-is : journey (cardMap card) c s₀ (getD stops 0 0) (drop 1 stops) l₀
       ≡ joined (take at (l .route)) (legsFrom totals roads 0 i)
-      (journey (mapOn card) s (getD stops i 0) (drop (suc i) stops) (past at l))
+      (journey (cardMap card) c s (getD stops i 0) (drop (suc i) stops) (past at l))
 
-pub way-start : {card : List ℕ} {s : State} {l : Lent} {stops totals roads : List ℕ} → Left card s → Good card s
-    → OnWay card s l stops s l totals roads 0 0 0
+pub way-start : {card : List ℕ} {c : ℕ} {s : State} {l : Lent} {stops totals roads : List ℕ} → Left card s → Good card s
+    → OnWay card c s l stops s l totals roads 0 0 0
 way-start w g = record { left = w; good = g; room = omega arith; whole-is = refl; whole-small = omega arith; journey-is = refl }
 
 -- the next leg, from stop i: u is what it left
-module _ {card : List ℕ} {s₀ : State} {l₀ : Lent} {stops : List ℕ} (g₀ : Good card s₀)
-    (q : StopsPassed g₀ stops (length (l₀ .route)) (length (l₀ .log))) {s : State} {l : Lent} {totals roads : List ℕ} {whole at i : ℕ}
-    (more : suc i < length stops) (same : SameLengths l l₀) (way : OnWay card s₀ l₀ stops s l totals roads whole at i) where
+module _ {card : List ℕ} {c : ℕ} {s₀ : State} {l₀ : Lent} {stops : List ℕ} (g₀ : Good card s₀)
+    (q : StopsPassed g₀ c stops (length (l₀ .route)) (length (l₀ .log))) {s : State} {l : Lent} {totals roads : List ℕ} {whole at i : ℕ}
+    (more : suc i < length stops) (same : SameLengths l l₀) (way : OnWay card c s₀ l₀ stops s l totals roads whole at i) where
   pub from-below : getD stops i 0 < mapOn card .vertices
   from-below = stop-below stops (q .below) i (omega (arith, more))
 
@@ -204,7 +206,10 @@ module _ {card : List ℕ} {s₀ : State} {l₀ : Lent} {stops : List ℕ} (g₀
   pub log-room : mapOn card .vertices ≤ length (l .log)
   log-room = omega (arith, q .log, same .log)
 
-  module _ {u : Step} (done : LegDone card s (getD stops i 0) (getD stops (suc i) 0) (past at l) u) where
+  module _ {u : Step} (done : LegDone card c s (getD stops i 0) (getD stops (suc i) 0) (past at l) u) where
+    abbrev C : CardMap
+    C = cardMap card
+
     abbrev M : Map
     M = mapOn card
 
@@ -214,36 +219,40 @@ module _ {card : List ℕ} {s₀ : State} {l₀ : Lent} {stops : List ℕ} (g₀
     abbrev b : ℕ
     b = getD stops (suc i) 0
 
+    -- the live times as the class meets them
+    abbrev times : List ℕ
+    times = classTimes (C .access) c (s .areas .live)
+
     -- its total and number of roads, as the definition has them
     abbrev total : Total
-    total = totalOf (searchOf M (s .areas .live) a b)
+    total = totalOf (searchOf M times a b)
 
     abbrev many : ℕ
-    many = length (routeOf (searchOf M (s .areas .live) a b))
+    many = length (routeOf (searchOf M times a b))
 
     abbrev on : Journey
-    on = journey M (u .state) b (drop (suc (suc i)) stops) (past many (u .lent))
+    on = journey C c (u .state) b (drop (suc (suc i)) stops) (past many (u .lent))
 
     -- the journey from here begins with it
-    with-leg : journey M s₀ (getD stops 0 0) (drop 1 stops) l₀
+    with-leg : journey C c s₀ (getD stops 0 0) (drop 1 stops) l₀
         ≡ joined (take at (l .route)) (legsFrom totals roads 0 i) (withLeg total many u on)
     with-leg =
         way .journey-is
-        ∙ ap (λ (x : List ℕ). joined (take at (l .route)) (legsFrom totals roads 0 i) (journey M s a x (past at l)))
+        ∙ ap (λ (x : List ℕ). joined (take at (l .route)) (legsFrom totals roads 0 i) (journey C c s a x (past at l)))
         (drop-cons stops (suc i) 0 more)
         ∙ ap (λ (v : Step). joined (take at (l .route)) (legsFrom totals roads 0 i)
-        (withLeg total many v (journey M (v .state) b (drop (suc (suc i)) stops) (past many (v .lent))))) (sym (done .made))
+        (withLeg total many v (journey C c (v .state) b (drop (suc (suc i)) stops) (past many (v .lent))))) (sym (done .made))
 
     part-length : length (u .lent .route) ≡ length (l .route) - at
     part-length =
         ap (λ (v : Step). length (v .lent .route)) (done .made)
-        ∙ go-lengths (aim-good (way .good) b (past at l) to-below) a (past at l) from-below refl route-room log-room .route
+        ∙ go-lengths (aim-good (way .good) b (past at l) to-below) c a (past at l) from-below refl route-room log-room .route
         ∙ length-drop at (l .route)
 
     -- ---- it has a path
 
-    module _ {t c k : ℕ} (gone : u .answer ≡ Gone t c k) where
-      answered : Gone t c k ≡ legMade M s a b (past at l) .answer
+    module _ {t count k : ℕ} (gone : u .answer ≡ Gone t count k) where
+      answered : Gone t count k ≡ legMade C c s a b (past at l) .answer
       answered = sym gone ∙ ap (λ (v : Step). v .answer) (done .made)
 
       total-found : total ≡ some t
@@ -253,21 +262,21 @@ module _ {card : List ℕ} {s₀ : State} {l₀ : Lent} {stops : List ℕ} (g₀
       many-is = ap goneRoads answered ∙ path-roads total _ many t total-found
 
       few : k < M .vertices
-      few = omega (arith, many-is, route-short (way .good) a b t from-below to-below total-found)
+      few = omega (arith, many-is, route-short (met-good (way .good) c) a b t from-below to-below total-found)
 
       fits : t ≤ mostTotal
-      fits = leg-fits (way .good) a b t from-below to-below total-found
+      fits = leg-fits (met-good (way .good) c) a b t from-below to-below total-found
 
       -- the legs and one more, and the journey on from there
-      leg-on : journey M s₀ (getD stops 0 0) (drop 1 stops) l₀
+      leg-on : journey C c s₀ (getD stops 0 0) (drop 1 stops) l₀
           ≡ joined (take at (l .route) ++ take k (u .lent .route)) (legsFrom totals roads 0 i ++ (record { total = t; roads = k } ∷ []))
-          (journey M (u .state) b (drop (suc (suc i)) stops) (past k (u .lent)))
+          (journey C c (u .state) b (drop (suc (suc i)) stops) (past k (u .lent)))
       leg-on =
           with-leg
           ∙ joined-leg (take at (l .route)) (legsFrom totals roads 0 i) total t many u on total-found
           ∙ ap (λ (j : ℕ). joined (take at (l .route) ++ take j (u .lent .route))
           (legsFrom totals roads 0 i ++ (record { total = t; roads = j } ∷ []))
-          (journey M (u .state) b (drop (suc (suc i)) stops) (past j (u .lent)))) (sym many-is)
+          (journey C c (u .state) b (drop (suc (suc i)) stops) (past j (u .lent)))) (sym many-is)
 
       -- the route area, with its roads behind those of the legs before
       module _ {route : List ℕ} (route-is : route ≡ take at (l .route) ++ u .lent .route) {at′ : ℕ}
@@ -285,14 +294,14 @@ module _ {card : List ℕ} {s₀ : State} {l₀ : Lent} {stops : List ℕ} (g₀
         dropped = ap₂ drop at-is route-is ∙ drop-append-add (take at (l .route)) (u .lent .route) k
 
         pub way-turn : i < length totals → i < length roads → {whole′ : ℕ} → whole′ ≡ sumIn whole t
-            → OnWay card s₀ l₀ stops (u .state) (record { route = route; log = u .lent .log })
+            → OnWay card c s₀ l₀ stops (u .state) (record { route = route; log = u .lent .log })
             (set totals i t) (set roads i k) whole′ at′ (suc i)
         way-turn lt lr {whole′} summed =
             let sum : whole′ ≡ whole + t = summed ∙ sum-is {i = i} (omega (arith, more, q .most)) (way .whole-small) fits in
             let legs = legs-more totals roads i t k lt lr in
             record {
               left = done .left;
-              good = subst (λ (v : Step). Good card (v .state)) (sym (done .made)) (leg-good (way .good) a b (past at l) to-below);
+              good = subst (λ (v : Step). Good card (v .state)) (sym (done .made)) (leg-good (way .good) c a b (past at l) to-below);
               room = omega (arith, way .room, at-is, before-it, few);
               whole-is =
                   sum ∙ ap (λ (x : ℕ). x + t) (way .whole-is)
@@ -300,16 +309,16 @@ module _ {card : List ℕ} {s₀ : State} {l₀ : Lent} {stops : List ℕ} (g₀
               whole-small = omega (arith, sum, way .whole-small, fits);
               journey-is =
                   leg-on
-                  ∙ ap₂ (λ (x : List ℕ) (y : List Leg). joined x y (journey M (u .state) b (drop (suc (suc i)) stops) (past k (u .lent))))
+                  ∙ ap₂ (λ (x : List ℕ) (y : List Leg). joined x y (journey C c (u .state) b (drop (suc (suc i)) stops) (past k (u .lent))))
                   (sym taken) (sym legs)
                   ∙ ap (λ (x : List ℕ). joined (take at′ route) (legsFrom (set totals i t) (set roads i k) 0 (suc i))
-                  (journey M (u .state) b (drop (suc (suc i)) stops) (record { route = x; log = u .lent .log }))) (sym dropped);
+                  (journey C c (u .state) b (drop (suc (suc i)) stops) (record { route = x; log = u .lent .log }))) (sym dropped);
             }
 
     -- ---- it has none
 
     pub way-lost : goneTotal (u .answer) ≡ none → {route : List ℕ} → route ≡ take at (l .route) ++ u .lent .route
-        → answering (Refused (NoLeg i)) (u .state) (record { route = route; log = u .lent .log }) ≡ stopsMade M s₀ stops l₀
+        → answering (Refused (NoLeg i)) (u .state) (record { route = route; log = u .lent .log }) ≡ stopsMade C s₀ c stops l₀
     way-lost lost {route} route-is =
         let none-found : total ≡ none =
         sym (path-total total _ many) ∙ ap (λ (v : Step). goneTotal (v .answer)) (sym (done .made)) ∙ lost in
@@ -319,16 +328,16 @@ module _ {card : List ℕ} {s₀ : State} {l₀ : Lent} {stops : List ℕ} (g₀
 
 -- ---- the last stop
 
-pub way-end : {card : List ℕ} {s₀ : State} {l₀ : Lent} {stops : List ℕ} {s : State} {l : Lent} {totals roads : List ℕ} {whole at i : ℕ}
-    → length stops ≤ suc i → OnWay card s₀ l₀ stops s l totals roads whole at i
-    → answering (Stopped (legsFrom totals roads 0 i) whole) s l ≡ stopsMade (mapOn card) s₀ stops l₀
-way-end {card} {s₀} {l₀} {stops} {s} {l} {totals} {roads} {whole} {at} {i} over way =
-    let M = mapOn card in
+pub way-end : {card : List ℕ} {c : ℕ} {s₀ : State} {l₀ : Lent} {stops : List ℕ} {s : State} {l : Lent} {totals roads : List ℕ}
+    {whole at i : ℕ} → length stops ≤ suc i → OnWay card c s₀ l₀ stops s l totals roads whole at i
+    → answering (Stopped (legsFrom totals roads 0 i) whole) s l ≡ stopsMade (cardMap card) s₀ c stops l₀
+way-end {card} {c} {s₀} {l₀} {stops} {s} {l} {totals} {roads} {whole} {at} {i} over way =
+    let C = cardMap card in
     let legs = legsFrom totals roads 0 i in
-    let arrived : journey M s₀ (getD stops 0 0) (drop 1 stops) l₀
+    let arrived : journey C c s₀ (getD stops 0 0) (drop 1 stops) l₀
     ≡ record { state = s; lent = record { route = l .route; log = l .log }; legs = legs; complete = true } =
     way .journey-is
-    ∙ ap (λ (x : List ℕ). joined (take at (l .route)) legs (journey M s (getD stops i 0) x (past at l))) (drop-of-length-le stops over)
+    ∙ ap (λ (x : List ℕ). joined (take at (l .route)) legs (journey C c s (getD stops i 0) x (past at l))) (drop-of-length-le stops over)
     ∙ ap₂ (λ (x : List ℕ) (y : List Leg). record { state = s; lent = record { route = x; log = l .log }; legs = y; complete = true })
     (take-append-drop at (l .route)) (append-nil legs) in
     ap (λ (x : ℕ). answering (Stopped legs x) s l) (way .whole-is) ∙ sym (ap asStep arrived)

@@ -12,9 +12,10 @@ use native.Mathlib.Omega.{arith}
 use denote.Triple.Both.{Both}
 use Rattle.graph.specs.Total.{Tested, decide}
 use Rattle.model.specs.Types.{Answered, Header, Lengths, Refusal}
-use Rattle.model.specs.Card.{mapOn}
+use Rattle.model.specs.Limits.{classes}
+use Rattle.model.specs.Card.{cardMap, mapOn}
 use Rattle.model.specs.Areas.{Areas}
-use Rattle.model.specs.State.{Lent, State, Step, fitting, inRange, leaving}
+use Rattle.model.specs.State.{Lent, State, Step, fitting, leaving, usable}
 use Rattle.model.specs.Machine.{isAt}
 use Rattle.model.specs.Aim.{aimMade, aimRefusal}
 use Rattle.model.specs.Go.{goMade, goRefusal}
@@ -47,14 +48,14 @@ module _ {card : List ℕ} {s : State} {c : Call} {r : Step} (m : CallContract c
   stays-refused q e = subst (λ (u : Step). Stays s (u .state)) (sym e) stays-same
 
   call-stays : Stays s (r .state)
-  call-stays = go (decide (inRange (s .header) && fitting card s))
+  call-stays = go (decide (usable card (s .header) && fitting card s))
     where
-      asked : (x : Option Refusal) → refusalBy (baseOn card) (s .header) c ≡ x → inRange (s .header) && fitting card s ≡ true
+      asked : (x : Option Refusal) → refusalBy (baseOn card) (s .header) c ≡ x → usable card (s .header) && fitting card s ≡ true
           → Stays s (r .state)
       asked (some q) h e = stays-refused q (m .anywhere e .refuses q h)
       asked none h e = written (m .anywhere e .writes h)
 
-      go : Tested (inRange (s .header) && fitting card s) → Stays s (r .state)
+      go : Tested (usable card (s .header) && fitting card s) → Stays s (r .state)
       go (inl e) = asked (refusalBy (baseOn card) (s .header) c) refl e
       go (inr e) = stays-refused Lengths (m .lengths e)
 
@@ -62,17 +63,17 @@ module _ {card : List ℕ} {s : State} {l : Lent} {r : Step} where
   aim-stays : {j : ℕ} → CallContract card s (calling (Aim j) l) r → Stays s (r .state)
   aim-stays m = call-stays m (λ w. subst (λ (u : Step). Stays s (u .state)) (sym w) (record { leaves = refl }))
 
-  go-stays : {j : ℕ} → CallContract card s (calling (Go j) l) r → Stays s (r .state)
+  go-stays : {c j : ℕ} → CallContract card s (calling (Go c j) l) r → Stays s (r .state)
   go-stays m = call-stays m (λ w. subst (Stays s) (sym (w .leaves)) (record { leaves = refl }))
 
-pub leg-stays : {card : List ℕ} {h : Header} {a : Both Areas Areas} {l : Both Lent Lent} {from to : ℕ} {x : Answered}
-    → LegMade card h a l from to x → Stays (before h (a .entry)) (before (x .header) (a .exit))
+pub leg-stays : {card : List ℕ} {h : Header} {a : Both Areas Areas} {l : Both Lent Lent} {c from to : ℕ} {x : Answered}
+    → LegMade card h a l c from to x → Stays (before h (a .entry)) (before (x .header) (a .exit))
 leg-stays m = stays-on (aim-stays (m .aims)) (go-stays (m .goes))
 
 -- an aim, and a go on what it left
-pub leg-of : {card : List ℕ} {h : Header} {a : Both Areas Areas} {l : Both Lent Lent} {from to : ℕ} {x : Answered} {aimed : Step}
+pub leg-of : {card : List ℕ} {h : Header} {a : Both Areas Areas} {l : Both Lent Lent} {c from to : ℕ} {x : Answered} {aimed : Step}
     → CallContract card (before h (a .entry)) (calling (Aim to) (l .entry)) aimed
-    → CallContract card (aimed .state) (calling (Go from) (l .entry)) (after x (a .exit) (l .exit)) → LegMade card h a l from to x
+    → CallContract card (aimed .state) (calling (Go c from) (l .entry)) (after x (a .exit) (l .exit)) → LegMade card h a l c from to x
 leg-of {aimed = aimed} m g = record { aimed = aimed; aims = m; goes = g }
 
 -- ---- what was made, on a state that a list of calls left
@@ -82,13 +83,14 @@ module _ {card : List ℕ} {s : State} (g : Good card s) (j : ℕ) (l : Lent) (b
   unfolding aimRefusal
   aim-passes = rw (good-fits g, lt-ltb j (s .header .n) (omega (arith, g .n-is, below)))
 
-  go-passes : isAt (s .header .target) ≡ true → mapOn card .vertices ≤ length (l .route) → mapOn card .vertices ≤ length (l .log)
-      → askedOf card s (calling (Go j) l) ≡ none
+  go-passes : (c : ℕ) → c < classes → isAt (s .header .target) ≡ true
+      → mapOn card .vertices ≤ length (l .route) → mapOn card .vertices ≤ length (l .log) → askedOf card s (calling (Go c j) l) ≡ none
   unfolding goRefusal
-  go-passes aimed route log =
+  go-passes c driven aimed route log =
       let n = s .header .n in
       rw (
         good-fits g,
+        lt-ltb c classes driven,
         lt-ltb j n (omega (arith, g .n-is, below)),
         aimed,
         le-leb n (length (l .route)) (omega (arith, g .n-is, route)),
@@ -99,35 +101,36 @@ module _ {card : List ℕ} {s : State} (g : Good card s) (j : ℕ) (l : Lent) (b
   unfolding step
   aim-steps = unless-none (askedOf card s (calling (Aim j) l)) s l (aimMade (mapOn card) s j l) aim-passes
 
-  go-steps : isAt (s .header .target) ≡ true → mapOn card .vertices ≤ length (l .route) → mapOn card .vertices ≤ length (l .log)
-      → step card s (calling (Go j) l) ≡ goMade (mapOn card) s j l
+  go-steps : (c : ℕ) → c < classes → isAt (s .header .target) ≡ true
+      → mapOn card .vertices ≤ length (l .route) → mapOn card .vertices ≤ length (l .log)
+      → step card s (calling (Go c j) l) ≡ goMade (cardMap card) s c j l
   unfolding step
-  go-steps aimed route log =
-      unless-none (askedOf card s (calling (Go j) l)) s l (goMade (mapOn card) s j l) (go-passes aimed route log)
+  go-steps c driven aimed route log =
+      unless-none (askedOf card s (calling (Go c j) l)) s l (goMade (cardMap card) s c j l) (go-passes c driven aimed route log)
 
 -- the leg that the definition makes, and a state that a list of calls left again
-pub record LegDone (card : List ℕ) (s : State) (a b : ℕ) (l : Lent) (u : Step) : Type 0 where
-  pub made : u ≡ legMade (mapOn card) s a b l
+pub record LegDone (card : List ℕ) (c : ℕ) (s : State) (a b : ℕ) (l : Lent) (u : Step) : Type 0 where
+  pub made : u ≡ legMade (cardMap card) c s a b l
   pub left : Left card (u .state)
 
-pub leg-done : {card : List ℕ} {h : Header} {a : Both Areas Areas} {l : Both Lent Lent} {from to : ℕ} {x : Answered}
-    → LegMade card h a l from to x → Left card (before h (a .entry)) → Good card (before h (a .entry))
-    → from < mapOn card .vertices → to < mapOn card .vertices
+pub leg-done : {card : List ℕ} {h : Header} {a : Both Areas Areas} {l : Both Lent Lent} {c from to : ℕ} {x : Answered}
+    → LegMade card h a l c from to x → Left card (before h (a .entry)) → Good card (before h (a .entry))
+    → c < classes → from < mapOn card .vertices → to < mapOn card .vertices
     → mapOn card .vertices ≤ length (l .entry .route) → mapOn card .vertices ≤ length (l .entry .log)
-    → LegDone card (before h (a .entry)) from to (l .entry) (after x (a .exit) (l .exit))
-leg-done {card} {h} {a} {l} {from} {to} {x} m w g lf lt route log =
+    → LegDone card c (before h (a .entry)) from to (l .entry) (after x (a .exit) (l .exit))
+leg-done {card} {h} {a} {l} {c} {from} {to} {x} m w g lc lf lt route log =
     let s = before h (a .entry) in
     let u = after x (a .exit) (l .exit) in
     let aimed-is : m .aimed ≡ step card s (calling (Aim to) (l .entry)) = m .aims .exact w in
     let left-aimed : Left card (m .aimed .state) =
     subst (λ (t : Step). Left card (t .state)) (sym aimed-is) (left-step card (calling (Aim to) (l .entry)) w) in
-    let gone-is : u ≡ step card (m .aimed .state) (calling (Go from) (l .entry)) = m .goes .exact left-aimed in
+    let gone-is : u ≡ step card (m .aimed .state) (calling (Go c from) (l .entry)) = m .goes .exact left-aimed in
     let there : m .aimed .state ≡ aimMade (mapOn card) s to (l .entry) .state =
     ap (λ (t : Step). t .state) (aimed-is ∙ aim-steps g to (l .entry) lt) in
     record {
       made =
           gone-is
-          ∙ ap (λ (t : State). step card t (calling (Go from) (l .entry))) there
-          ∙ go-steps (aim-good g to (l .entry) lt) from (l .entry) lf refl route log;
-      left = subst (λ (t : Step). Left card (t .state)) (sym gone-is) (left-step card (calling (Go from) (l .entry)) left-aimed);
+          ∙ ap (λ (t : State). step card t (calling (Go c from) (l .entry))) there
+          ∙ go-steps (aim-good g to (l .entry) lt) from (l .entry) lf c lc refl route log;
+      left = subst (λ (t : Step). Left card (t .state)) (sym gone-is) (left-step card (calling (Go c from) (l .entry)) left-aimed);
     }

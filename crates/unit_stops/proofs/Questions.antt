@@ -1,21 +1,23 @@
--- What the functions that ask say, in the words of the definitions; sums and products. Assumes nothing.
-use mathlib.Core.Path.{_∙_, _≡_, ap, sym}
+-- What the functions that ask say, in the words of the definitions; and sums. Assumes nothing.
+use mathlib.Core.Path.{_∙_, _≡_, ap, ap₂, sym}
+use mathlib.Core.Logic.{_≢_}
 use mathlib.Core.Bool.{Bool, _&&_, false, true}
-use mathlib.Core.Option.{Option, none, some}
+use mathlib.Core.Option.{Option, none}
 use mathlib.Core.List.{List}
-use Prim.Native.Nat.{_*_, _+_, _-_, _<_, _≤_, ℕ}
-use borrow.Author.Tests.{le-ltb, leb-true, lt-ltb}
+use Prim.Native.Nat.{_*_, _+_, _-_, _/_, _<_, _≤_, ℕ}
+use borrow.Author.Tests.{le-leb, le-ltb, lt-leb, lt-ltb}
 use lib.Dec.{leb, ltb}
 use lib.ListN.{drop, drop-of-length-le, getD, length}
 use lib.Seq.{drop-cons}
-use native.Mathlib.Nat.{le-trans, mul-le-mul-left, mul-le-mul-right}
+use native.Mathlib.Decide.{decLt}
+use native.Mathlib.Nat.{div-lt-iff-lt-mul, le-div-iff-mul-le, mul-zero}
 use native.Mathlib.Numerals.{add-one}
-use Rattle.graph.specs.Total.{Total, and-true}
-use Rattle.model.specs.Types.{Header, Lengths, LentLengths, NoJunction, Refusal, StopCount}
-use Rattle.model.specs.Limits.{fewestStops, mostJunctions, mostRoads, mostStops}
+use native.Mathlib.Omega.{arith}
+use Rattle.graph.specs.Total.{Total}
+use Rattle.model.specs.Types.{Header, Lengths, LentLengths, NoClass, NoJunction, Refusal, StopCount}
+use Rattle.model.specs.Limits.{classes, fewestStops, mostStops}
 use Rattle.model.specs.Card.{ask}
 use Rattle.model.specs.Areas.{Each}
-use Rattle.model.specs.State.{inRange, question9}
 use Rattle.model.specs.Stops.{allBelow, stopsRefusal}
 use Rattle.model.specs.Calls.{Stops}
 use Rattle.unit_questions.specs.Lending.{fitsBy}
@@ -37,51 +39,47 @@ module _ (n : ℕ) (stops : List ℕ) {i : ℕ} (rest : allBelow n (drop i stops
   pub below-end : length stops ≤ i → true ≡ allBelow n stops
   below-end h = sym (sym rest ∙ ap (allBelow n) (drop-of-length-le stops h))
 
+-- ---- 14: a product that may not fit is not formed
+
+pub no-room-asked : {n : ℕ} (stops route log : ℕ) → n ≡ 0 → true ≡ (leb (stops * n) route && leb n log)
+no-room-asked stops route log e = rw (e, mul-zero stops, le-leb 0 route (omega arith), le-leb 0 log (omega arith))
+
+-- so many times n entries are there if so many go into them
+pub room-asked : {n : ℕ} (stops route log : ℕ) → n ≢ 0
+    → (leb stops (route / n) && leb n log) ≡ (leb (stops * n) route && leb n log)
+room-asked {n} stops route log e = ap (λ (b : Bool). b && leb n log) (go (decLt (route / n) stops))
+  where
+    some-there : 0 < n
+    some-there = omega (arith, e)
+
+    go : Dec (route / n < stops) → leb stops (route / n) ≡ leb (stops * n) route
+    go (yes h) =
+        let over : route < stops * n = div-lt-iff-lt-mul some-there .0 h in
+        lt-leb stops (route / n) h ∙ sym (lt-leb (stops * n) route over)
+    go (no h) =
+        let within : stops * n ≤ route = le-div-iff-mul-le some-there .0 (omega (arith, h)) in
+        le-leb stops (route / n) (omega (arith, h)) ∙ sym (le-leb (stops * n) route within)
+
 -- ---- the questions, one after the other
 
--- fits, count and below are what 9, 16 and 12 were told
-module _ (base : ℕ → Total) (h : Header) (card : ℕ) (l : Each ℕ) (stops : List ℕ) (r k : ℕ) {fits : Bool}
-    (told : fits ≡ fitsBy h card l) where
-  abbrev stops-asks : Option Refusal
-  stops-asks = asks base h card l (Stops stops) r k
+-- one question, and those after it
+pub asked : {b c : Bool} (q : Refusal) {x y z : Option Refusal} → x ≡ ask b q y → b ≡ c → y ≡ z → x ≡ ask c q z
+asked q e f g = e ∙ ap₂ (λ (b : Bool) (y : Option Refusal). ask b q y) f g
 
-  pub stops-9 : fits ≡ false → some Lengths ≡ stops-asks
-  stops-9 f = rw (sym told ∙ f)
+pub stops-asks : (base : ℕ → Total) (h : Header) (card : List ℕ) (l : Each ℕ) (c : ℕ) (stops : List ℕ) (r k : ℕ) {x : Option Refusal}
+    → x ≡ ask (fitsBy h card l) Lengths
+    (ask (leb fewestStops (length stops) && leb (length stops) mostStops) StopCount
+    (ask (ltb c classes) NoClass
+    (ask (allBelow (h .n) stops) NoJunction
+    (ask (leb (length stops * h .n) r && leb (h .n) k) LentLengths none))))
+    → x ≡ asks base h card l (Stops c stops) r k
+unfolding stopsRefusal
+stops-asks base h card l c stops r k e = e
 
-  pub stops-16 : {count : Bool} → fits ≡ true → count ≡ (leb fewestStops (length stops) && leb (length stops) mostStops) → count ≡ false
-      → some StopCount ≡ stops-asks
-  unfolding stopsRefusal
-  stops-16 f counted c = rw (sym told ∙ f, sym counted ∙ c)
-
-  pub stops-12 : {count below : Bool} → fits ≡ true
-      → count ≡ (leb fewestStops (length stops) && leb (length stops) mostStops) → count ≡ true
-      → below ≡ allBelow (h .n) stops → below ≡ false → some NoJunction ≡ stops-asks
-  unfolding stopsRefusal
-  stops-12 f counted c all b = rw (sym told ∙ f, sym counted ∙ c, sym all ∙ b)
-
-  pub stops-14 : {x : Option Refusal} {count below room : Bool} → fits ≡ true
-      → count ≡ (leb fewestStops (length stops) && leb (length stops) mostStops) → count ≡ true
-      → below ≡ allBelow (h .n) stops → below ≡ true
-      → x ≡ ask room LentLengths none → room ≡ (leb (length stops * h .n) r && leb (h .n) k) → x ≡ stops-asks
-  unfolding stopsRefusal
-  stops-14 f counted c all b asked-is room-is = asked-is ∙ rw (sym told ∙ f, sym counted ∙ c, sym all ∙ b, room-is)
-
--- ---- products and sums
-
-pub product-small : {n s : ℕ} → n ≤ mostJunctions → s ≤ mostStops → s * n ≤ mostStops * mostJunctions
-product-small {n} {s} hn hs = le-trans (mul-le-mul-left s hn) (mul-le-mul-right mostJunctions hs)
+-- ---- sums
 
 pub sum-over : (a b : ℕ) → largest - a < b → largest ≡ sumIn a b
 sum-over a b h = rw (lt-ltb (largest - a) b h)
 
 pub sum-within : (a b : ℕ) → b ≤ largest - a → a + b ≡ sumIn a b
 sum-within a b h = rw (le-ltb (largest - a) b h)
-
--- 14's product is formed of a header in range and of few stops
-pub product-asked : (h : Header) (card : ℕ) (l : Each ℕ) (s : ℕ) → fitsBy h card l ≡ true
-    → (leb fewestStops s && leb s mostStops) ≡ true → (h .n ≤ mostJunctions) × (s ≤ mostStops)
-product-asked h card l s f c =
-    let (ranged, _) = and-true (inRange h) (question9 (h .n) (h .m) (h .pairs) card l) f in
-    let (n-in, _) = and-true (leb (h .n) mostJunctions) (leb (h .m) mostRoads) ranged in
-    let (_, few) = and-true (leb fewestStops s) (leb s mostStops) c in
-    (leb-true (h .n) mostJunctions n-in, leb-true s mostStops few)

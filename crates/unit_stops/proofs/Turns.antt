@@ -44,17 +44,17 @@ use Rattle.unit_stops.proofs.OnWay.{OnWay, from-below, goneTotal, log-r
 use Rattle.unit_stops.proofs.OnWay.{way-turn}
 
 -- the questions of the list have passed
-pub record Passed (card : List ℕ) (stops : List ℕ) (s : State) (l : Lent) : Type 0 where
+pub record Passed (card : List ℕ) (c : ℕ) (stops : List ℕ) (s : State) (l : Lent) : Type 0 where
   pub left : Left card s
-  pub asked : stopsRefusal (knownOf (mapOn card .base .cost) (s .header)) stops (length (l .route)) (length (l .log)) ≡ none
+  pub asked : stopsRefusal (knownOf (mapOn card .base .cost) (s .header)) c stops (length (l .route)) (length (l .log)) ≡ none
 
-pub passed-good : {card : List ℕ} {stops : List ℕ} {s : State} {l : Lent} → Passed card stops s l → Good card s
-passed-good {card} {stops} {s} {l} p =
-    left-good (p .left) (passed-there (mapOn card .base .cost) (s .header) (calling (Stops stops) l) (p .asked))
+pub passed-good : {card : List ℕ} {c : ℕ} {stops : List ℕ} {s : State} {l : Lent} → Passed card c stops s l → Good card s
+passed-good {card} {c} {stops} {s} {l} p =
+    left-good (p .left) (passed-there (mapOn card .base .cost) (s .header) (calling (Stops c stops) l) (p .asked))
 
--- after i legs; s₀ and l₀ are what the list found
-pub record AtLeg (card stops : List ℕ) (number : ℕ) (s₀ : State) (l₀ : Lent) (s : State) (l : Lent) (totals roads : List ℕ) (whole at i : ℕ)
-    : Type 0 where
+-- after i legs of class c; s₀ and l₀ are what the list found
+pub record AtLeg (card : List ℕ) (c : ℕ) (stops : List ℕ) (number : ℕ) (s₀ : State) (l₀ : Lent) (s : State) (l : Lent)
+    (totals roads : List ℕ) (whole at i : ℕ) : Type 0 where
   pub to-go : i ≤ number
   pub within : at ≤ length (l .route)
   pub down : length (s .areas .aimed .down) ≡ length (s₀ .areas .aimed .down)
@@ -67,7 +67,7 @@ pub record AtLeg (card stops : List ℕ) (number : ℕ) (s₀ : State) (l₀ : L
   pub totals-end : (j : ℕ) → i ≤ j → getD totals j 0 ≡ 0
   pub roads-end : (j : ℕ) → i ≤ j → getD roads j 0 ≡ 0
   pub stays : Stays s₀ s
-  pub way : Passed card stops s₀ l₀ → OnWay card s₀ l₀ stops s l totals roads whole at i
+  pub way : Passed card c stops s₀ l₀ → OnWay card c s₀ l₀ stops s l totals roads whole at i
 
 -- a row of zeros
 pub zeros : (j : ℕ) → _≡_ {A = ℕ} (getD (replicate mostLegs 0) j 0) 0
@@ -77,8 +77,8 @@ zeros j = go (decLt j mostLegs)
     go (yes h) = getD-replicate mostLegs j 0 0 h
     go (no h) = List·getD-eq-default (replicate mostLegs 0) 0 {n = j} (omega (arith, h, length-replicate {A = ℕ} mostLegs 0))
 
-pub turn-start : {card stops : List ℕ} {number : ℕ} {s : State} {l : Lent}
-    → AtLeg card stops number s l s l (replicate mostLegs 0) (replicate mostLegs 0) 0 0 0
+pub turn-start : {card : List ℕ} {c : ℕ} {stops : List ℕ} {number : ℕ} {s : State} {l : Lent}
+    → AtLeg card c stops number s l s l (replicate mostLegs 0) (replicate mostLegs 0) 0 0 0
 turn-start = record {
   to-go = omega arith;
   within = omega arith;
@@ -134,10 +134,10 @@ lost-answer (Gone t c k) h = let z : ⊥ = other h in absurd z
 
 -- ---- one turn: a leg from stop i
 
-module _ {card stops : List ℕ} {s₀ : State} {l₀ : Lent} {h : model.Header} {a : Both Areas Areas} {route log y log′ totals roads : List ℕ}
-    {whole at i : ℕ} (x : Answered) (test : i < length stops - 1)
-    (inv : AtLeg card stops (length stops - 1) s₀ l₀ (before h (a .entry)) (lentOf route log) totals roads whole at i)
-    (leg : LegMade card h a (record { entry = lentOf (part at route) log; exit = lentOf y log′ }) (getD stops i 0) (getD stops (i + 1) 0)
+module _ {card : List ℕ} {c : ℕ} {stops : List ℕ} {s₀ : State} {l₀ : Lent} {h : model.Header} {a : Both Areas Areas}
+    {route log y log′ totals roads : List ℕ} {whole at i : ℕ} (x : Answered) (test : i < length stops - 1)
+    (inv : AtLeg card c stops (length stops - 1) s₀ l₀ (before h (a .entry)) (lentOf route log) totals roads whole at i)
+    (leg : LegMade card h a (record { entry = lentOf (part at route) log; exit = lentOf y log′ }) c (getD stops i 0) (getD stops (i + 1) 0)
     (answeredIn x)) where
   more : suc i < length stops
   more = omega (arith, test)
@@ -152,38 +152,38 @@ module _ {card stops : List ℕ} {s₀ : State} {l₀ : Lent} {h : model.Header}
   pub still-within : length y ≡ length (part at route) → at ≤ length (back at route y)
   still-within kept = omega (arith, inv .within, back-length at route y (inv .within) kept)
 
-  module _ (p : Passed card stops s₀ l₀) where
-    abbrev way : OnWay card s₀ l₀ stops (before h (a .entry)) (lentOf route log) totals roads whole at i
+  module _ (p : Passed card c stops s₀ l₀) where
+    abbrev way : OnWay card c s₀ l₀ stops (before h (a .entry)) (lentOf route log) totals roads whole at i
     way = inv .way p
 
     abbrev g : Good card s₀
     g = passed-good p
 
-    asked : StopsPassed g stops (length (l₀ .route)) (length (l₀ .log))
-    asked = stops-passed g stops (length (l₀ .route)) (length (l₀ .log)) (p .asked)
+    asked : StopsPassed g c stops (length (l₀ .route)) (length (l₀ .log))
+    asked = stops-passed g c stops (length (l₀ .route)) (length (l₀ .log)) (p .asked)
 
-    done : LegDone card (before h (a .entry)) (getD stops i 0) (getD stops (suc i) 0) (lentOf (drop at route) log)
+    done : LegDone card c (before h (a .entry)) (getD stops i 0) (getD stops (suc i) 0) (lentOf (drop at route) log)
         (after (answeredIn x) (a .exit) (lentOf y log′))
     done =
         leg-done
-        (subst (λ (z : List ℕ). LegMade card h a (record { entry = lentOf z log; exit = lentOf y log′ }) (getD stops i 0)
+        (subst (λ (z : List ℕ). LegMade card h a (record { entry = lentOf z log; exit = lentOf y log′ }) c (getD stops i 0)
         (getD stops (suc i) 0) (answeredIn x)) (part-is at route)
-        (subst (λ (j : ℕ). LegMade card h a (record { entry = lentOf (part at route) log; exit = lentOf y log′ }) (getD stops i 0)
+        (subst (λ (j : ℕ). LegMade card h a (record { entry = lentOf (part at route) log; exit = lentOf y log′ }) c (getD stops i 0)
         (getD stops j 0) (answeredIn x)) (add-one i) leg))
-        (way .left) (way .good) (from-below g asked more same way) (to-below g asked more same way) (route-room g asked more same way)
-        (log-room g asked more same way)
+        (way .left) (way .good) (asked .class) (from-below g asked more same way) (to-below g asked more same way)
+        (route-room g asked more same way) (log-room g asked more same way)
 
   -- it has no path: 17
   pub turn-lost : OneOf (0 ∷ 1 ∷ 2 ∷ 4 ∷ []) (tagOf the-type (x .answer)) → {q : Refusal} → refusalIn q ≡ model.NoLeg i → {r : Stopped}
       → r ≡ record { header = x .header; answer = stopping.Refused q; legs = noLegs }
       → Journeys card (s₀ .header) (record { entry = s₀ .areas; exit = a .exit })
-      (record { entry = l₀; exit = lentOf (back at route y) log′ }) stops r
+      (record { entry = l₀; exit = lentOf (back at route y) log′ }) c stops r
   turn-lost lost {q} q-is {r} handed =
       subst (λ (z : Stopped). Journeys card (s₀ .header) (record { entry = s₀ .areas; exit = a .exit })
-      (record { entry = l₀; exit = lentOf (back at route y) log′ }) stops z) (sym handed) (record {
+      (record { entry = l₀; exit = lentOf (back at route y) log′ }) c stops z) (sym handed) (record {
         writes = record { leaves = stays-on (inv .stays) (leg-stays leg) .leaves };
         exact = λ w e.
-            let p : Passed card stops s₀ l₀ = record { left = w; asked = e } in
+            let p : Passed card c stops s₀ l₀ = record { left = w; asked = e } in
             ap (λ (z : model.Refusal). answering (model.Refused z) (before (headerIn (x .header)) (a .exit))
             (lentOf (back at route y) log′)) q-is
             ∙ way-lost (passed-good p) (asked p) more same (inv .way p) (done p) (lost-answer (x .answer) lost) (back-is at route y);
@@ -191,15 +191,15 @@ module _ {card stops : List ℕ} {s₀ : State} {l₀ : Lent} {h : model.Header}
       })
 
   -- it has one
-  pub turn-again : length stops ≤ mostStops → {t c k : ℕ} → x .answer ≡ Gone t c k
+  pub turn-again : length stops ≤ mostStops → {t count k : ℕ} → x .answer ≡ Gone t count k
       → length (a .exit .aimed .down) ≡ length (a .entry .aimed .down)
       → length (a .exit .aimed .estimates) ≡ length (a .entry .aimed .estimates)
       → length (a .exit .trip .elapsed) ≡ length (a .entry .trip .elapsed)
       → length y ≡ length (part at route) → length log′ ≡ length log
       → {whole′ : ℕ} → whole′ ≡ sumIn whole t → {at′ : ℕ} → at′ ≡ min (at + k) (length (back at route y))
-      → AtLeg card stops (length stops - 1) s₀ l₀ (before (headerIn (x .header)) (a .exit)) (lentOf (back at route y) log′)
+      → AtLeg card c stops (length stops - 1) s₀ l₀ (before (headerIn (x .header)) (a .exit)) (lentOf (back at route y) log′)
       (set totals i t) (set roads i k) whole′ at′ (i + 1)
-  turn-again many {t} {c} {k} gone down estimates elapsed kept log-kept summed {at′} further =
+  turn-again many {t} {count} {k} gone down estimates elapsed kept log-kept summed {at′} further =
       let back-same = back-length at route y (inv .within) kept in
       let within-totals : i < length totals = omega (arith, test, many, inv .totals-are) in
       let within-roads : i < length roads = omega (arith, test, many, inv .roads-are) in
@@ -226,17 +226,17 @@ module _ {card stops : List ℕ} {s₀ : State} {l₀ : Lent} {h : model.Header}
 
 -- ---- the last stop
 
-pub turn-end : {card stops : List ℕ} {s₀ : State} {l₀ : Lent} {h : unit.Header} {a : Areas} {l : Lent} {totals roads : List ℕ}
-    {whole at i : ℕ} → length stops ≤ mostStops → length stops - 1 ≤ i
-    → AtLeg card stops (length stops - 1) s₀ l₀ (before (headerIn h) a) l totals roads whole at i
-    → Journeys card (s₀ .header) (record { entry = s₀ .areas; exit = a }) (record { entry = l₀; exit = l }) stops
+pub turn-end : {card : List ℕ} {c : ℕ} {stops : List ℕ} {s₀ : State} {l₀ : Lent} {h : unit.Header} {a : Areas} {l : Lent}
+    {totals roads : List ℕ} {whole at i : ℕ} → length stops ≤ mostStops → length stops - 1 ≤ i
+    → AtLeg card c stops (length stops - 1) s₀ l₀ (before (headerIn h) a) l totals roads whole at i
+    → Journeys card (s₀ .header) (record { entry = s₀ .areas; exit = a }) (record { entry = l₀; exit = l }) c stops
     (record { header = h; answer = stopping.Stopped (length stops - 1) whole; legs = record { totals = totals; roads = roads } })
-turn-end {card} {stops} {s₀} {l₀} {h} {a} {l} {totals} {roads} {whole} {at} {i} many test inv =
+turn-end {card} {c} {stops} {s₀} {l₀} {h} {a} {l} {totals} {roads} {whole} {at} {i} many test inv =
     let last : i ≡ length stops - 1 = omega (arith, test, inv .to-go) in
     record {
       writes = record { leaves = inv .stays .leaves };
       exact = λ w e.
-          let p : Passed card stops s₀ l₀ = record { left = w; asked = e } in
+          let p : Passed card c stops s₀ l₀ = record { left = w; asked = e } in
           ap (λ (j : ℕ). answering (model.Stopped (legsFrom totals roads 0 j) whole) (before (headerIn h) a) l) (sym last)
           ∙ way-end (omega (arith, test)) (inv .way p);
       rest = record {

@@ -34,49 +34,49 @@ use Rattle.unit_stops.specs.Legs.{Journeys, MeetsStops, RoomFor}
 use Rattle.unit_stops.proofs.Turns.{zeros}
 
 -- no question refuses
-pub record ListPassed (card : List ℕ) (h : model.Header) (l : Each ℕ) (stops : List ℕ) (lent : Lent) : Type 0 where
-  pub fits : fitsBy h (length card) l ≡ true
-  pub asked : refusalBy (baseOn card) h (calling (Stops stops) lent) ≡ none
+pub record ListPassed (card : List ℕ) (h : model.Header) (l : Each ℕ) (c : ℕ) (stops : List ℕ) (lent : Lent) : Type 0 where
+  pub fits : fitsBy h card l ≡ true
+  pub asked : refusalBy (baseOn card) h (calling (Stops c stops) lent) ≡ none
 
-module _ {card : List ℕ} {h : model.Header} {l : Each ℕ} {stops : List ℕ} {lent : Lent} where
+module _ {card : List ℕ} {h : model.Header} {l : Each ℕ} {c : ℕ} {stops : List ℕ} {lent : Lent} where
   pub list-passed : {x : Verdict} → x ≡ Passed
-      → verdictIn x ≡ asks (baseOn card) h (length card) l (Stops stops) (length (lent .route)) (length (lent .log))
-      → ListPassed card h l stops lent
+      → verdictIn x ≡ asks (baseOn card) h card l (Stops c stops) (length (lent .route)) (length (lent .log))
+      → ListPassed card h l c stops lent
   list-passed passes says =
-      let (f, e) = ask-none (fitsBy h (length card) l) model.Lengths (refusalBy (baseOn card) h (calling (Stops stops) lent))
+      let (f, e) = ask-none (fitsBy h card l) model.Lengths (refusalBy (baseOn card) h (calling (Stops c stops) lent))
       (sym says ∙ ap verdictIn passes) in
       record { fits = f; asked = e }
 
   -- 16 has passed
-  pub room-for : ListPassed card h l stops lent → RoomFor stops
+  pub room-for : ListPassed card h l c stops lent → RoomFor stops
   unfolding stopsRefusal
   room-for p =
       let (count, _) = ask-none (leb fewestStops (length stops) && leb (length stops) mostStops) model.StopCount _ (p .asked) in
       let (few, many) = and-true (leb fewestStops (length stops)) (leb (length stops) mostStops) count in
       record { few = leb-true fewestStops (length stops) few; many = leb-true (length stops) mostStops many }
 
-module _ {card : List ℕ} (u : Header) {a : Areas} {l : Each ℕ} (lengths-are : l ≡ lengths a) {stops : List ℕ} {lent : Lent} where
+module _ {card : List ℕ} (u : Header) {a : Areas} {l : Each ℕ} (lengths-are : l ≡ lengths a) {c : ℕ} {stops : List ℕ} {lent : Lent} where
   pub stops-refused : {x : Verdict} {q : Refusal} → x ≡ Failed q
-      → verdictIn x ≡ asks (baseOn card) (headerIn u) (length card) l (Stops stops) (length (lent .route)) (length (lent .log))
+      → verdictIn x ≡ asks (baseOn card) (headerIn u) card l (Stops c stops) (length (lent .route)) (length (lent .log))
       → {r : Stopped} → r ≡ record { header = u; answer = stopping.Refused q; legs = noLegs }
-      → MeetsStops card u (record { entry = a; exit = a }) (record { entry = lent; exit = lent }) stops r
+      → MeetsStops card u (record { entry = a; exit = a }) (record { entry = lent; exit = lent }) c stops r
   stops-refused fails says handed =
       let there = sym (ap verdictIn fails) ∙ says
-      ∙ ap (λ (y : Each ℕ). asks (baseOn card) (headerIn u) (length card) y (Stops stops) (length (lent .route)) (length (lent .log)))
+      ∙ ap (λ (y : Each ℕ). asks (baseOn card) (headerIn u) card y (Stops c stops) (length (lent .route)) (length (lent .log)))
       lengths-are in
-      subst (MeetsStops card u (record { entry = a; exit = a }) (record { entry = lent; exit = lent }) stops) (sym handed) (record {
+      subst (MeetsStops card u (record { entry = a; exit = a }) (record { entry = lent; exit = lent }) c stops) (sym handed) (record {
         call = refused-by there;
         rest = record { few-legs = omega arith; totals-end = λ j k. zeros j; roads-end = λ j k. zeros j };
       })
 
   -- the base times do not matter to a list's questions
-  pub stops-met : ListPassed card (headerIn u) l stops lent → {after : Areas} {lent′ : Lent} {r : Stopped}
-      → Journeys card (headerIn u) (record { entry = a; exit = after }) (record { entry = lent; exit = lent′ }) stops r
-      → MeetsStops card u (record { entry = a; exit = after }) (record { entry = lent; exit = lent′ }) stops r
+  pub stops-met : ListPassed card (headerIn u) l c stops lent → {after : Areas} {lent′ : Lent} {r : Stopped}
+      → Journeys card (headerIn u) (record { entry = a; exit = after }) (record { entry = lent; exit = lent′ }) c stops r
+      → MeetsStops card u (record { entry = a; exit = after }) (record { entry = lent; exit = lent′ }) c stops r
   unfolding stopsRefusal
   stops-met p made = record {
     call =
-        made-left (subst (λ (y : Each ℕ). fitsBy (headerIn u) (length card) y ≡ true) lengths-are (p .fits)) (p .asked)
+        made-left (subst (λ (y : Each ℕ). fitsBy (headerIn u) card y ≡ true) lengths-are (p .fits)) (p .asked)
         (λ w. made .exact w (p .asked)) (made .writes);
     rest = made .rest;
   }

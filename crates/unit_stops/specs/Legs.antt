@@ -7,7 +7,7 @@ use lib.ListN.{getD, length}
 use denote.Triple.Both.{Both}
 use Rattle.model.specs.Types as model
 use Rattle.model.specs.Limits.{fewestStops, mostLegs, mostStops}
-use Rattle.model.specs.Card.{mapOn}
+use Rattle.model.specs.Card.{cardMap, mapOn}
 use Rattle.model.specs.Areas.{Areas}
 use Rattle.model.specs.State.{Lent, Step, answering}
 use Rattle.model.specs.Stops.{StopsWrites, stopsMade, stopsRefusal}
@@ -22,12 +22,12 @@ use Rattle.unit_stops.specs.Shape.{legCount, stoppingIn}
 abbrev pub left : Stopped → Areas → Lent → Step
 left r a l = answering (stoppingIn (r .answer) (r .legs)) (before (headerIn (r .header)) a) l
 
--- one leg: an aim that met its contract, and a go on what it left that met its own
-pub record LegMade (card : List ℕ) (h : model.Header) (a : Both Areas Areas) (l : Both Lent Lent) (from to : ℕ) (x : model.Answered)
+-- one leg: an aim that met its contract, and a go of the class on what it left that met its own
+pub record LegMade (card : List ℕ) (h : model.Header) (a : Both Areas Areas) (l : Both Lent Lent) (class from to : ℕ) (x : model.Answered)
     : Type 0 where
   pub aimed : Step
   pub aims : CallContract card (before h (a .entry)) (calling (Aim to) (l .entry)) aimed
-  pub goes : CallContract card (aimed .state) (calling (Go from) (l .entry)) (after x (a .exit) (l .exit))
+  pub goes : CallContract card (aimed .state) (calling (Go class from) (l .entry)) (after x (a .exit) (l .exit))
 
 -- there are no more legs than a list may have, and entries past the last are 0
 pub record Rest (r : Stopped) : Type 0 where
@@ -41,15 +41,16 @@ pub record RoomFor (stops : List ℕ) : Type 0 where
   pub many : length stops ≤ mostStops
 
 -- the legs of a list whose questions passed
-pub record Journeys (card : List ℕ) (h : model.Header) (a : Both Areas Areas) (l : Both Lent Lent) (stops : List ℕ) (r : Stopped)
-    : Type 0 where
+pub record Journeys (card : List ℕ) (h : model.Header) (a : Both Areas Areas) (l : Both Lent Lent) (class : ℕ) (stops : List ℕ)
+    (r : Stopped) : Type 0 where
   pub writes : StopsWrites (before h (a .entry)) (left r (a .exit) (l .exit))
   pub exact : Left card (before h (a .entry))
-      → stopsRefusal (knownOf (mapOn card .base .cost) h) stops (length (l .entry .route)) (length (l .entry .log)) ≡ none
-      → left r (a .exit) (l .exit) ≡ stopsMade (mapOn card) (before h (a .entry)) stops (l .entry)
+      → stopsRefusal (knownOf (mapOn card .base .cost) h) class stops (length (l .entry .route)) (length (l .entry .log)) ≡ none
+      → left r (a .exit) (l .exit) ≡ stopsMade (cardMap card) (before h (a .entry)) class stops (l .entry)
   pub rest : Rest r
 
 -- a list of stops meets its contract
-pub record MeetsStops (card : List ℕ) (h : Header) (a : Both Areas Areas) (l : Both Lent Lent) (stops : List ℕ) (r : Stopped) : Type 0 where
-  pub call : CallContract card (before (headerIn h) (a .entry)) (calling (Stops stops) (l .entry)) (left r (a .exit) (l .exit))
+pub record MeetsStops (card : List ℕ) (h : Header) (a : Both Areas Areas) (l : Both Lent Lent) (class : ℕ) (stops : List ℕ) (r : Stopped)
+    : Type 0 where
+  pub call : CallContract card (before (headerIn h) (a .entry)) (calling (Stops class stops) (l .entry)) (left r (a .exit) (l .exit))
   pub rest : Rest r

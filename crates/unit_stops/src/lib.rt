@@ -1,10 +1,10 @@
-// A list of stops (document 02, A3): leg by leg an aim and a go.
+// A list of stops of a class (document 02, A3 and A6): leg by leg an aim and a go.
 ghost use mathlib.Core.Path.{_≡_};
 ghost use mathlib.Core.Bool.{_&&_};
 ghost use Prim.Native.Nat.{_*_, _+_, _≤_, min, ℕ};
 ghost use lib.Dec.{leb};
 ghost use Rattle.graph.specs.Total.{Total};
-ghost use Rattle.model.specs.Limits.{fewestStops, mostJunctions, mostStops};
+ghost use Rattle.model.specs.Limits.{fewestStops, mostStops};
 ghost use Rattle.model.specs.Stops.{allBelow};
 ghost use Rattle.model.specs.Calls.{Stops};
 ghost use Rattle.network.specs.Refusals.{verdictIn};
@@ -70,47 +70,46 @@ fn count_fits(stops: usize) -> bool
     (FEWEST_STOPS <= stops) & (stops <= MOST_STOPS)
 }
 
-// Question 14, of a list of so many stops; only asked of one that 16 lets pass, and of a header in range.
+// Question 14, of a list of so many stops.
 fn lent_fit(n: u32, stops: usize, route: usize, log: usize) -> bool
-    requires { ⌜ (n ≤ mostJunctions) × (stops ≤ mostStops) ⌝ }
     ensures { λ r. ⌜ r ≡ (leb (stops * n) route && leb n log) ⌝ }
 {
     let n = n as usize;
-    (stops * n <= route) & (n <= log)
+    if n == 0 {
+        return true;
+    }
+    (stops <= route / n) & (n <= log)
 }
 
-// Questions 9, 16, 12 and 14.
+// Questions 9, 16, 18, 12 and 14.
 fn stops_asked(
     header: Header,
-    card: usize,
+    card: &[u8],
     l: Lengths,
     route: usize,
     log: usize,
+    class: u32,
     stops: &[u32],
 ) -> Verdict
-    ensures { λ r. ⌜ ((base : ℕ → Total) → verdictIn r ≡ asks base (headerIn header) card (lengthsIn l) (Stops (now (stops .entry)))
-        route log) ⌝ }
+    ensures { λ r. ⌜ ((base : ℕ → Total) → verdictIn r ≡ asks base (headerIn header) (now (card .entry)) (lengthsIn l)
+        (Stops class (now (stops .entry))) route log) ⌝ }
 {
     let sizes = header.sizes;
-    if !unit_questions::fits(sizes, card, l) {
-        return Verdict::Failed(Refusal::LENGTHS);
-    }
-    if !count_fits(stops.len()) {
-        return Verdict::Failed(Refusal::STOP_COUNT);
-    }
-    if !all_below(sizes.n, stops) {
-        return Verdict::Failed(Refusal::NO_JUNCTION);
-    }
-    network::ask(
-        lent_fit(sizes.n, stops.len(), route, log),
-        Refusal::LENT_LENGTHS,
-        Verdict::Passed,
-    )
+    let fits = unit_questions::fits(sizes, card, l);
+    let counted = count_fits(stops.len());
+    let driven = unit_questions::class_fits(class);
+    let below = all_below(sizes.n, stops);
+    let roomy = lent_fit(sizes.n, stops.len(), route, log);
+    let lent = network::ask(roomy, Refusal::LENT_LENGTHS, Verdict::Passed);
+    let known = network::ask(below, Refusal::NO_JUNCTION, lent);
+    let classed = network::ask(driven, Refusal::NO_CLASS, known);
+    let listed = network::ask(counted, Refusal::STOP_COUNT, classed);
+    network::ask(fits, Refusal::LENGTHS, listed)
 }
 
 // ---- legs
 
-// One leg: an aim at its end, and a go from its start.
+// One leg: an aim at its end, and a go of the class from its start.
 fn leg(
     header: Header,
     card: &[u8],
@@ -124,11 +123,12 @@ fn leg(
     groups: &[u32],
     route: &mut [u32],
     log: &mut [u32],
+    class: u32,
     from: Junction,
     to: Junction,
 ) -> Answered
     ensures { λ r. ⌜ LegMade (now (card .entry)) (headerIn header) (areas ranks pairs live down estimates elapsed leaving groups)
-        (lent route log) (from .0) (to .0) (answeredIn r) ⌝ }
+        (lent route log) class (from .0) (to .0) (answeredIn r) ⌝ }
 {
     let aimed = header.aim(
         card,
@@ -155,6 +155,7 @@ fn leg(
         groups,
         route,
         log,
+        class,
         from,
     )
 }
@@ -206,11 +207,12 @@ fn journey(
     groups: &[u32],
     route: &mut [u32],
     log: &mut [u32],
+    class: u32,
     stops: &[u32],
 ) -> Stopped
     requires { ⌜ RoomFor (now stops) ⌝ }
     ensures { λ r. ⌜ Journeys (now (card .entry)) (headerIn header) (areas ranks pairs live down estimates elapsed leaving groups)
-        (lent route log) (now (stops .entry)) r ⌝ }
+        (lent route log) class (now (stops .entry)) r ⌝ }
 {
     let mut totals = [0u64; MOST_LEGS];
     let mut roads = [0u32; MOST_LEGS];
@@ -236,6 +238,7 @@ fn journey(
             groups,
             &mut route[at..],
             log,
+            class,
             from,
             to,
         );
@@ -265,7 +268,8 @@ fn journey(
 // ---- the call
 
 // Calls at the stops in their order: for each leg its total and number of roads, and the whole total; the legs' roads follow one another in
-// the route area. Each leg is an aim and a go: areas and target are left as after the last, or, by 17, after the first that has no path.
+// the route area. Each leg is an aim and a go of the class: areas and target are left as after the last, or, by 17, after the first without
+// a path.
 pub fn stops(
     header: Header,
     card: &[u8],
@@ -279,10 +283,11 @@ pub fn stops(
     groups: &[u32],
     route: &mut [u32],
     log: &mut [u32],
+    class: u32,
     stops: &[u32],
 ) -> Stopped
     ensures { λ r. ⌜ MeetsStops (now (card .entry)) header (areas ranks pairs live down estimates elapsed leaving groups)
-        (lent route log) (now (stops .entry)) r ⌝ }
+        (lent route log) class (now (stops .entry)) r ⌝ }
 {
     let l = unit_questions::lengths_of(
         ranks,
@@ -294,7 +299,7 @@ pub fn stops(
         leaving,
         groups,
     );
-    match stops_asked(header, card.len(), l, route.len(), log.len(), stops) {
+    match stops_asked(header, card, l, route.len(), log.len(), class, stops) {
         Verdict::Failed(q) => refused(header, q),
         Verdict::Passed => journey(
             header,
@@ -309,6 +314,7 @@ pub fn stops(
             groups,
             route,
             log,
+            class,
             stops,
         ),
     }

@@ -18,7 +18,7 @@ use unit::Target;
 use unit_answers::Answer;
 use unit_questions::Lengths;
 
-// What questions 1 to 7 say: refused, or the numbers of junctions and roads, with no pair yet.
+// What questions 1 to 7 say: refused, or the numbers of junctions and roads and the card's length, with no pair yet.
 enum Asked {
     No(Refusal),
     Yes(Sizes),
@@ -31,10 +31,12 @@ fn ask(card: &[u8], l: Lengths) -> Asked
     match card::read(card) {
         Reading::Unreadable(q) => Asked::No(q),
         Reading::Read(n, m) => {
+            let size = card.len() as u32;
             let s = Sizes {
                 n: n,
                 m: m,
                 pairs: 0,
+                card: size,
             };
             if unit_questions::lengths_fit(s, l) {
                 Asked::Yes(s)
@@ -55,6 +57,7 @@ fn unprepared(q: Refusal) -> Answered
                 n: 0,
                 m: 0,
                 pairs: 0,
+                card: 0,
             },
             target: Target::Absent,
         },
@@ -62,7 +65,7 @@ fn unprepared(q: Refusal) -> Answered
     }
 }
 
-// An accepted one hands back the three numbers and no target; question 8.
+// An accepted one hands back the four numbers and no target; question 8.
 fn prepared(s: Sizes, z: Contracted) -> Answered
     ensures { λ r. ⌜ answeredIn r ≡ handedBack s z ⌝ }
 {
@@ -74,6 +77,7 @@ fn prepared(s: Sizes, z: Contracted) -> Answered
                     n: s.n,
                     m: s.m,
                     pairs: count,
+                    card: s.card,
                 },
                 target: Target::Absent,
             },

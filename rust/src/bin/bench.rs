@@ -36,6 +36,8 @@ const ROUNDS: usize = 20;
 const TRIPS: usize = 20;
 /// Stops of a list.
 const STOPS: usize = 8;
+/// The class of every call.
+const CLASS: u32 = 0;
 
 fn main() {
     let asked = Asked::of(env::args_os().skip(1)).unwrap_or_else(refuse);
@@ -177,6 +179,7 @@ impl Measured {
         for percent in [0, 1, 5] {
             bench.go(percent);
         }
+        bench.barred_go(10);
         Measured { lines: bench.lines, map, pairs }
     }
 }
@@ -329,7 +332,8 @@ impl Bench<'_> {
         let unit = &mut self.both.unit;
         unit.aim(target).expect("a junction");
         let (mut route, mut log) = ([0; MOST_JUNCTIONS], [0; MOST_JUNCTIONS]);
-        let roads = unit.go(start, &mut route, &mut log).map_or(0, |trip| trip.roads as usize);
+        let trip = unit.go(CLASS, start, &mut route, &mut log);
+        let roads = trip.map_or(0, |trip| trip.roads as usize);
         let road = match roads {
             0 => self.random.below(self.map.m()) as u32,
             _ => route[roads / 2],
@@ -350,10 +354,11 @@ impl Bench<'_> {
         let times = measure(
             TRIPS,
             [
-                &mut |i| timed(|| unit.stops(&lists[i], &mut lent.route, &mut lent.log)),
-                &mut |i| timed(|| router.stops(&lists[i], &mut plain.route, &mut plain.log)),
+                &mut |i| timed(|| unit.stops(CLASS, &lists[i], &mut lent.route, &mut lent.log)),
+                &mut |i| timed(|| router.stops(CLASS, &lists[i], &mut plain.route, &mut plain.log)),
                 &mut |i| {
-                    timed(|| areas::stops(&mut areas, &lists[i], &mut other.route, &mut other.log))
+                    let (route, log) = (&mut other.route, &mut other.log);
+                    timed(|| areas::stops(&mut areas, CLASS, &lists[i], route, log))
                 },
             ],
         );
@@ -364,23 +369,37 @@ impl Bench<'_> {
         array::from_fn(|_| self.random.below(self.map.n()) as u32)
     }
 
-    /// Trips with so many percent of the roads changed: right after an aim, so with no estimate known,
-    /// and again, with those known that they ask for.
+    /// Trips with so many percent of the roads changed.
     fn go(&mut self, percent: usize) {
         let base = (0..).zip(self.map.base());
         for (road, time) in base.chain(traffic::changes(&mut self.random, self.map, percent)) {
             self.both.unit.set(road, time).expect("an allowed time");
             self.both.router.set(road, time).expect("an allowed time");
         }
+        self.trips(&format!("{percent} % of roads changed"));
+    }
+
+    /// Trips at base times, on a card with a byte for each road, so many percent of which bar the class.
+    fn barred_go(&mut self, percent: usize) {
+        let map = barred(&mut self.random, self.map, percent);
+        let both = Both::prepare(&map, order::pairs(&map)).expect("room for the pairs");
+        let mut bench = Bench { map: &map, both, random: Random::new(3), lines: Vec::new() };
+        bench.trips(&format!("{percent} % of roads barred"));
+        self.lines.append(&mut bench.lines);
+    }
+
+    /// Trips right after an aim, so with no estimate known, and again, with those known that they ask for.
+    fn trips(&mut self, roads: &str) {
         let (starts, targets) = (self.junctions(), self.junctions());
         let (graph, base) = (Graph::new(self.map), self.map.base());
         let least = |target| dijkstra::to(&graph, &base, target);
         let potentials: Vec<Vec<Time>> = targets.iter().map(|&target| least(target)).collect();
         let Both { unit, router, .. } = &mut self.both;
-        let live = router.live.clone();
+        let live = self.map.met_by(CLASS, &router.live);
         let dijkstra = |i: usize| dijkstra::between(&graph, &live, starts[i], targets[i]);
         let free = |i: usize| {
-            search(&graph, &live, starts[i], targets[i], |at| potentials[i][at as usize])
+            let live = |road: u32| live[road as usize];
+            search(&graph, live, starts[i], targets[i], |at| potentials[i][at as usize])
         };
 
         let (mut count, mut settled) = (0, 0);
@@ -403,7 +422,7 @@ impl Bench<'_> {
                     &mut |i| timed_again(|| free(i)),
                 ],
             );
-            let step = format!("{name}, {percent} % of roads changed");
+            let step = format!("{name}, {roads}");
             let go = Some(Go { dijkstra, free, count, settled });
             self.lines.push(Line { step, proved, plain, areas: None, go });
         }
@@ -424,7 +443,7 @@ impl Outlook {
     fn previewed(&self, unit: &mut impl Calls, before: usize) -> (Duration, Option<Previewed>) {
         let &Outlook { road, time, start, target, .. } = self;
         unit.aim(target).expect("a junction");
-        self.timed(before, |work| unit.preview(road, time, start, work))
+        self.timed(before, |work| unit.preview(CLASS, road, time, start, work))
     }
 
     /// The answer, which is the same by all three.
@@ -444,7 +463,7 @@ impl Outlook {
     fn previewed_on_areas(&self, unit: &mut Unit, before: usize) -> (Duration, Option<Previewed>) {
         let &Outlook { road, time, start, target, .. } = self;
         areas::aim(unit, target).expect("a junction");
-        self.timed(before, |work| areas::preview(unit, road, time, start, work))
+        self.timed(before, |work| areas::preview(unit, CLASS, road, time, start, work))
     }
 
     fn timed(
@@ -484,14 +503,25 @@ fn stopped(
     stops: &[u32],
 ) -> Option<Stopped> {
     let [mut lent, mut plain, mut other] = Lent::three(unit.ranks.len());
-    let answer = unit.stops(stops, &mut lent.route, &mut lent.log);
-    let by_router = router.stops(stops, &mut plain.route, &mut plain.log);
+    let answer = unit.stops(CLASS, stops, &mut lent.route, &mut lent.log);
+    let by_router = router.stops(CLASS, stops, &mut plain.route, &mut plain.log);
     assert_eq!(answer, by_router, "proved (left), plain (right)");
-    let by_areas = areas::stops(areas, stops, &mut other.route, &mut other.log);
+    let by_areas = areas::stops(areas, CLASS, stops, &mut other.route, &mut other.log);
     assert_eq!(answer, by_areas, "proved (left), areas (right)");
     assert!(lent == plain && lent == other, "what is lent differs");
     assert!(areas == unit, "the areas differ");
     answer.ok()
+}
+
+/// A map of which so many percent of the roads, and at least one, bar the class, and let the others in.
+fn barred(random: &mut Random, map: &Map, percent: usize) -> Map {
+    let mut map = map.clone();
+    let mut roads: Vec<usize> = (0..map.m()).collect();
+    random.shuffle(&mut roads);
+    for &road in &roads[..(map.m() * percent / 100).max(1)] {
+        map.roads[road].access = !(1 << CLASS);
+    }
+    map
 }
 
 /// The estimates of some junctions, right after an aim.
@@ -541,16 +571,16 @@ fn timed_go(unit: &mut impl Calls, start: u32, target: u32, before: usize) -> Du
     unit.aim(target).expect("a junction");
     let (mut route, mut log) = ([0; MOST_JUNCTIONS], [0; MOST_JUNCTIONS]);
     for _ in 0..before {
-        let _ = unit.go(start, &mut route, &mut log);
+        let _ = unit.go(CLASS, start, &mut route, &mut log);
     }
-    timed(|| unit.go(start, &mut route, &mut log))
+    timed(|| unit.go(CLASS, start, &mut route, &mut log))
 }
 
 /// The log of a go.
 fn logged(unit: &mut Unit, start: u32, target: u32) -> Vec<u32> {
     unit.aim(target).expect("a junction");
     let (mut route, mut log) = ([0; MOST_JUNCTIONS], [0; MOST_JUNCTIONS]);
-    let count = match unit.go(start, &mut route, &mut log) {
+    let count = match unit.go(CLASS, start, &mut route, &mut log) {
         Ok(trip) => trip.count,
         Err(Refusal::NoPath(count)) => count,
         Err(refusal) => panic!("{refusal:?}"),
@@ -624,7 +654,9 @@ none, in a least-degree one, and has a table of its own at the end, under its na
 - **Dijkstra**: Dijkstra's algorithm with a binary heap, which finds the total alone.
 - **A\\***: A\\* with each junction's least base total to the target handed to it free. It logs what the unit logs.
 - **go**: 20 trips between any two junctions, each right after an aim, so with no estimate known; **again**: the same trips once more.
-  Of the changed roads, half are closed and half delayed to two to ten times their base time.
+  Of the changed roads, half are closed and half delayed to two to ten times their base time. All are of class 0. In the lines with **roads
+  barred** the card has a byte for each road, and a tenth of the roads bar that class; unit and Rust look at the byte of each road that they
+  come to, while Dijkstra's algorithm and A\\* are handed these roads as closed ones.
 - **preview**: 20 trips in the same way, no road changed, each with a road from the middle of its way previewed at ten times its base time, so
   two searches; **preview again**: the same once more. Under *areas* in Rust too over the unit's areas, the work area and a binary heap.
 - **stops**: 20 lists of 8 stops between any two junctions, no road changed, so 7 aims and 7 goes each. Under *areas* likewise.
@@ -648,13 +680,14 @@ of a second go there at 5 % (34 µs, then 22 µs), until the words of the queue 
 ";
 
 /// The largest town's ratios as earlier landings left them, in the columns of `Report::landings`.
-const BEFORE: [[&str; 7]; 6] = [
-    ["8, before A1", "1.52", "2.65 (3.90)", "1.98 (2.84)", "1.57 (2.33)", "", ""],
-    ["9, A1", "1.53", "0.892 (1.35)", "0.853 (1.30)", "0.833 (1.26)", "", ""],
-    ["10, A2", "1.43", "0.889 (1.37)", "0.857 (1.25)", "0.775 (1.06)", "1.16 (1.20)", ""],
-    ["11, A3", "1.47", "0.910 (1.48)", "0.790 (1.19)", "0.803 (1.16)", "1.14 (1.18)", "1.03 (0.819)"],
-    ["12, A4", "1.54", "0.857 (1.27)", "0.820 (1.20)", "0.818 (1.19)", "1.05 (1.08)", "0.957 (0.758)"],
-    ["13, A5", "1.57", "0.976 (1.45)", "1.00 (1.53)", "1.03 (1.56)", "1.30 (1.33)", "0.962 (0.764)"],
+#[rustfmt::skip]
+const BEFORE: [[&str; 8]; 6] = [
+    ["8, before A1", "1.52", "2.65 (3.90)", "1.98 (2.84)", "1.57 (2.33)", "", "", ""],
+    ["9, A1", "1.53", "0.892 (1.35)", "0.853 (1.30)", "0.833 (1.26)", "", "", ""],
+    ["10, A2", "1.43", "0.889 (1.37)", "0.857 (1.25)", "0.775 (1.06)", "", "1.16 (1.20)", ""],
+    ["11, A3", "1.47", "0.910 (1.48)", "0.790 (1.19)", "0.803 (1.16)", "", "1.14 (1.18)", "1.03 (0.819)"],
+    ["12, A4", "1.54", "0.857 (1.27)", "0.820 (1.20)", "0.818 (1.19)", "", "1.05 (1.08)", "0.957 (0.758)"],
+    ["13, A5", "1.57", "0.976 (1.45)", "1.00 (1.53)", "1.03 (1.56)", "", "1.30 (1.33)", "0.962 (0.764)"],
 ];
 
 impl Display for Report {
@@ -751,12 +784,15 @@ impl Report {
         let n = large.map.n();
         write!(f, "\nRatios at {n} junctions by landing, to Rust and in brackets to A\\*, ")?;
         f.write_str("of a preview (A2) and a list of stops (A3) to Rust on the areas:\n\n")?;
-        f.write_str("| landing | prepare | again, 0 % | 1 % | 5 % | preview again | stops |\n")?;
-        f.write_str("|:--|--:|--:|--:|--:|--:|--:|\n")?;
+        f.write_str("| landing | prepare | again, 0 % | 1 % | 5 % ")?;
+        f.write_str("| 10 % barred | preview again | stops |\n")?;
+        f.write_str("|:--|--:|--:|--:|--:|--:|--:|--:|\n")?;
         for cells in BEFORE {
             writeln!(f, "| {} |", cells.join(" | "))?;
         }
-        let again = ["0", "1", "5"].map(|part| ratio(&format!("again, {part} % of roads changed")));
+        let again = ["0 % of roads changed", "1 % of roads changed", "5 % of roads changed"];
+        let again = again.into_iter().chain(["10 % of roads barred"]);
+        let again: Vec<String> = again.map(|roads| ratio(&format!("again, {roads}"))).collect();
         let [prepare, preview, stops] = ["prepare", "preview again", "stops"].map(ratio);
         writeln!(f, "| this run | {prepare} | {} | {preview} | {stops} |", again.join(" | "))
     }
@@ -808,6 +844,7 @@ fn date() -> String {
 #[cfg(test)]
 mod tests {
     use super::*;
+    use harness::calls::Call;
     use harness::card::MOST_ROADS;
 
     fn asked(arguments: &[&str]) -> Result<Asked, String> {
@@ -915,6 +952,28 @@ mod tests {
         assert!(found > TRIPS / 2, "{found} of {TRIPS}");
     }
 
+    /// A tenth of the roads bar the class, and no other; with them some trips are longer, and all answer alike.
+    #[test]
+    fn barred_roads() {
+        let map = maps::town(&mut Random::new(1), 20, 25, Streets::USUAL);
+        let barred = barred(&mut Random::new(2), &map, 10);
+        let bars = |class| barred.roads.iter().filter(|road| !road.admits(class)).count();
+        assert_eq!((bars(CLASS), bars(7)), (map.m() / 10, 0));
+        let [both, with] =
+            [&map, &barred].map(|map| Both::prepare(map, order::pairs(map)).unwrap());
+        assert_eq!(with.unit.card.len(), card::len_with_access(map.n(), map.m()));
+        let mut longer = 0;
+        for target in 0..TRIPS as u32 {
+            let [direct, round] = [both.clone(), with.clone()].map(|mut both| {
+                let go = Call::Go { class: CLASS, start: 400, route: map.n(), log: map.n() };
+                both.call(Call::Aim { junction: target });
+                both.call(go).answer
+            });
+            longer += (direct != round) as usize;
+        }
+        assert!(longer > TRIPS / 3, "{longer} of {TRIPS}");
+    }
+
     /// The landings' table has a column for each step of it, one for previews and one for lists of stops.
     #[test]
     fn landings_in_the_report() {
@@ -927,8 +986,9 @@ mod tests {
         let (_, table) = report.split_once("by landing").unwrap();
         let rows: Vec<&str> = table.lines().filter(|line| line.starts_with('|')).collect();
         let columns = rows.iter().map(|row| row.matches('|').count());
-        assert_eq!(columns.collect::<Vec<_>>(), [8; 3 + BEFORE.len()], "{table}");
-        let last = "| this run | 1.50 (0.500) | 1.50 (0.500) |  |  | 1.50 (0.500) | 1.50 (0.500) |";
+        assert_eq!(columns.collect::<Vec<_>>(), [9; 3 + BEFORE.len()], "{table}");
+        let last =
+            "| this run | 1.50 (0.500) | 1.50 (0.500) |  |  |  | 1.50 (0.500) | 1.50 (0.500) |";
         assert_eq!(rows.last(), Some(&last));
     }
 

@@ -1,7 +1,9 @@
-//! Makes the card of a map that is lines of text, through the proved writer, and text of a card.
+//! Makes the card of a map that is lines of text, and text of a card. The proved writer, which knows maps without
+//! classes, makes a card; where a road bars a class, a section with a byte for each road is added to it here, and the
+//! proved reader asked whether it takes that card.
 
 use harness::calls::Refusal;
-use harness::card;
+use harness::card::{self, EVERY_CLASS};
 use harness::maps::Map;
 use harness::order::{self, MOST_PAIRS};
 use harness::{text, unit};
@@ -10,7 +12,8 @@ use std::path::{Path, PathBuf};
 use std::{env, fs, process};
 
 const USAGE: &str = "\
-make-card TEXT CARD     makes the card of a map: lines `road TAIL HEAD SECONDS` and, if you like, `order J J ..`
+make-card TEXT CARD     makes the card of a map: lines `road TAIL HEAD SECONDS`, with `classes 0,2-5` behind it if only
+                        these vehicle classes may use it, and, if you like, `order J J ..`
 make-card --text CARD   prints the lines of a card";
 
 /// What the program has room for: junctions, roads and pairs.
@@ -38,9 +41,7 @@ fn make_card(text: &Path, card: &Path) -> Result<(), String> {
     let about = |error: &dyn ToString| format!("{}: {}", text.display(), error.to_string());
     let lines = fs::read(text).map_err(|error| about(&error))?;
     let map = text::parse(&lines).map_err(|fault| about(&fault))?;
-    let (roads, order) = map.rows();
-    let mut bytes = vec![0; card::len(map.n(), map.m())];
-    unit::write(&roads, &order, &mut bytes).map_err(|refusal| about(&told(refusal)))?;
+    let bytes = card_of(&map).map_err(|refusal| about(&told(refusal)))?;
     if fs::canonicalize(card)
         .is_ok_and(|card| fs::canonicalize(text).is_ok_and(|text| card == text))
     {
@@ -50,12 +51,25 @@ fn make_card(text: &Path, card: &Path) -> Result<(), String> {
     say(&(summary(&map) + "\n"))
 }
 
+/// The card of a map, with bytes for classes if a road bars one.
+fn card_of(map: &Map) -> Result<Vec<u8>, Refusal> {
+    let (roads, order) = map.rows();
+    let mut card = vec![0; card::len(map.n(), map.m())];
+    unit::write(&roads, &order, &mut card)?;
+    if map.admits_all() {
+        return Ok(card);
+    }
+    let card = card::with_access(&card, &map.access());
+    unit::read(&card)?;
+    Ok(card)
+}
+
 fn print_text(card: &Path) -> Result<(), String> {
     let about = |error: &dyn ToString| format!("{}: {}", card.display(), error.to_string());
     let bytes = fs::read(card).map_err(|error| about(&error))?;
     unit::read(&bytes).map_err(|refusal| about(&told(refusal)))?;
-    let (roads, order) = card::map(&bytes).map_err(|refusal| about(&told(refusal)))?;
-    say(&text::print(&Map::of_rows(&roads, order)))
+    let map = Map::of_card(&bytes).map_err(|refusal| about(&told(refusal)))?;
+    say(&text::print(&map))
 }
 
 fn say(words: &str) -> Result<(), String> {
@@ -81,12 +95,15 @@ fn put(path: &Path, bytes: &[u8]) -> Result<(), String> {
 /// A refusal of a card or of a map, in words.
 fn told(refusal: Refusal) -> String {
     let why = match refusal {
-        Refusal::Short => "it is shorter than 28 bytes".to_string(),
+        Refusal::Short => "it is shorter than its table of contents".to_string(),
         Refusal::Kinds => "it does not begin as a card does".to_string(),
         Refusal::Starts => {
             "it is longer or shorter than it says, or its parts lie elsewhere".to_string()
         }
-        Refusal::Sizes => "it has too many roads, or too many junctions or none".to_string(),
+        Refusal::Sizes => {
+            "it has too many roads, too many junctions or none, or not a byte of classes for each road"
+                .to_string()
+        }
         Refusal::Road(road) => format!("road {road} has a wrong end or a time out of range"),
         Refusal::Place(place) => {
             format!("place {place} of the order, from 0, has a wrong junction or one that stands before")
@@ -104,8 +121,13 @@ fn summary(map: &Map) -> String {
     let unit = says(pairs <= MOST_PAIRS);
     let program = says(needs.iter().zip(PROGRAM).all(|(&need, room)| need <= room));
     let [junctions, roads, room] = PROGRAM;
+    let barred = match map.access().iter().filter(|&&access| access != EVERY_CLASS).count() {
+        0 => String::new(),
+        1 => "; 1 road bars some classes".to_string(),
+        barred => format!("; {barred} roads bar some classes"),
+    };
     format!(
-        "{n} junctions, {m} roads, {pairs} pairs\n\
+        "{n} junctions, {m} roads, {pairs} pairs{barred}\n\
          {unit} the unit (4096 junctions, 16384 roads, {MOST_PAIRS} pairs)\n\
          {program} the program ({junctions} junctions, {roads} roads, {room} pairs)"
     )

@@ -1,49 +1,65 @@
--- Each return is by the first question that fails, since those before it passed; once 2 and 3 have passed (`Table`), the bodies are the
--- card's parts, and `card_reader::check` asks the rest.
-use mathlib.Core.Path.{_∙_, ap, sym}
+-- Each return is by the first question that fails, since those before it passed. Once the table is right (`Right`), `card_reader::check`
+-- asks the rest; a card that it passes has so few junctions and roads that both numbers are words (`n-fits`, `m-fits`).
+use mathlib.Core.Path.{_∙_, _≡_, ap, sym}
+use mathlib.Core.List.{List}
+use mathlib.Core.Option.{none}
+use Prim.Native.Nat.{_/_, ℕ}
+use lib.ListN.{length}
 use borrow.Author.Needs.{needs}
 use borrow.Author.Tests.{not-false, not-true}
-use Rattle.card_layout.specs.Sections.{sectionIn}
+use native.Mathlib.Omega.{arith}
+use Rattle.model.specs.Layout.{accessFits, roadSize, roadsIn, sections}
+use Rattle.model.specs.Card.{countOk}
 use Rattle.network.specs.Refusals.{verdictIn}
-use Rattle.card.proofs.ReadWays.{Entries, Table, read-1, read-2, read-3, read-failed, read-passed}
+use Rattle.card.proofs.ReadWays.{Right, Tabled, m-fits, n-fits, read-1, read-1-table, read-2, read-2-kinds, read-3, read-4}
+use Rattle.card.proofs.ReadWays.{read-failed, read-passed}
 use Rattle.card.proofs.read.Statement.{statement}
 use Rattle.card.proofs.read.Tie as tie
 
 -- ---- past the questions
 
-abbrev start : tie.After-section-at → tie.Start
-start c = c .before .before .before
+-- the number of sections is what was read
+counted : (c : tie.After-count-ok) →
+    let start = c .before .before .before .before in
+    countOk (sections (start .args .card .now)) ≡ c .count-ok .result
+counted c = ap countOk (sym (c .before .sections .ensures)) ∙ sym (c .count-ok .ensures)
 
--- past question 1, with the table's entries read
-entries : (c : tie.After-sections) →
-    let after-section-at = c .before .before in
-    Entries (start after-section-at .args .card .now) (c .sections .result) (sectionIn (after-section-at .section-at .result))
-    (sectionIn (c .before .section-at2 .result))
-entries c =
-    let after-section-at2 = c .before in
-    let after-section-at = after-section-at2 .before in
-    let else1 = after-section-at .before in record {
-      long = else1 .if1 .left;
-      count-is = c .sections .ensures;
-      first = after-section-at .section-at .ensures;
-      second = after-section-at2 .section-at2 .ensures;
+abbrev start : tie.Else3 → tie.Start
+start c = c .before .before .before .before .before .before .before
+
+table : (c : tie.Else3) → Tabled (start c .args .card .now)
+table c =
+    let after-table-size = c .before in
+    let else2 = after-table-size .before in
+    let after-count-ok = else2 .before in
+    let after-sections = after-count-ok .before in
+    let else1 = after-sections .before in record {
+      four = else1 .if1 .left;
+      count = counted after-count-ok ∙ not-false _ (else2 .if2 .left);
+      long = omega (arith, c .if3 .left, after-table-size .table-size .ensures, after-sections .sections .ensures);
     }
 
--- past questions 2 and 3
-abbrev after-sections : tie.Else3 → tie.After-sections
-after-sections c = c .before .before .before .before
+-- the third length was compared with the number of roads
+third : (c : tie.After-access-fits) →
+    let else3 = c .before .before .before .before .before .before in
+    accessFits (start else3 .args .card .now) (length (roadsIn (start else3 .args .card .now)) / roadSize)
+    ≡ c .access-fits .result
+third c =
+    let else3 = c .before .before .before .before .before .before in
+    let card = start else3 .args .card .now in
+    ap (λ (l : List ℕ). accessFits card (length l / roadSize)) (sym (c .before .roads-of .ensures)) ∙ sym (c .access-fits .ensures)
 
-table : (c : tie.Else3) →
-    let after-section-at2 = after-sections c .before in
-    let after-section-at = after-section-at2 .before in
-    Table (start after-section-at .args .card .now) (after-sections c .sections .result)
-    (sectionIn (after-section-at .section-at .result)) (sectionIn (after-section-at2 .section-at2 .result))
-table c =
-    let after-starts-ok = c .before in
-    let else2 = after-starts-ok .before in record {
-      entries = entries (after-sections c);
-      kinds = sym (else2 .before .kinds-ok .ensures) ∙ not-false _ (else2 .if2 .left);
-      starts = sym (after-starts-ok .starts-ok .ensures) ∙ not-false _ (c .if3 .left);
+abbrev else3 : tie.Else6 → tie.Else3
+else3 c = c .before .before .before .before .before .before .before
+
+right : (c : tie.Else6) → Right (start (else3 c) .args .card .now)
+right c =
+    let else5 = c .before .before .before in
+    let else4 = else5 .before .before in record {
+      table = table (else3 c);
+      kinds = sym (else4 .before .kinds-ok .ensures) ∙ not-false _ (else4 .if4 .left);
+      starts = sym (else5 .before .starts-ok .ensures) ∙ not-false _ (else5 .if5 .left);
+      third = third (c .before) ∙ not-false _ (c .if6 .left);
     }
 
 -- ---- the answers
@@ -53,27 +69,72 @@ returns c = read-1 _ (c .if1 .taken)
 
 returns-2 : tie.Need-returns-2
 returns-2 c =
-    let after-kinds-ok = c .before in
-    read-2 (entries (after-kinds-ok .before)) (sym (after-kinds-ok .kinds-ok .ensures) ∙ not-true _ (c .if2 .taken))
+    let after-count-ok = c .before in
+    let else1 = after-count-ok .before .before in
+    read-2 _ (else1 .if1 .left) (counted after-count-ok ∙ not-true _ (c .if2 .taken))
 
 returns-3 : tie.Need-returns-3
 returns-3 c =
-    let after-starts-ok = c .before in
-    let else2 = after-starts-ok .before in
-    let after-kinds-ok = else2 .before in
-    read-3 (entries (after-kinds-ok .before)) (sym (after-kinds-ok .kinds-ok .ensures) ∙ not-false _ (else2 .if2 .left))
-    (sym (after-starts-ok .starts-ok .ensures) ∙ not-true _ (c .if3 .taken))
+    let after-table-size = c .before in
+    let else2 = after-table-size .before in
+    let after-count-ok = else2 .before in
+    let after-sections = after-count-ok .before in
+    read-1-table _ (after-sections .before .if1 .left) (counted after-count-ok ∙ not-false _ (else2 .if2 .left))
+    (omega (arith, c .if3 .taken, after-table-size .table-size .ensures, after-sections .sections .ensures))
 
 returns-4 : tie.Need-returns-4
 returns-4 c =
-    let after-check = c .before .before .before in
-    read-failed (table (after-check .before)) (after-check .check .ensures) (ap verdictIn (sym (c .before .q .given .1)))
+    let after-kinds-ok = c .before in
+    read-2-kinds (table (after-kinds-ok .before)) (sym (after-kinds-ok .kinds-ok .ensures) ∙ not-true _ (c .if4 .taken))
 
 returns-5 : tie.Need-returns-5
 returns-5 c =
-    let after-enum-told = c .before .before in
-    let after-check = after-enum-told .before .before in
-    read-passed (table (after-check .before)) (after-check .check .ensures) (ap verdictIn (sym (after-enum-told .enum-told .given .1)))
+    let after-starts-ok = c .before in
+    let else4 = after-starts-ok .before in
+    let after-kinds-ok = else4 .before in
+    read-3 (table (after-kinds-ok .before)) (sym (after-kinds-ok .kinds-ok .ensures) ∙ not-false _ (else4 .if4 .left))
+    (sym (after-starts-ok .starts-ok .ensures) ∙ not-true _ (c .if5 .taken))
+
+returns-6 : tie.Need-returns-6
+returns-6 c =
+    let after-access-fits = c .before in
+    let else5 = after-access-fits .before .before in
+    let after-starts-ok = else5 .before in
+    let else4 = after-starts-ok .before in
+    let after-kinds-ok = else4 .before in
+    read-4 (table (after-kinds-ok .before)) (sym (after-kinds-ok .kinds-ok .ensures) ∙ not-false _ (else4 .if4 .left))
+    (sym (after-starts-ok .starts-ok .ensures) ∙ not-false _ (else5 .if5 .left)) (third after-access-fits ∙ not-true _ (c .if6 .taken))
+
+abbrev after-check : tie.After-order-of → tie.After-check
+after-check c = c .before .before .before
+
+-- the verdict, once nothing was refused
+passed : (c : tie.After-order-of) → none ≡ verdictIn (after-check c .check .result)
+passed c = ap verdictIn (sym (c .before .enum-told .given .1))
+
+cast-t21 : tie.Need-cast-t21
+cast-t21 c =
+    let after-check = after-check c in
+    record { fits = n-fits (right (after-check .before)) (after-check .check .ensures) (passed c) (ap length (c .order-of .ensures)) }
+
+cast-t22 : tie.Need-cast-t22
+cast-t22 c =
+    let after-check = after-check c in
+    let after-roads-of = after-check .before .before .before in
+    let length-is = ap length (after-roads-of .roads-of .ensures) in
+    record { fits = m-fits (right (after-check .before)) (after-check .check .ensures) (passed c) length-is }
+
+returns-7 : tie.Need-returns-7
+returns-7 c =
+    let after-check = c .before .before .before in
+    read-failed (right (after-check .before)) (after-check .check .ensures) (ap verdictIn (sym (c .before .q .given .1)))
+
+returns-8 : tie.Need-returns-8
+returns-8 c =
+    let after-check = after-check c in
+    let after-roads-of = after-check .before .before .before in
+    read-passed (right (after-check .before)) (after-check .check .ensures) (passed c) (ap length (c .order-of .ensures))
+    (ap length (after-roads-of .roads-of .ensures))
 
 pub read-spec : {M : Type 1} → statement M
 read-spec =
@@ -82,17 +143,21 @@ read-spec =
     returns
     (λ c κs. search needs)
     (λ c κs. search needs)
-    (λ c κs. search needs)
-    (λ c κs. search needs)
     returns-2
     (λ c κs. search needs)
     returns-3
     (λ c κs. search needs)
-    (λ c. search needs)
-    (λ c. search needs)
-    (λ c. search needs)
-    (λ c. search needs)
-    (λ c. search needs)
-    (λ c. search needs)
     returns-4
-    returns-5)
+    (λ c κs. search needs)
+    returns-5
+    (λ c κs. search needs)
+    (λ c κs. search needs)
+    returns-6
+    (λ c κs. search needs)
+    (λ c. search needs)
+    (λ c. search needs)
+    (λ c κs. search needs)
+    cast-t21
+    cast-t22
+    returns-7
+    returns-8)

@@ -1,11 +1,12 @@
 -- The body of the entry that was read.
 use mathlib.Core.Path.{_∙_, ap}
-use Rattle.card_layout.specs.Sections.{partOf}
+use Rattle.model.specs.Layout.{bodyAt, partOf}
 use borrow.Author.Needs.{needs}
 use Rattle.card_layout.proofs.body_at.Statement.{statement}
 use Rattle.card_layout.proofs.body_at.Tie as tie
 
 returns : tie.Need-returns
+unfolding bodyAt
 returns c =
     let start = c .before .before .before in
     c .body .ensures ∙ ap (partOf (start .args .card .now)) (c .before .section-at .ensures)

@@ -1,13 +1,30 @@
--- Whole entries in what follows the number of sections: i + 1 of them fit exactly if i is below that many (`has-some`).
+-- The two tests of `hasEntry`; where i is below the number of sections, a word, no sum wraps.
+use borrow.Author.Needs.{needs}
 use Rattle.card_layout.proofs.Entries.{has-none, has-some}
 use Rattle.card_layout.proofs.has_entry.Statement.{statement}
 use Rattle.card_layout.proofs.has_entry.Tie as tie
 
 returns : tie.Need-returns
-returns c = has-none (c .before .args .size) (c .before .args .i) (c .if1 .taken)
+returns c =
+    let after-sections = c .before in
+    let start = after-sections .before .before in
+    has-none (start .args .card .now) (start .args .i) (after-sections .sections .result) (after-sections .sections .ensures)
+    (c .if1 .taken)
 
 returns-2 : tie.Need-returns-2
-returns-2 c = has-some (c .before .args .size) (c .before .args .i) (c .if1 .left)
+returns-2 c =
+    let after-sections = c .before in
+    let start = after-sections .before .before in
+    has-some (start .args .card .now) (start .args .i) (after-sections .sections .result) (after-sections .sections .ensures) (c .if1 .left)
 
 pub has-entry-spec : {M : Type 1} → statement M
-has-entry-spec = tie.close (tie.spec returns returns-2)
+has-entry-spec =
+    tie.close
+    (tie.spec
+    (λ c κs. search needs)
+    (λ c. search needs)
+    returns
+    (λ c. search needs)
+    (λ c. search needs)
+    (λ c. search needs)
+    returns-2)

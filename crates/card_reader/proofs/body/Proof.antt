@@ -21,7 +21,7 @@ use denote.Ref.{now}
 use denote.Slice.{shr-slice-lawful}
 use denote.Triple.Statement.{Triple}
 use denote.Triple.Table.{cited}
-use Rattle.card_layout.specs.Sections.{bodyAt}
+use Rattle.model.specs.Layout.{bodyAt}
 use Rattle.card_reader.specs.declared.Reader.{Reader}
 use Rattle.card_reader.proofs.Facts.{Fact, Says, out, onCall, Post, exits, closes}
 use Rattle.card_reader.proofs.Struct.{card, reader, Body, parts, mach, typed, calls-apart}

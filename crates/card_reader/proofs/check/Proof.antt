@@ -39,7 +39,8 @@ use Rattle.card_sections.proofs.check as asked
 use Rattle.card_sections.proofs.check.Symbol as asked-def
 use Rattle.card_sections.proofs.check.Symbol.{name as #card-sections·check}
 use Rattle.card_sections.proofs.check.Met as asked-thm
-use Rattle.card_layout.specs.Sections.{bodyAt, entryAfter}
+use Rattle.model.specs.Layout.{bodyAt}
+use Rattle.card_layout.specs.Sections.{entryAfter}
 use Rattle.card_layout.proofs.Entries.{next-body}
 use Rattle.card_reader.specs.declared.Reader.{Reader}
 use Rattle.card_reader.proofs.Facts.{Fact, Says, calls-on, out, token, onCall, Post, exits, calls-with, closes}

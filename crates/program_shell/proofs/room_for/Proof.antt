@@ -1,6 +1,9 @@
--- Each length is counted from the entry that the table of contents has, which `section_at` answers.
+-- Each length is counted from the body that the table of contents names.
 use mathlib.Core.Path.{_∙_, ap}
-use Rattle.model.specs.Layout.{Section, placeSize, roadSize}
+use mathlib.Core.List.{List}
+use Prim.Native.Nat.{ℕ}
+use lib.ListN.{length}
+use Rattle.model.specs.Layout.{placeSize, roadSize}
 use Rattle.program_shell.specs.Limits.{junctionLimit, roadLimit}
 use Rattle.program_shell.specs.Opening.{roomIn}
 use borrow.Author.Needs.{needs}
@@ -9,11 +12,11 @@ use Rattle.program_shell.proofs.room_for.Tie as tie
 
 returns : tie.Need-returns
 returns c =
-    let after-section-at2 = c .before .before in
-    let after-section-at = after-section-at2 .before in (
+    let after-roads-of = c .before .before in
+    let after-order-of = after-roads-of .before in (
       c .before .records-in .ensures
-          ∙ ap (λ (s : Section). roomIn s placeSize junctionLimit) (after-section-at .section-at .ensures),
-      c .records-in2 .ensures ∙ ap (λ (s : Section). roomIn s roadSize roadLimit) (after-section-at2 .section-at2 .ensures),
+          ∙ ap (λ (l : List ℕ). roomIn (length l) placeSize junctionLimit) (after-order-of .order-of .ensures),
+      c .records-in2 .ensures ∙ ap (λ (l : List ℕ). roomIn (length l) roadSize roadLimit) (after-roads-of .roads-of .ensures),
     )
 
 pub room-for-spec : {M : Type 1} → statement M

@@ -1,15 +1,19 @@
 -- The second search finds the estimates that the first one left, so that both together fill what either asks (`finds-both`).
 use borrow.Author.Needs.{needs}
 use mathlib.Core.Path.{refl, sym}
-use Rattle.search_junctions.specs.Views.{seen}
+use Rattle.search_junctions.specs.Views.{met}
+use Rattle.search.specs.Searches.{seenBy}
 use Rattle.search.proofs.Wholes.{finds-both, first-half, second-half, views-long, within-again}
 use Rattle.search.proofs.totals.Statement.{statement}
 use Rattle.search.proofs.totals.Tie as tie
 
 -- ---- the first search
 
+abbrev after-sizes : tie.After-least-total-arg2 → tie.After-sizes
+after-sizes c = c .before .before .before .before .before
+
 abbrev start : tie.After-least-total-arg2 → tie.Start
-start c = c .before .before .before .before .before .before .before .before .before .before .before .before .before .before .before .before
+start c = after-sizes c .before .before .before .before .before .before .before .before .before .before .before .before
 
 -- ---- from where the second one is made
 
@@ -26,18 +30,19 @@ slice-aggregate-least-total c =
 least-total-requires : tie.Need-least-total-requires
 least-total-requires c κs =
     let start = start c in
-    let live = seen (start .args .trip .view) (start .args .live .now) in
-    within-again (start .pre .within) live refl refl (first-half (start .args .work .now) (start .pre .work-is))
+    let times = met (start .args .trip) (start .args .access .now) (start .args .live .now) in
+    within-again (start .pre .within) times refl refl (first-half (start .args .work .now) (start .pre .work-is))
 
 least-total-requires-2 : tie.Need-least-total-requires-2
 least-total-requires-2 c κs =
     let after-least-total = after-least-total c in
     let start = start (after-least-total .before) in
-    let (_, (_, (_, (_, (_, (_, (_, (_, (_, (estimates-kept, (work-kept, _))))))))))) = after-least-total .least-total .kept in
-    let (_, (_, (_, (_, (_, (_, (_, (_, (_, (_, (half, _))))))))))) = after-least-total .least-total .last in
-    let live = start .args .live .now in
-    within-again (start .pre .within) (seen (start .args .view) live) (views-long (start .args .trip .view) (start .args .view) live)
-    estimates-kept (second-half (start .args .work .now) (start .pre .work-is) half work-kept)
+    let (_, (_, (_, (_, (_, (_, (_, (_, (_, (_, (estimates-kept, (work-kept, _)))))))))))) = after-least-total .least-total .kept in
+    let (_, (_, (_, (_, (_, (_, (_, (_, (_, (_, (_, (half, _)))))))))))) = after-least-total .least-total .last in
+    let a = start .args in
+    within-again (start .pre .within) (met (seenBy (a .trip) (a .view)) (a .access .now) (a .live .now))
+    (views-long (a .trip) (a .view) (a .access .now) (a .live .now)) estimates-kept
+    (second-half (a .work .now) (start .pre .work-is) half work-kept)
 
 returns : tie.Need-returns
 returns c =

@@ -3,7 +3,7 @@
 use native.Mathlib.Omega.{arith}
 use mathlib.Core.Path.{_∙_, sym}
 use borrow.Author.Needs.{needs}
-use Rattle.search_junctions.specs.Views.{seen}
+use Rattle.search_junctions.specs.Views.{met}
 use Rattle.search_junctions.proofs.Opens.{OpenRoad}
 use Rattle.search_junctions.proofs.Heads.{head-closed, head-far, head-known, head-open, known-word}
 use Rattle.search_junctions.proofs.ask_head.Statement.{statement}
@@ -12,7 +12,7 @@ use Rattle.search_junctions.proofs.ask_head.Tie as tie
 -- ---- the road, once its words are read
 
 abbrev start : tie.After-time-of → tie.Start
-start c = c .before .before .before .before .before .before .before .before .before
+start c = c .before .before .before .before .before .before .before .before .before .before
 
 abbrev after-head-of : tie.Else2 → tie.After-head-of
 after-head-of c = c .before .before .before
@@ -21,7 +21,7 @@ abbrev after-time-of : tie.Else2 → tie.After-time-of
 after-time-of c = after-head-of c .before .before .before
 
 open-road : (c : tie.Else2) → let args = start (after-time-of c) .args in
-    OpenRoad (args .trip .sizes) (args .roads .now) (seen (args .trip .view) (args .live .now)) (args .i)
+    OpenRoad (args .trip .sizes) (args .roads .now) (met (args .trip) (args .access .now) (args .live .now)) (args .i)
     (after-time-of c .time-of .result .0)
     (after-head-of c .head-of .result .0)
 open-road c =
@@ -37,7 +37,7 @@ open-road c =
 
 time-of-requires : tie.Need-time-of-requires
 time-of-requires c κs =
-    let start = c .before .before .before .before .before .before .before .before in
+    let start = c .before .before .before .before .before .before .before .before .before in
     omega (arith, start .pre .0, start .pre .1 .live-is)
 
 returns : tie.Need-returns

@@ -9,7 +9,7 @@ use lib.ListN.{length}
 use Rattle.model.specs.Limits.{mostJunctions}
 use Rattle.network.specs.declared.Sizes.{Sizes}
 use Rattle.search_queue.specs.Laws.{unchanged}
-use Rattle.search_junctions.specs.Views.{seen}
+use Rattle.search_junctions.specs.Views.{met}
 use Rattle.search_junctions.specs.State.{givenOf}
 use Rattle.search_junctions.specs.Firsts.{begins-first}
 use Rattle.search_run.proofs.Turns.{standOf}
@@ -19,20 +19,20 @@ use Rattle.search_run.proofs.advance.Statement.{statement}
 use Rattle.search_run.proofs.advance.Tie as tie
 
 abbrev Inv-loop : tie.InvT-loop
-Inv-loop trip budget roads order ranks pairs live down leaving groups estimates₀ elapsed₀ log₀ room₀ n most c₀ v₀
+Inv-loop trip budget roads order ranks pairs access live down leaving groups estimates₀ elapsed₀ log₀ room₀ n most c₀ v₀
     estimates elapsed log room c v =
-    Running (givenOf (trip .sizes) roads order ranks pairs (seen (trip .view) live) down) leaving groups (trip .start .0)
+    Running (givenOf (trip .sizes) roads order ranks pairs (met trip access live) down) leaving groups (trip .start .0)
     (trip .target .0) most
     (standOf estimates₀ elapsed₀ log₀ room₀ c₀ v₀) (standOf estimates elapsed log room c v)
 
 abbrev μ-loop : tie.MeasureT-loop
-μ-loop trip budget roads order ranks pairs live down leaving groups estimates₀ elapsed₀ log₀ room₀ n most c₀ v₀
+μ-loop trip budget roads order ranks pairs access live down leaving groups estimates₀ elapsed₀ log₀ room₀ n most c₀ v₀
     estimates elapsed log room c v = most - c
 
 -- ---- before the loop
 
 abbrev start-of : tie.After-ask-start Inv-loop μ-loop → tie.Start Inv-loop μ-loop
-start-of c = c .before .before .before .before .before .before .before .before .before .before .before .before .before .before
+start-of c = c .before .before .before .before .before .before .before .before .before .before .before .before .before .before .before
 
 -- ---- at the head of the loop
 
@@ -119,7 +119,7 @@ after-ask c = c .before .before .before .before .before
 
 ask-start-requires : tie.Need-ask-start-requires Inv-loop μ-loop
 ask-start-requires c κs =
-    let start = c .before .before .before .before .before .before .before .before .before .before .before .before .before in
+    let start = c .before .before .before .before .before .before .before .before .before .before .before .before .before .before in
     (start .pre .within .start-in, pairs-in (start .pre .within .sized) refl)
 
 begin-requires : tie.Need-begin-requires Inv-loop μ-loop
@@ -239,7 +239,7 @@ relax-requires c κs =
     let after-ask = c .before .before .before .before in
     let after-put = after-put after-ask in
     let at-loop = in-loop after-put .before in
-    let (_, (_, (_, (_, (_, (_, (_, (estimates-kept, _)))))))) = after-ask .ask .kept in (
+    let (_, (_, (_, (_, (_, (_, (_, (_, (estimates-kept, _))))))))) = after-ask .ask .kept in (
       reading (start at-loop .pre .within .sized) (estimates-kept ∙ estimates-long at-loop),
       room-settled (after-put .put .kept .0) (after-put .put .ensures) (at-loop .loop .inv .right),
     )
@@ -264,8 +264,8 @@ loop-again-2 c =
     let after-put = after-put after-ask in
     let in-loop = in-loop after-put in
     let from-is = after-time-of after-put .time-of .ensures in
-    let (_, (_, (_, (_, (_, (_, (_, (estimates-kept, _)))))))) = after-ask .ask .kept in
-    let (_, (_, (_, (_, (room-kept, _))))) = after-relax .relax .kept in
+    let (_, (_, (_, (_, (_, (_, (_, (_, (estimates-kept, _))))))))) = after-ask .ask .kept in
+    let (_, (_, (_, (_, (_, (room-kept, _)))))) = after-relax .relax .kept in
     running-on (in-loop .before .loop .inv) (turn in-loop) (after-word after-put .word .ensures ∙ from-is) (after-put .put .kept .0)
     (after-put .put .ensures) (sym (after-is-goal .is-goal .ensures) ∙ else1 .if1 .left) (after-group-at after-ask .group-at .ensures)
     estimates-kept room-kept (after-ask .ask .ensures) from-is (after-relax .relax .ensures) (c .choose2 .ensures)

@@ -1,12 +1,11 @@
 -- The two bodies are sound and have the card's map (`bodies`), so ranks and contraction are that map's. Where its pairs do not fit, all
 -- areas have their lengths still and become zeros (`no-room`); where they fit, each of the others is filled by its own call (`with-room`).
 use mathlib.Core.Path.{refl}
-use native.Mathlib.Omega.{arith}
 use Rattle.model.specs.Areas.{Areas}
 use Rattle.pairs_contraction.specs.Contraction.{contraction-prepared}
 use Rattle.unit_preparing.specs.Preparing.{held}
 use Rattle.unit_preparing.proofs.Areas.{alike-same}
-use Rattle.unit_preparing.proofs.Prepares.{Bodies, card-size, groups-asked, no-room, order-long, roads-long, sized, sound}
+use Rattle.unit_preparing.proofs.Prepares.{Bodies, groups-asked, no-room, order-long, roads-long, sized, sound}
 use Rattle.unit_preparing.proofs.Prepares.{with-room}
 use borrow.Author.Needs.{needs}
 use Rattle.unit_preparing.proofs.prepare_areas.Statement.{statement}
@@ -29,14 +28,6 @@ bodies c = record {
 }
 
 -- ---- what the callees ask
-
-roads-of-requires : tie.Need-roads-of-requires
-roads-of-requires c κs =
-    let start = c .before .before .before .before .before .before .before .before .before in
-    omega (arith, card-size (start .pre))
-
-order-of-requires : tie.Need-order-of-requires
-order-of-requires c κs = omega (arith, card-size (start c .pre))
 
 fill-ranks-requires : tie.Need-fill-ranks-requires
 fill-ranks-requires c κs = let b = bodies (c .before) in ((_, sound b), order-long b)
@@ -111,8 +102,8 @@ pub prepare-areas-spec : {M : Type 1} → statement M
 prepare-areas-spec =
     tie.close
     (tie.spec
-    roads-of-requires
-    order-of-requires
+    (λ c κs. search needs)
+    (λ c κs. search needs)
     fill-ranks-requires
     contract-requires
     (λ c. search needs)

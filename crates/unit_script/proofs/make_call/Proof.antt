@@ -22,8 +22,8 @@ after-asked c = c .before .before .before .before .before .before
 abbrev after-asked2 : tie.After-preview-arg5 → tie.After-asked2
 after-asked2 c = c .before .before .before .before .before .before
 
-abbrev after-enum-told : tie.After-stops-arg5 → tie.After-enum-told
-after-enum-told c = c .before .before .before .before .before
+abbrev after-asked3 : tie.After-stops-arg5 → tie.After-asked3
+after-asked3 c = c .before .before .before .before .before .before
 
 -- ---- and where it was made
 
@@ -77,13 +77,13 @@ returns-2 c =
 
 slice-aggregate-stops : tie.Need-slice-aggregate-stops
 slice-aggregate-stops c =
-    let start = start (after-enum-told c .before .before) in
+    let start = start (after-asked3 c .before .before) in
     let (route-fits, _) = start .pre in
     sym (length-take-le (start .args .c .route) (start .args .route .now) route-fits)
 
 slice-aggregate-stops-2 : tie.Need-slice-aggregate-stops-2
 slice-aggregate-stops-2 c =
-    let start = start (after-enum-told (c .before) .before .before) in
+    let start = start (after-asked3 (c .before) .before .before) in
     let (_, log-fits) = start .pre in
     sym (length-take-le (start .args .c .log) (start .args .log .now) log-fits)
 
@@ -98,12 +98,12 @@ returns-3 : tie.Need-returns-3
 returns-3 c =
     let after-stops = after-stops (c .before) in
     let stops = after-stops .stops in
-    let after-enum-told = after-enum-told (after-stops .before .before) in
-    let start = start (after-enum-told .before .before) in
+    let after-asked3 = after-asked3 (after-stops .before .before) in
+    let start = start (after-asked3 .before .before) in
     let (route-fits, log-fits) = start .pre in
     let (same, words) = c .of-stopped .ensures in
     let (_, (_, (_, (_, (_, (_, (_, (_, (_, (_, (route-kept, (log-kept, _)))))))))))) = stops .kept in
-    lent-made (handed (stops .result)) (start .args .c) _ _ route-fits log-fits same words (after-enum-told .enum-told .given .1)
+    lent-made (handed (stops .result)) (start .args .c) _ _ route-fits log-fits same words (after-asked3 .asked3 .given .1)
     (stops .ensures .call) route-kept log-kept
 
 pub make-call-spec : {M : Type 1} → statement M

@@ -1,4 +1,4 @@
--- Where fewer than four words are left there are no stops, and where there are fewer stops than the second word says, all of them are taken
+-- Where fewer than five words are left there are no stops, and where there are fewer stops than the third word says, all of them are taken
 -- (`stops-there`).
 use Rattle.unit_script.proofs.Words.{stops-there}
 use borrow.Author.Needs.{needs}

@@ -14,16 +14,16 @@ use Rattle.unit_stops.proofs.journey.Statement.{statement}
 use Rattle.unit_stops.proofs.journey.Tie as tie
 
 abbrev Inv-loop : tie.InvT-loop
-Inv-loop card ranks pairs live down₀ estimates₀ elapsed₀ leaving groups route₀ log₀ stops totals₀ roads₀ number h₀ whole₀ at₀ i₀
-    down estimates elapsed route log totals roads h whole at i =
-    AtLeg card stops number
+Inv-loop card ranks pairs live down₀ estimates₀ elapsed₀ leaving groups route₀ log₀ class stops totals₀ roads₀ number h₀ whole₀ at₀
+    i₀ down estimates elapsed route log totals roads h whole at i =
+    AtLeg card class stops number
     (before (headerIn h₀) (areasOf ranks pairs live down₀ estimates₀ elapsed₀ leaving groups)) (lentOf route₀ log₀)
     (before (headerIn h) (areasOf ranks pairs live down estimates elapsed leaving groups)) (lentOf route log)
     totals roads whole at i
 
 abbrev μ-loop : tie.MeasureT-loop
-μ-loop card ranks pairs live down₀ estimates₀ elapsed₀ leaving groups route₀ log₀ stops totals₀ roads₀ number h₀ whole₀ at₀ i₀
-    down estimates elapsed route log totals roads h whole at i = number - i
+μ-loop card ranks pairs live down₀ estimates₀ elapsed₀ leaving groups route₀ log₀ class stops totals₀ roads₀ number h₀ whole₀ at₀
+    i₀ down estimates elapsed route log totals roads h whole at i = number - i
 
 -- ---- places
 

@@ -15,8 +15,8 @@ start c = c .before .before .before .before .before .before .before .before .bef
 passed : (c : tie.After-enum-told) →
     let after-lengths-of = c .before .before .before in
     let a = start after-lengths-of .args in
-    ListPassed (a .card .now) (headerIn (a .header)) (lengthsIn (after-lengths-of .lengths-of .result)) (a .stops .now)
-    (lentOf (a .route .now) (a .log .now))
+    ListPassed (a .card .now) (headerIn (a .header)) (lengthsIn (after-lengths-of .lengths-of .result)) (a .class)
+    (a .stops .now) (lentOf (a .route .now) (a .log .now))
 passed c =
     let after-stops-asked = c .before .before in
     let a = start (after-stops-asked .before) .args in

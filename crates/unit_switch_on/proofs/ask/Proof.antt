@@ -3,10 +3,11 @@
 use mathlib.Core.Path.{_∙_, _≡_, ap, sym}
 use mathlib.Core.List.{List}
 use Prim.Native.Nat.{ℕ}
+use native.Mathlib.Omega.{arith}
 use Rattle.model.specs.Card.{readCard}
 use Rattle.card.specs.Answers.{readingIn}
 use Rattle.card.specs.declared.Reading.{Reading}
-use Rattle.unit_switch_on.proofs.Prepares.{asked-7, asked-passes, asked-unread}
+use Rattle.unit_switch_on.proofs.Prepares.{asked-7, asked-passes, asked-unread, word-long}
 use borrow.Author.Needs.{needs}
 use Rattle.unit_switch_on.proofs.ask.Statement.{statement}
 use Rattle.unit_switch_on.proofs.ask.Tie as tie
@@ -18,6 +19,14 @@ card c = let start = c .before .before in start .args .card .now
 
 said : (c : tie.After-read) {x : Reading} → c .read .result ≡ x → readingIn x ≡ readCard (card c)
 said c e = ap readingIn (sym e) ∙ c .read .ensures
+
+-- ---- the card's length is a word
+
+cast-size : tie.Need-cast-size
+cast-size c =
+    let after-n = c .before in
+    let after-read = after-n .before .before in
+    omega (arith, word-long (card after-read) (said after-read (after-n .n .given .1)))
 
 -- ---- the answers
 
@@ -41,4 +50,4 @@ returns-3 c a e =
 pub ask-spec : {M : Type 1} → statement M
 ask-spec =
     tie.close
-    (tie.spec (λ c κs. search needs) (λ c. search needs) (λ c. search needs) (λ c κs. search needs) returns returns-2 returns-3)
+    (tie.spec (λ c κs. search needs) (λ c. search needs) (λ c. search needs) cast-size (λ c κs. search needs) returns returns-2 returns-3)

@@ -4,25 +4,25 @@ use borrow.Author.Needs.{needs}
 use native.Mathlib.Omega.{arith}
 use Prim.Native.Nat.{_-_}
 use lib.ListN.{length}
-use Rattle.search_junctions.specs.Views.{seen}
+use Rattle.search_junctions.specs.Views.{met}
 use Rattle.search_junctions.proofs.Roads.{Relaxing, relaxing-end, relaxing-pass, relaxing-start, relaxing-turn}
 use Rattle.search_junctions.proofs.Trip.relax.Statement.{statement}
 use Rattle.search_junctions.proofs.Trip.relax.Tie as tie
 
 abbrev Inv-loop : tie.InvT-loop
-Inv-loop trip roads live estimates room₀ group from m j₀ room j =
-    Relaxing (record { sizes = trip .sizes; roads = roads; live = seen (trip .view) live; estimates = estimates }) group (from .0) j
+Inv-loop trip roads access live estimates room₀ group from m j₀ room j =
+    Relaxing (record { sizes = trip .sizes; roads = roads; live = met trip access live; estimates = estimates }) group (from .0) j
     room₀ room
 
 abbrev μ-loop : tie.MeasureT-loop
-μ-loop trip roads live estimates room₀ group from m j₀ room j = length group - j
+μ-loop trip roads access live estimates room₀ group from m j₀ room j = length group - j
 
 abbrev start : tie.At-loop Inv-loop μ-loop → tie.Start Inv-loop μ-loop
-start c = c .before .before .before .before .before .before
+start c = c .before .before .before .before .before .before .before
 
 loop-holds : tie.Need-loop-holds Inv-loop μ-loop
 loop-holds c =
-    let start = c .before .before .before .before .before in
+    let start = c .before .before .before .before .before .before in
     let (_, room) = start .pre in
     relaxing-start room
 
@@ -37,7 +37,7 @@ loop-again : tie.Need-loop-again Inv-loop μ-loop
 loop-again c =
     let after-relax-road = c .before .before in
     let in-loop = after-relax-road .before .before .before .before in
-    let (_, (_, (_, (_, (room-kept, _))))) = after-relax-road .relax-road .kept in
+    let (_, (_, (_, (_, (_, (room-kept, _)))))) = after-relax-road .relax-road .kept in
     relaxing-turn (in-loop .loop-test .taken) (in-loop .before .loop .inv) room-kept (after-relax-road .relax-road .ensures)
 
 loop-again-2 : tie.Need-loop-again-2 Inv-loop μ-loop

@@ -10,9 +10,9 @@ use Rattle.unit.proofs.Header.aim_asked.Tie as tie
 returns : tie.Need-returns
 returns c base =
     let after-fits2 = c .before .before .before .before in
-    let start = after-fits2 .before in
+    let start = after-fits2 .before .before in
     let a = start .args in
-    aim-asks base (headerIn (a .self)) (a .card) (lengthsIn (a .l)) (a .j .0)
+    aim-asks base (headerIn (a .self)) (a .card .now) (lengthsIn (a .l)) (a .j .0)
     (asked Lengths (c .ask2 .ensures) (after-fits2 .fits2 .ensures) (c .before .ask .ensures))
 
 pub aim-asked-spec : {M : Type 1} → statement M

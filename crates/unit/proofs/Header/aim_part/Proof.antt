@@ -24,9 +24,6 @@ passed c =
 
 -- ---- the answers
 
-order-of-requires : tie.Need-order-of-requires
-order-of-requires c κs = omega (arith, passed c .sizes .size)
-
 down-totals-requires : tie.Need-down-totals-requires
 down-totals-requires c κs =
     let after-enum-told = c .before .before in
@@ -64,7 +61,7 @@ aim-part-spec =
     (λ c. search needs)
     (λ c κs. search needs)
     (λ c. search needs)
-    order-of-requires
+    (λ c κs. search needs)
     down-totals-requires
     (λ c κs. search needs)
     (λ c κs. search needs)

@@ -13,9 +13,9 @@ returns c base =
     let after-ask = c .before .before in
     let after-is-aimed = after-ask .before in
     let after-fits2 = after-is-aimed .before .before .before in
-    let start = after-fits2 .before in
+    let start = after-fits2 .before .before in
     let a = start .args in
-    estimate-asks base (headerIn (a .self)) (a .card) (lengthsIn (a .l)) (a .j .0)
+    estimate-asks base (headerIn (a .self)) (a .card .now) (lengthsIn (a .l)) (a .j .0)
     (asked Lengths (c .ask3 .ensures) (after-fits2 .fits2 .ensures)
     (tested (ltb (a .j .0) (a .self .sizes .n)) NoJunction (c .before .ask2 .ensures)
     (last NoTarget (after-ask .ask .ensures) (after-is-aimed .is-aimed .ensures))))

@@ -24,9 +24,6 @@ passed c =
 
 -- ---- the answers
 
-order-of-requires : tie.Need-order-of-requires
-order-of-requires c κs = omega (arith, passed c .sizes .size)
-
 estimate-requires : tie.Need-estimate-requires
 estimate-requires c κs =
     let after-enum-told = c .before .before in
@@ -65,7 +62,7 @@ estimate-part-spec =
     (λ c. search needs)
     (λ c κs. search needs)
     (λ c. search needs)
-    order-of-requires
+    (λ c κs. search needs)
     estimate-requires
     (λ c κs. search needs)
     returns

@@ -3,7 +3,6 @@ use mathlib.Core.Path.{_∙_, _≡_, ap}
 use mathlib.Core.List.{List}
 use Prim.Native.Nat.{ℕ}
 use borrow.Author.Needs.{needs}
-use native.Mathlib.Omega.{arith}
 use Rattle.model.specs.Types.{Header}
 use Rattle.model.specs.Areas.{Areas, Each, areasOf, lengths}
 use Rattle.model.specs.State.{Lent}
@@ -12,7 +11,7 @@ use Rattle.model.specs.Contracts.{baseOn}
 use Rattle.network.specs.Refusals.{verdictIn}
 use Rattle.unit_questions.specs.Lending.{lentOf}
 use Rattle.unit.specs.Shape.{headerIn}
-use Rattle.unit.proofs.Trips.{TripPassed, trip-passed, trip-refused, tripVerdict, within}
+use Rattle.unit.proofs.Trips.{TripPassed, met-length, trip-passed, trip-refused, tripVerdict, within}
 use Rattle.unit.proofs.Going.{go-handed, go-room, go-trips}
 use Rattle.unit.proofs.Header.go.Statement.{statement}
 use Rattle.unit.proofs.Header.go.Tie as tie
@@ -40,15 +39,16 @@ abbrev start : tie.After-go-asked → tie.Start
 start c = c .before .before .before .before .before .before .before .before .before .before .before .before .before .before .before
 
 said : (c : tie.After-go-asked) → let s = start c in
-    verdictIn (c .go-asked .result) ≡ tripVerdict (card s) (header s) (lengths (areas s)) (Go (s .args .start .0)) (lent s)
+    verdictIn (c .go-asked .result) ≡ tripVerdict (card s) (header s) (lengths (areas s)) (Go (s .args .class) (s .args .start .0)) (lent s)
 said c =
     let s = start c in
     c .go-asked .ensures (baseOn (card s))
-    ∙ ap (λ (l : Each ℕ). tripVerdict (card s) (header s) l (Go (s .args .start .0)) (lent s)) (c .before .lengths-of .ensures)
+    ∙ ap (λ (l : Each ℕ). tripVerdict (card s) (header s) l (Go (s .args .class) (s .args .start .0)) (lent s))
+    (c .before .lengths-of .ensures)
 
 -- none refuses
 passed : (c : tie.After-enum-told) → let s = start (c .before .before) in
-    TripPassed (card s) (s .args .self) (areas s) (Go (s .args .start .0)) (lent s) (s .args .start .0)
+    TripPassed (card s) (s .args .self) (areas s) (Go (s .args .class) (s .args .start .0)) (lent s) (s .args .start .0)
 passed c = trip-passed go-trips (c .enum-told .given .1) (said (c .before .before))
 
 -- ---- the answers
@@ -59,22 +59,18 @@ returns c =
     let after-go-asked = after-q .before .before in
     trip-refused go-trips (after-q .q .given .1) (said after-go-asked) (c .answered .ensures)
 
-roads-of-requires : tie.Need-roads-of-requires
-roads-of-requires c κs = omega (arith, passed (c .before .before) .sizes .size)
-
-order-of-requires : tie.Need-order-of-requires
-order-of-requires c κs = let after-aimed-at = c .before in omega (arith, passed (after-aimed-at .before .before) .sizes .size)
-
 search-requires : tie.Need-search-requires
 search-requires c κs =
-    let after-order-of = c .before .before .before .before in
+    let after-access-of = c .before .before .before .before in
+    let after-order-of = after-access-of .before in
     let after-roads-of = after-order-of .before in
     let after-aimed-at = after-roads-of .before in
     let after-enum-told = after-aimed-at .before .before in
+    let a = start (after-enum-told .before .before) .args in
     let p = passed after-enum-told in
     let room = go-room p in record {
       within = within p (after-aimed-at .aimed-at .ensures) (after-roads-of .roads-of .ensures) (after-order-of .order-of .ensures)
-          (p .sizes .lengths .elapsed);
+          (met-length (after-access-of .access-of .result .now) (a .class) (a .live .now)) (p .sizes .lengths .elapsed);
       ways-long = room .route-room;
       log-long = room .log-room;
     }
@@ -82,11 +78,13 @@ search-requires c κs =
 returns-2 : tie.Need-returns-2
 returns-2 c =
     let after-search = c .before .before .before .before .before .before .before .before .before .before in
-    let after-order-of = after-search .before .before .before .before .before in
+    let after-access-of = after-search .before .before .before .before .before in
+    let after-order-of = after-access-of .before in
     let after-roads-of = after-order-of .before in
     let after-aimed-at = after-roads-of .before in
     go-handed (passed (after-aimed-at .before .before)) (after-aimed-at .aimed-at .ensures) (after-roads-of .roads-of .ensures)
-    (after-order-of .order-of .ensures) (after-search .search .ensures) (c .before .gone .ensures) (c .answered2 .ensures)
+    (after-order-of .order-of .ensures) (after-access-of .access-of .ensures) (after-search .search .ensures) (c .before .gone .ensures)
+    (c .answered2 .ensures)
 
 pub go-spec : {M : Type 1} → statement M
 go-spec =
@@ -98,8 +96,9 @@ go-spec =
     (λ c κs. search needs)
     (λ c. search needs)
     (λ c κs. search needs)
-    roads-of-requires
-    order-of-requires
+    (λ c κs. search needs)
+    (λ c κs. search needs)
+    (λ c κs. search needs)
     search-requires
     (λ c κs. search needs)
     (λ c κs. search needs)

@@ -4,14 +4,13 @@ use mathlib.Core.List.{List}
 use Prim.Native.Nat.{ℕ}
 use borrow.Author.Needs.{needs}
 use lib.ListN.{length}
-use native.Mathlib.Omega.{arith}
 use Rattle.model.specs.Types.{Header}
 use Rattle.model.specs.Areas.{Areas, Each, areasOf, lengths}
 use Rattle.model.specs.State.{Lent, noneLent}
 use Rattle.model.specs.Calls.{Asked, Preview}
 use Rattle.network.specs.Refusals.{verdictIn}
 use Rattle.unit.specs.Shape.{headerIn}
-use Rattle.unit.proofs.Trips.{TripPassed, trip-passed, trip-refused, tripVerdict, within}
+use Rattle.unit.proofs.Trips.{TripPassed, met-length, trip-passed, trip-refused, tripVerdict, within}
 use Rattle.unit.proofs.Previewing.{preview-facts, preview-handed, preview-trips, work-made, work-refused}
 use Rattle.unit.proofs.Header.preview.Statement.{statement}
 use Rattle.unit.proofs.Header.preview.Tie as tie
@@ -31,7 +30,7 @@ areas s =
     (a .groups .now)
 
 abbrev asked : tie.Start → Asked
-asked s = let a = s .args in Preview (a .road) (a .time .0) (a .start .0) (length (a .work .now))
+asked s = let a = s .args in Preview (a .class) (a .road) (a .time .0) (a .start .0) (length (a .work .now))
 
 -- ---- what the questions said, whatever else is lent
 
@@ -61,33 +60,33 @@ returns c =
       work-left = work-refused;
     }
 
-roads-of-requires : tie.Need-roads-of-requires
-roads-of-requires c κs = omega (arith, passed (c .before .before) noneLent .sizes .size)
-
-order-of-requires : tie.Need-order-of-requires
-order-of-requires c κs = let after-aimed-at = c .before in omega (arith, passed (after-aimed-at .before .before) noneLent .sizes .size)
-
 totals-requires : tie.Need-totals-requires
 totals-requires c κs =
-    let after-order-of = c .before .before in
+    let after-access-of = c .before .before in
+    let after-order-of = after-access-of .before in
     let after-roads-of = after-order-of .before in
     let after-aimed-at = after-roads-of .before in
-    let p = passed (after-aimed-at .before .before) noneLent in record {
-      within = within p (after-aimed-at .aimed-at .ensures) (after-roads-of .roads-of .ensures) (after-order-of .order-of .ensures) refl;
+    let after-enum-told = after-aimed-at .before .before in
+    let a = start (after-enum-told .before .before) .args in
+    let p = passed after-enum-told noneLent in record {
+      within = within p (after-aimed-at .aimed-at .ensures) (after-roads-of .roads-of .ensures) (after-order-of .order-of .ensures)
+          (met-length (after-access-of .access-of .result .now) (a .class) (a .live .now)) refl;
       work-is = preview-facts p .work-is;
     }
 
 returns-2 : tie.Need-returns-2
 returns-2 c =
     let after-totals = c .before .before .before .before .before .before in
-    let after-order-of = after-totals .before .before .before in
+    let after-access-of = after-totals .before .before .before in
+    let after-order-of = after-access-of .before in
     let after-roads-of = after-order-of .before in
     let after-aimed-at = after-roads-of .before in
+    let (_, (_, (_, (_, (_, (_, (_, (_, (_, (_, (_, (_, (work-kept, _))))))))))))) = after-totals .totals .kept in
     record {
       call = λ k. preview-handed (passed (after-aimed-at .before .before) k) (after-aimed-at .aimed-at .ensures)
-          (after-roads-of .roads-of .ensures) (after-order-of .order-of .ensures) (after-totals .totals .ensures)
-          (c .before .previewed .ensures) (c .answered2 .ensures);
-      work-left = work-made (search needs) (c .before .previewed .ensures) (c .answered2 .ensures);
+          (after-roads-of .roads-of .ensures) (after-order-of .order-of .ensures) (after-access-of .access-of .ensures)
+          (after-totals .totals .ensures) (c .before .previewed .ensures) (c .answered2 .ensures);
+      work-left = work-made work-kept (c .before .previewed .ensures) (c .answered2 .ensures);
     }
 
 pub preview-spec : {M : Type 1} → statement M
@@ -100,8 +99,9 @@ preview-spec =
     (λ c κs. search needs)
     (λ c. search needs)
     (λ c κs. search needs)
-    roads-of-requires
-    order-of-requires
+    (λ c κs. search needs)
+    (λ c κs. search needs)
+    (λ c κs. search needs)
     totals-requires
     (λ c κs. search needs)
     (λ c κs. search needs)

@@ -3,7 +3,6 @@ use mathlib.Core.Path.{_∙_, _≡_, sym}
 use mathlib.Core.Bool.{true}
 use borrow.Author.Tests.{not-false, not-true}
 use borrow.Author.Needs.{needs}
-use native.Mathlib.Omega.{arith}
 use Rattle.unit_questions.specs.Lending.{lengthsIn}
 use Rattle.unit.specs.Shape.{headerIn}
 use Rattle.unit.proofs.Fitting.{Fits, fits-facts, road-there}
@@ -32,23 +31,20 @@ returns c =
 
 returns-2 : tie.Need-returns-2
 returns-2 c =
-    let else1 = c .before in
+    let else1 = c .before .before in
     let a = start (else1 .before) .args in
     set-10 (a .card .now) (headerIn (a .self)) (lengthsIn (a .l)) (a .road) (a .time .0) (else1 .before .fits2 .ensures)
     (fits else1) (c .if2 .taken)
 
-roads-of-requires : tie.Need-roads-of-requires
-roads-of-requires c κs = omega (arith, sizes (c .before) .size)
-
 base-of-requires : tie.Need-base-of-requires
-base-of-requires c κs = let else2 = c .before in road-there (sizes (else2 .before)) (c .roads-of .ensures) (else2 .if2 .left)
+base-of-requires c κs = let else2 = c .before in road-there (sizes (else2 .before .before)) (c .roads-of .ensures) (else2 .if2 .left)
 
 returns-3 : tie.Need-returns-3
 returns-3 c =
     let after-base-of = c .before .before in
     let after-roads-of = after-base-of .before in
     let else2 = after-roads-of .before in
-    let else1 = else2 .before in
+    let else1 = else2 .before .before in
     let a = start (else1 .before) .args in
     set-11 (a .card .now) (headerIn (a .self)) (lengthsIn (a .l)) (a .road) (a .time .0) (else1 .before .fits2 .ensures)
     (fits else1) (else2 .if2 .left) (c .ask .ensures) (after-roads-of .roads-of .ensures) (after-base-of .base-of .ensures)
@@ -61,7 +57,7 @@ set-asked-spec =
     (λ c κs. search needs)
     returns
     returns-2
-    roads-of-requires
+    (λ c κs. search needs)
     base-of-requires
     (λ c κs. search needs)
     (λ c κs. search needs)

@@ -1,0 +1,28 @@
+-- By the number of sections, as the definition goes.
+use mathlib.Core.Path.{ap}
+use lib.ListN.{length}
+use borrow.Author.Needs.{needs}
+use Rattle.card_layout.proofs.Entries.{third-is, two-at-most}
+use Rattle.card_layout.proofs.access_fits.Statement.{statement}
+use Rattle.card_layout.proofs.access_fits.Tie as tie
+
+returns : tie.Need-returns
+returns c =
+    let start = c .before .before .before in
+    two-at-most (start .args .card .now) (start .args .m) (c .before .sections .ensures) (c .if1 .taken)
+
+returns-2 : tie.Need-returns-2
+returns-2 c =
+    let after-sections = c .before .before in
+    let start = after-sections .before .before in
+    third-is (start .args .card .now) (start .args .m) (after-sections .sections .ensures) (c .before .if1 .left)
+    (ap length (c .access-of .ensures))
+
+pub access-fits-spec : {M : Type 1} → statement M
+access-fits-spec =
+    tie.close
+    (tie.spec
+    (λ c κs. search needs)
+    returns
+    (λ c κs. search needs)
+    returns-2)
