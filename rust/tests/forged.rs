@@ -693,13 +693,13 @@ fn free_calls(seed: usize, calls: usize, make: impl Fn(&mut Random) -> Unit) -> 
 #[test]
 fn noise_in_every_area() {
     with_stack(|| {
-        let calls = setting("CALLS_LENGTH", 30_000);
+        let calls = setting("CALLS_LENGTH", 80_000);
         let met = free_calls(1, calls, forge);
         let [accepted, no_junction, no_path] = [0, 12, 15].map(|number| met.refusals[number]);
         let enough = accepted > calls / 4 && no_junction > calls / 20 && no_path > calls / 100;
         let kept = [met.kept_by_estimates, met.kept_by_goes, met.kept_by_previews];
         assert!(enough && kept.iter().all(|&kept| kept > 4 * calls), "{met:?}");
-        met.groups.at_least(calls / 400);
+        met.groups.at_least(calls / 500);
         let Previews { refusals, changes, absent } = met.previews;
         let refused = [9, 10, 11, 12, 13, 18].map(|number| refusals[number]);
         assert!(
