@@ -46,6 +46,9 @@ fn byte_at(card: &[u8], i: usize) -> u8
 pub fn sections(card: &[u8]) -> u32
     ensures { λ r. ⌜ r ≡ layout.sections (now (card .entry)) ⌝ }
 {
+    if COUNT_SIZE <= card.len() {
+        return network::word_at(card, 0);
+    }
     let a = network::wide(byte_at(card, 0));
     let b = network::wide(byte_at(card, 1));
     let c = network::wide(byte_at(card, 2));
