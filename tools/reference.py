@@ -342,10 +342,12 @@ def all_lengths_right(lengths, bytes_, n, m, pairs, card):
 
 
 def named(card, n, m):
-    """Does the table name bodies for n junctions and m roads inside the card?"""
-    parts = [len(body) for body in bodies(card)]
+    """Does the table name bodies for n junctions and m roads inside the card? One without bytes needs no entry, but the third."""
+    table = entries(card)
     third = len(card) >= 4 and to_words(card[:4])[0] > 2
-    return (parts + [0] * 3)[:2 + third] == [12 * m, 4 * n, m][:2 + third]
+    named_so = all(length == size and start + length <= len(card)
+                   for (_, start, length), size in zip(table, [12 * m, 4 * n, m][:2 + third]))
+    return named_so and not any([12 * m, 4 * n][len(table):]) and (not third or len(table) > 2)
 
 
 def in_range(n, m):

@@ -101,17 +101,18 @@ impl Bodies<'_> {
     fn of(card: &[u8], n: usize, m: usize) -> Option<Bodies<'_>> {
         let words: &[[u8; 4]] = card.as_chunks().0;
         let sections = words.first().map_or(0, |&word| u32::from_le_bytes(word)) as usize;
+        // Nothing where there is no such entry; none where what it names lies past the card's end.
         let body = |i: usize| {
-            let entry = card.get(table_len(i)..table_len(i + 1)).filter(|_| i < sections);
-            let [_, start, len] = entry.map_or([0; 3], |entry| {
-                let words: &[[u8; 4]] = entry.as_chunks().0;
-                [words[0], words[1], words[2]].map(|word| u32::from_le_bytes(word) as usize)
-            });
-            card.get(start..start + len).unwrap_or(&[])
+            let Some(entry) = card.get(table_len(i)..table_len(i + 1)).filter(|_| i < sections) else {
+                return Some(&card[..0]);
+            };
+            let words: &[[u8; 4]] = entry.as_chunks().0;
+            let [start, len] = [words[1], words[2]].map(|word| u32::from_le_bytes(word) as usize);
+            card.get(start..start + len)
         };
-        let [roads, order, access] = [0, 1, 2].map(body);
-        let fits =
-            roads.len() == 12 * m && order.len() == 4 * n && (sections <= 2 || access.len() == m);
+        let (roads, order, access) = (body(0)?, body(1)?, body(2)?);
+        let third = sections <= 2 || card.len() >= table_len(3) && access.len() == m;
+        let fits = roads.len() == 12 * m && order.len() == 4 * n && third;
         let (roads, _): (&[[u8; 4]], _) = roads.as_chunks();
         fits.then_some(Bodies { roads: roads.as_chunks().0, order: order.as_chunks().0, access })
     }

@@ -346,7 +346,7 @@ fn small_maps() {
         run(&mut random, map, 30, &mut met);
     }
     met.outcomes_at_least(40);
-    met.refusals_at_least(80);
+    met.refusals_at_least(100);
 }
 
 #[test]

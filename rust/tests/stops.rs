@@ -528,7 +528,7 @@ fn small_maps() {
         run(&mut random, map, 30, &mut met);
     }
     met.outcomes_at_least(100);
-    met.refusals_at_least(30);
+    met.refusals_at_least(40);
 }
 
 #[test]
@@ -587,7 +587,7 @@ fn every_number_of_legs() {
     assert_eq!(met.lost, [1, 30, 435, 30]);
 }
 
-/// Refused by the first that says no of 16, 12 and 14, with nothing altered, whatever the others would say.
+/// Refused by the first that says no of 16, 18, 12 and 14, with nothing altered, whatever the others would say.
 #[test]
 fn refusals_in_order() {
     let (mut random, mut met) = (Random::new(4), Met::default());
@@ -603,9 +603,9 @@ fn refusals_in_order() {
                 let go = Call::Go { class: 0, start: n as u32 - 1, route: n, log: n };
                 trial.call(&mut random, go, &mut met).ok();
             }
-            let mut refuse = |stops: &[u32], route: usize, log: usize, question| {
+            let mut refuse = |class: u32, stops: &[u32], route: usize, log: usize, question| {
                 let before = trial.unit.clone();
-                let call = Call::Stops { class: 0, stops: StopList::of(stops), route, log };
+                let call = Call::Stops { class, stops: StopList::of(stops), route, log };
                 let answer = trial.call(&mut random, call, &mut met);
                 assert_eq!(answer, Err(question), "{call:?}");
                 assert!(trial.unit == before, "{call:?}, refused, alters the unit");
@@ -615,7 +615,9 @@ fn refusals_in_order() {
             for count in [0, 1, 33, 34, 36] {
                 for stop in [0, bad] {
                     for (route, log) in [(count * n, n), (0, 0)] {
-                        refuse(&vec![stop; count], route, log, Refusal::StopCount);
+                        for class in [0, 8] {
+                            refuse(class, &vec![stop; count], route, log, Refusal::StopCount);
+                        }
                     }
                 }
             }
@@ -624,14 +626,16 @@ fn refusals_in_order() {
                     for (route, log) in [(count * n, n), (0, n), (count * n, 0), (0, 0)] {
                         let mut stops = vec![0; count];
                         stops[place] = bad + place as u32;
-                        refuse(&stops, route, log, Refusal::NoJunction);
+                        refuse(0, &stops, route, log, Refusal::NoJunction);
+                        refuse(8, &stops, route, log, Refusal::NoClass);
                     }
                 }
                 for route in [0, n - 1, n, (count - 1) * n, count * n - 1, count * n, 4 * count * n]
                 {
                     for log in [0, n - 1, n, 3 * n] {
                         if route < count * n || log < n {
-                            refuse(&vec![0; count], route, log, Refusal::LentLengths);
+                            refuse(7, &vec![0; count], route, log, Refusal::LentLengths);
+                            refuse(8, &vec![0; count], route, log, Refusal::NoClass);
                         }
                     }
                 }
@@ -645,9 +649,8 @@ fn refusals_in_order() {
             );
         }
     }
-    let kinds = [12, 14, 16].map(|number| met.refusals[number]);
-    assert!(kinds.iter().all(|&met| met >= 6), "{met:?}");
-    assert_eq!(refused, 3 * 2 * (20 + 4 * 37 + 3 * 24));
+    met.refusals_at_least(6);
+    assert_eq!(refused, 3 * 2 * 2 * (20 + 4 * 37 + 3 * 24));
 }
 
 /// The lists on map P, with the router beside them.

@@ -51,7 +51,7 @@ pub fn read(card: &[u8]) -> Reading
 
 // Makes the card of a map, which is lent as two rows of words, or refuses by questions 4 to 6 and then 7;
 // a refusal leaves the area unaltered.
-// What was written is read back word for word, and the map of a card that was read gives that card's bytes.
+// What was written is read back word for word, and the map of a card of two sections that was read gives that card's bytes.
 pub fn write(roads: &[u32], order: &[u32], area: &mut [u8]) -> Writing
     ensures { λ r. ⌜ WriteContract (rowsOf (now (roads .entry)) (now (order .entry)))
         (now (area .entry)) (now (area .exit)) (writingIn r) ⌝ }

@@ -1,10 +1,10 @@
 -- The ways through the entries and bodies of a card. Assumes nothing.
 use mathlib.Core.Path.{_∙_, _≡_, ap, ap₂, refl, sym}
-use mathlib.Core.Logic.{_≢_, inl, inr}
+use mathlib.Core.Logic.{inl, inr}
 use mathlib.Core.Bool.{Bool, _&&_, cond, false, true}
 use mathlib.Core.List.{List, [], _++_}
 use Prim.Native.Nat.{_*_, _+_, _-_, _<_, _≤_, ℕ}
-use borrow.Author.Tests.{eq-eqb, le-leb, le-ltb, leb-true, lt-leb, lt-ltb, ltb-true, ne-eqb}
+use borrow.Author.Tests.{le-leb, le-ltb, leb-true, lt-leb, lt-ltb, ltb-true}
 use borrow.Rule.Slice.PartMut.{postOf}
 use lib.Dec.{eqb, leb, ltb}
 use lib.ListN.{List·getD-eq-default, drop, getD, length, take}
@@ -12,8 +12,7 @@ use native.Mathlib.Nat.{add-sub-cancel-left}
 use native.Mathlib.Omega.{arith}
 use Rattle.graph.specs.Total.{Tested, and-true, decide, true-false}
 use Rattle.model.specs.Bytes.{wordAt}
-use Rattle.model.specs.Layout.{Section, accessFits, accessIn, body, bodyAt, entryAt, entryOf, hasEntry, named, orderIn, partOf, placeSize}
-use Rattle.model.specs.Layout.{roadSize, roadsIn, section, sections, tableSize}
+use Rattle.model.specs.Layout.{Section, accessFits, body, bodyAt, entryAt, entryOf, hasEntry, names, partOf, section, sections, tableSize}
 use Rattle.model.specs.Laws.{true-and}
 use Rattle.card_layout.specs.Sections.{entryAfter}
 
@@ -127,35 +126,16 @@ next-body card i = go (decide (hasEntry card i))
 
 pub two-at-most : (card : List ℕ) (m : ℕ) {c : ℕ} → c ≡ sections card → c ≤ 2 → true ≡ accessFits card m
 two-at-most card m e h =
-    sym (ap (λ (x : Bool). cond x (eqb (length (accessIn card)) m) true) (le-ltb 2 (sections card) (omega arith)))
+    sym (ap (λ (x : Bool). cond x (hasEntry card 2 && names card 2 m) true) (le-ltb 2 (sections card) (omega arith)))
 
-pub third-is : (card : List ℕ) (m : ℕ) {c l : ℕ} → c ≡ sections card → 2 < c → l ≡ length (accessIn card) → eqb l m ≡ accessFits card m
-third-is card m e h k =
-    ap (λ (x : ℕ). eqb x m) k
-    ∙ sym (ap (λ (x : Bool). cond x (eqb (length (accessIn card)) m) true) (lt-ltb 2 (sections card) (omega arith)))
+pub third-is : (card : List ℕ) (m : ℕ) {c : ℕ} {x y : Bool} → c ≡ sections card → 2 < c → x ≡ hasEntry card 2 → y ≡ names card 2 m
+    → x && y ≡ accessFits card m
+third-is card m e h p q =
+    ap₂ (λ (x : Bool) (y : Bool). x && y) p q
+    ∙ sym (ap (λ (x : Bool). cond x (hasEntry card 2 && names card 2 m) true) (lt-ltb 2 (sections card) (omega arith)))
 
-module _ (card : List ℕ) (n m : ℕ) where
-  abbrev namedBy : (roads order : Bool) → Bool
-  namedBy x y = x && y && accessFits card m
-
-  pub roads-differ : {a : ℕ} → a ≡ length (roadsIn card) → a ≢ roadSize * m → false ≡ named card n m
-  unfolding named
-  roads-differ e h =
-      let roads = ne-eqb (length (roadsIn card)) (roadSize * m) (λ q. h (e ∙ q)) in
-      sym (ap (λ (x : Bool). namedBy x (eqb (length (orderIn card)) (placeSize * n))) roads)
-
-  pub order-differs : {a b : ℕ} → a ≡ length (roadsIn card) → a ≡ roadSize * m → b ≡ length (orderIn card) → b ≢ placeSize * n
-      → false ≡ named card n m
-  unfolding named
-  order-differs e p f h =
-      let roads = eq-eqb (length (roadsIn card)) (roadSize * m) (sym e ∙ p) in
-      let order = ne-eqb (length (orderIn card)) (placeSize * n) (λ q. h (f ∙ q)) in
-      sym (ap₂ namedBy roads order)
-
-  pub both-fit : {a b : ℕ} {r : Bool} → a ≡ length (roadsIn card) → a ≡ roadSize * m → b ≡ length (orderIn card) → b ≡ placeSize * n
-      → r ≡ accessFits card m → r ≡ named card n m
-  unfolding named
-  both-fit e p f q h =
-      let roads = eq-eqb (length (roadsIn card)) (roadSize * m) (sym e ∙ p) in
-      let order = eq-eqb (length (orderIn card)) (placeSize * n) (sym f ∙ q) in
-      h ∙ sym (ap₂ namedBy roads order)
+-- an entry as the code has it names what the definition's does
+pub names-by : (card : List ℕ) (i k : ℕ) {s : Section} → s ≡ entryOf card i
+    → eqb (s .size) k && leb (s .start + s .size) (length card) ≡ names card i k
+unfolding names
+names-by card i k e = ap (λ (s : Section). eqb (s .size) k && leb (s .start + s .size) (length card)) e

@@ -5,8 +5,8 @@ ghost use Prim.Native.Nat.{_+_, _<_, _≤_};
 ghost use lib.ListN.{drop, getD, length};
 ghost use Rattle.model.specs.Bytes.{bytesOf};
 ghost use Rattle.model.specs.Layout as layout;
-ghost use Rattle.model.specs.Layout.{accessFits, accessIn, bodyAt, cardSize, entryOf, hasEntry, named, orderIn, partOf, roadsIn, table};
-ghost use Rattle.model.specs.Layout.{tableSize};
+ghost use Rattle.model.specs.Layout.{accessFits, accessIn, bodyAt, cardSize, entryOf, hasEntry, named, names, orderIn, partOf, roadsIn};
+ghost use Rattle.model.specs.Layout.{table, tableSize};
 ghost use Rattle.card_layout.specs.Sections.{entryAfter, sectionIn};
 
 // ---- the table of contents: the number of sections, then an entry for each
@@ -46,6 +46,9 @@ fn byte_at(card: &[u8], i: usize) -> u8
 pub fn sections(card: &[u8]) -> u32
     ensures { λ r. ⌜ r ≡ layout.sections (now (card .entry)) ⌝ }
 {
+    if COUNT_SIZE <= card.len() {
+        return network::word_at(card, 0);
+    }
     let a = network::wide(byte_at(card, 0));
     let b = network::wide(byte_at(card, 1));
     let c = network::wide(byte_at(card, 2));
@@ -138,34 +141,40 @@ pub fn access_of(card: &[u8]) -> &[u8]
     body_at(card, 2)
 }
 
+// Does entry i name a body of k bytes inside the card? A body without bytes needs no entry.
+fn names(card: &[u8], i: usize, k: usize) -> bool
+    ensures { λ r. ⌜ r ≡ names (now (card .entry)) i k ⌝ }
+{
+    let s = section_at(card, i);
+    let start = s.start as usize;
+    let size = s.size as usize;
+    (size == k) & (start + size <= card.len())
+}
+
 // Has a third section, where there is one, a byte for each of m roads?
 pub fn access_fits(card: &[u8], m: usize) -> bool
     ensures { λ r. ⌜ r ≡ accessFits (now (card .entry)) m ⌝ }
 {
-    if sections(card) <= 2 {
+    if sections(card) <= network::FEWEST_SECTIONS {
         return true;
     }
-    access_of(card).len() == m
+    has_entry(card, 2) & names(card, 2, m)
 }
 
-// Does the table name bodies for n junctions and m roads inside the card?
+// Does the table name bodies for n junctions and m roads?
 pub fn named(card: &[u8], n: u32, m: u32) -> bool
     ensures { λ r. ⌜ r ≡ named (now (card .entry)) n m ⌝ }
 {
-    if roads_of(card).len() != ROAD_SIZE * (m as usize) {
-        return false;
-    }
-    if order_of(card).len() != PLACE_SIZE * (n as usize) {
-        return false;
-    }
-    access_fits(card, m as usize)
+    let roads = names(card, 0, ROAD_SIZE * (m as usize));
+    let order = names(card, 1, PLACE_SIZE * (n as usize));
+    roads & order & access_fits(card, m as usize)
 }
 
 // ---- the card that the writer makes: two sections
 
 const WRITTEN: u32 = 2;
 
-pub const WRITTEN_TABLE: usize = 28;
+pub const WRITTEN_TABLE: usize = COUNT_SIZE + 2 * ENTRY_SIZE;
 
 // The bytes of such a card with n junctions and m roads.
 pub fn card_size(n: u32, m: u32) -> usize

@@ -1,4 +1,4 @@
-// Questions 4 to 6 on the two sections of a card: its bodies.
+// Questions 4 to 6 on the bodies of roads and order of a card.
 ghost use mathlib.Core.Path.{_≡_};
 ghost use mathlib.Core.List.{[]};
 ghost use Prim.Native.Nat.{_*_, _≤_};

@@ -13,7 +13,7 @@ use Rattle.line_texts.specs.Areas.{decimal, digitsIn, shown, spaced}
 use Rattle.line_console.specs.declared.Line.{Line}
 use Rattle.line_console.specs.declared.Line.the-variants.{Call, Unreadable}
 use Rattle.line_texts.specs.Ascii.{ascii}
-use Rattle.line_console.specs.Lines.{callOf, lineOf}
+use Rattle.line_console.specs.Lines.{callOf, lineOf, programClass}
 use Rattle.line_console.specs.Texts.{answerText, unreadableText}
 
 -- ---- lines that say a call: document 01's six, the ends of the width, leading zeros
@@ -26,12 +26,12 @@ abbrev pub readable : List SaidLine
 readable =
     record { line = "aim 3"; says = Call (Aim (record { 0 = 3 })) }
     ∷ record { line = "est 0"; says = Call (Estimate (record { 0 = 0 })) }
-    ∷ record { line = "go 0"; says = Call (Go 0 (record { 0 = 0 })) }
+    ∷ record { line = "go 0"; says = Call (Go programClass (record { 0 = 0 })) }
     ∷ record { line = "set 1 4294967295"; says = Call (Set 1 (record { 0 = closedWord })) }
-    ∷ record { line = "go 0"; says = Call (Go 0 (record { 0 = 0 })) }
+    ∷ record { line = "go 0"; says = Call (Go programClass (record { 0 = 0 })) }
     ∷ record { line = "set 1 9"; says = Call (Set 1 (record { 0 = 9 })) }
     ∷ record { line = "aim 4294967295"; says = Call (Aim (record { 0 = noneWord })) }
-    ∷ record { line = "go 007"; says = Call (Go 0 (record { 0 = 7 })) }
+    ∷ record { line = "go 007"; says = Call (Go programClass (record { 0 = 7 })) }
     ∷ record { line = "set 00000000000000000001 00000000004294967295"; says = Call (Set 1 (record { 0 = noneWord })) }
     ∷ []
 

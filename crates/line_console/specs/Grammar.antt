@@ -19,13 +19,13 @@ use Rattle.line_fields.specs.declared.Number.the-variants.{NotOne, Value}
 use Rattle.line_console.specs.declared.Line.{Line}
 use Rattle.line_console.specs.declared.Line.the-variants.{Call, Unreadable}
 use Rattle.line_texts.specs.Ascii.{ascii}
-use Rattle.line_console.specs.Lines.{callOf, lineOf, one, two}
+use Rattle.line_console.specs.Lines.{callOf, lineOf, one, programClass, two}
 
 -- "a call's word and its numbers, one space before each"
 pub data Readable (line : List ℕ) : call.Call → Type 0 where
   aims : (s : List ℕ) (v : ℕ) → line ≡ ascii "aim " ++ s → numberOf s ≡ Value v → Readable line (Aim (record { 0 = v }))
   asks : (s : List ℕ) (v : ℕ) → line ≡ ascii "est " ++ s → numberOf s ≡ Value v → Readable line (Estimate (record { 0 = v }))
-  goes : (s : List ℕ) (v : ℕ) → line ≡ ascii "go " ++ s → numberOf s ≡ Value v → Readable line (Go 0 (record { 0 = v }))
+  goes : (s : List ℕ) (v : ℕ) → line ≡ ascii "go " ++ s → numberOf s ≡ Value v → Readable line (Go programClass (record { 0 = v }))
   sets : (s t : List ℕ) (i v : ℕ) → line ≡ ascii "set " ++ (s ++ (ascii " " ++ t)) → numberOf s ≡ Value i → numberOf t ≡ Value v
       → Readable line (Set i (record { 0 = v }))
 
@@ -67,7 +67,8 @@ one-says line w r v c e n h = first (decide (same w (ascii "aim")))
     begins u t = e ∙ ap (λ (x : List ℕ). x ++ 32 ∷ r) (same-is w u t)
 
     third : same w (ascii "aim") ≡ false → same w (ascii "est") ≡ false → Tested (same w (ascii "go")) → Readable line c
-    third p q (inl t) = subst (Readable line) (said (Go 0 (record { 0 = v })) c (rw (p, q, t) at h)) (goes r v (begins (ascii "go") t) n)
+    third p q (inl t) =
+        subst (Readable line) (said (Go programClass (record { 0 = v })) c (rw (p, q, t) at h)) (goes r v (begins (ascii "go") t) n)
     third p q (inr t) = absurd (not-readable c (rw (p, q, t) at h))
 
     second : same w (ascii "aim") ≡ false → Tested (same w (ascii "est")) → Readable line c

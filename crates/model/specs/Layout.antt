@@ -5,6 +5,7 @@ use Prim.Native.Nat.{_*_, _+_, _/_, suc, zero, ℕ}
 use lib.Dec.{eqb, leb, ltb}
 use lib.ListN.{drop, length, take}
 use Rattle.model.specs.Bytes.{wordAt, wordsAt}
+use Rattle.model.specs.Limits.{fewestSections}
 
 -- ---- the table of contents
 
@@ -96,14 +97,19 @@ orderIn card = bodyAt card 1
 abbrev pub accessIn : (card : List ℕ) → List ℕ
 accessIn card = bodyAt card 2
 
+-- entry i names a body of k bytes inside the card; a body without bytes needs no entry
+unfoldable pub names : (card : List ℕ) → (i k : ℕ) → Bool
+unfolding entryOf
+names card i k = let s = entryOf card i in eqb (s .size) k && leb (s .start + s .size) (length card)
+
 -- A6: where there is a third section, it has a byte for each of m roads: "the new length to be m"
 abbrev pub accessFits : (card : List ℕ) → (m : ℕ) → Bool
-accessFits card m = cond (ltb 2 (sections card)) (eqb (length (accessIn card)) m) true
+accessFits card m = cond (ltb fewestSections (sections card)) (hasEntry card 2 && names card 2 m) true
 
--- the table names bodies for n junctions and m roads inside the card
+-- the table names bodies for n junctions and m roads
 unfoldable pub named : (card : List ℕ) → (n m : ℕ) → Bool
-unfolding wordAt bodyAt
-named card n m = eqb (length (roadsIn card)) (roadSize * m) && eqb (length (orderIn card)) (placeSize * n) && accessFits card m
+unfolding wordAt names
+named card n m = names card 0 (roadSize * m) && names card 1 (placeSize * n) && accessFits card m
 
 -- the byte at which the base time of road i stands in the body of the roads: "tail, head, base time"
 abbrev pub baseAt : (i : ℕ) → ℕ

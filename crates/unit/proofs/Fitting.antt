@@ -3,14 +3,15 @@ use mathlib.Core.Path.{_∙_, _≡_, ap}
 use mathlib.Core.Bool.{_&&_, true}
 use mathlib.Core.List.{List}
 use Prim.Native.Nat.{_*_, _+_, _<_, _≤_, ℕ}
-use borrow.Author.Tests.{eqb-true, leb-true}
+use borrow.Author.Tests.{leb-true}
 use lib.Dec.{eqb, leb}
 use lib.ListN.{length}
 use native.Mathlib.Omega.{arith}
 use Rattle.graph.specs.Total.{and-true}
 use Rattle.model.specs.Types.{Header}
 use Rattle.model.specs.Limits.{mostJunctions, mostPairs, mostRoads}
-use Rattle.model.specs.Layout.{accessFits, named, orderIn, placeSize, roadSize, roadsIn}
+use Rattle.model.specs.Layout.{accessFits, named, names, orderIn, placeSize, roadSize, roadsIn}
+use Rattle.model.specs.Accept.{names-length}
 use Rattle.model.specs.Areas.{Areas, Each, lengths, lengthsFit}
 use Rattle.model.specs.State.{question9}
 use Rattle.model.specs.Good.{LengthFacts, lengths-facts}
@@ -32,19 +33,19 @@ fits-facts {h} {card} {l} e =
     let small = leb (h .n) mostJunctions in
     let few = leb (h .m) mostRoads in
     let sized = eqb (length card) (h .card) in
-    let roads-sized = eqb (length (roadsIn card)) (roadSize * h .m) in
-    let order-sized = eqb (length (orderIn card)) (placeSize * h .n) in
+    let roads-named = names card 0 (roadSize * h .m) in
+    let order-named = names card 1 (placeSize * h .n) in
     let (use-is, lengths-fit) = and-true (small && few && named card (h .n) (h .m)) (sized && areas) e in
     let (range-is, named-is) = and-true (small && few) (named card (h .n) (h .m)) use-is in
     let (small-is, few-is) = and-true small few range-is in
-    let (both-are, _) = and-true (roads-sized && order-sized) (accessFits card (h .m)) named-is in
-    let (roads-are, order-is) = and-true roads-sized order-sized both-are in
+    let (both-are, _) = and-true (roads-named && order-named) (accessFits card (h .m)) named-is in
+    let (roads-are, order-is) = and-true roads-named order-named both-are in
     let (_, areas-are) = and-true sized areas lengths-fit in
     record {
       n-high = leb-true (h .n) mostJunctions small-is;
       m-high = leb-true (h .m) mostRoads few-is;
-      roads = eqb-true (length (roadsIn card)) (roadSize * h .m) roads-are;
-      order = eqb-true (length (orderIn card)) (placeSize * h .n) order-is;
+      roads = names-length card 0 (roadSize * h .m) roads-are;
+      order = names-length card 1 (placeSize * h .n) order-is;
       lengths = lengths-facts (h .n) (h .m) (h .pairs) l areas-are;
     }
 

@@ -34,7 +34,7 @@ pub enum Target {
     Absent,
 }
 
-// Numbers of junctions, roads and pairs, and the target.
+// Numbers of junctions, roads and pairs, the card's length, and the target.
 pub struct Header {
     pub sizes: Sizes,
     pub target: Target,

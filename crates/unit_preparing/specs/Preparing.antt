@@ -8,7 +8,7 @@ use denote.Ref.{RefT}
 use denote.Triple.Both.{Both}
 use Rattle.model.specs.Types.{Absent, Accepted, Answered, Refusal, Refused, Room}
 use Rattle.model.specs.Bytes.{wordAt}
-use Rattle.model.specs.Layout.{roadSize}
+use Rattle.model.specs.Layout.{baseAt}
 use Rattle.model.specs.Card.{mapOn}
 use Rattle.model.specs.Areas.{Areas, areasOf}
 use Rattle.model.specs.State.{areasRefusal, zeroHeader}
@@ -30,7 +30,7 @@ pub record Accepts (card : List ℕ) (s : Sizes) (a : Areas) : Type 0 where
 
 -- the base time of road i: "tail, head, base time"
 abbrev pub baseIn : (roads : List ℕ) → (i : ℕ) → ℕ
-baseIn roads i = wordAt roads (roadSize * i + 8)
+baseIn roads i = wordAt roads (baseAt i)
 
 -- "A refused preparing hands back one of zeros and no target."
 abbrev pub refusedBy : Refusal → Answered

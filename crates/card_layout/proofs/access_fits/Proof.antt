@@ -1,6 +1,4 @@
 -- By the number of sections, as the definition goes.
-use mathlib.Core.Path.{ap}
-use lib.ListN.{length}
 use borrow.Author.Needs.{needs}
 use Rattle.card_layout.proofs.Entries.{third-is, two-at-most}
 use Rattle.card_layout.proofs.access_fits.Statement.{statement}
@@ -13,10 +11,12 @@ returns c =
 
 returns-2 : tie.Need-returns-2
 returns-2 c =
-    let after-sections = c .before .before in
+    let after-has-entry = c .before in
+    let else1 = after-has-entry .before in
+    let after-sections = else1 .before in
     let start = after-sections .before .before in
-    third-is (start .args .card .now) (start .args .m) (after-sections .sections .ensures) (c .before .if1 .left)
-    (ap length (c .access-of .ensures))
+    third-is (start .args .card .now) (start .args .m) (after-sections .sections .ensures) (else1 .if1 .left)
+    (after-has-entry .has-entry .ensures) (c .names .ensures)
 
 pub access-fits-spec : {M : Type 1} → statement M
 access-fits-spec =
@@ -24,5 +24,6 @@ access-fits-spec =
     (tie.spec
     (λ c κs. search needs)
     returns
+    (λ c κs. search needs)
     (λ c κs. search needs)
     returns-2)
