@@ -4,7 +4,7 @@ use mathlib.Core.Logic.{inl, inr}
 use mathlib.Core.Bool.{Bool, _&&_, cond, false, true}
 use mathlib.Core.List.{List, [], _++_}
 use Prim.Native.Nat.{_*_, _+_, _-_, _<_, _≤_, ℕ}
-use borrow.Author.Tests.{le-leb, le-ltb, leb-true, lt-leb, lt-ltb, ltb-true}
+use borrow.Author.Tests.{le-leb, le-ltb, leb-false, leb-true, lt-leb, lt-ltb, ltb-true}
 use borrow.Rule.Slice.PartMut.{postOf}
 use lib.Dec.{eqb, leb, ltb}
 use lib.ListN.{List·getD-eq-default, drop, getD, length, take}
@@ -97,6 +97,44 @@ module _ (card : List ℕ) (s : Section) where
 
   pub part : s .start + s .size ≤ length card → take (s .start + s .size - s .start) (drop (s .start) card) ≡ partOf card s
   part h = rw add-sub-cancel-left (sym (part-is h))
+
+-- what a body that has a byte says of its entry: it stands inside the card, and so does the part that it names
+pub record Named (card : List ℕ) (i : ℕ) : Type 0 where
+  pub inside : entryAt (i + 1) ≤ length card
+  pub ends : section card i .start + section card i .size ≤ length card
+  pub is : partOf card (section card i) ≡ bodyAt card i
+
+pub is-named : (card : List ℕ) (i : ℕ) → 0 < length (bodyAt card i) → Named card i
+unfolding bodyAt
+is-named card i long = by-entry (decide (hasEntry card i))
+  where
+    empty : Section
+    empty = record { kind = 0; start = 0; size = 0 }
+
+    s : Section
+    s = section card i
+
+    by-part : hasEntry card i ≡ true → Tested (leb (s .start + s .size) (length card)) → Named card i
+    by-part t (inl p) = record {
+      inside = has-both card i t .1;
+      ends = leb-true (s .start + s .size) (length card) p;
+      is = ap (partOf card) (entry-is card i refl t);
+    }
+    by-part t (inr p) =
+        let past = leb-false (s .start + s .size) (length card) p in
+        let none : [] ≡ bodyAt card i = no-part card s past ∙ ap (partOf card) (entry-is card i refl t) in
+        absurd (omega (arith, ap length none, long))
+
+    by-entry : Tested (hasEntry card i) → Named card i
+    by-entry (inl t) = by-part t (decide (leb (s .start + s .size) (length card)))
+    by-entry (inr f) =
+        let none : bodyAt card i ≡ [] = ap (partOf card) (sym (no-entry card i refl f)) ∙ part-is card empty (omega arith) in
+        absurd (omega (arith, ap length none, long))
+
+-- the words that were read give the part
+pub named-part : (card : List ℕ) (i : ℕ) {start size : ℕ} → start ≡ wordAt card (entryAt i + 4) → size ≡ wordAt card (entryAt i + 8)
+    → Named card i → take (start + size - start) (drop start card) ≡ bodyAt card i
+named-part card i es el k = rw (es, el) (part card (section card i) (k .ends) ∙ k .is)
 
 -- an entry of a table that ends within the card is as it stands there
 pub read-entry : (card : List ℕ) (i : ℕ) → i < sections card → tableSize (sections card) ≤ length card → section card i ≡ entryOf card i

@@ -127,6 +127,17 @@ pub fn roads_of(card: &[u8]) -> &[u8]
     body_at(card, 0)
 }
 
+// The same where they have a byte, as past question 9 of a call for a road below m: entry 0 then names a part of the card, and nothing is
+// tested again.
+pub fn roads_named(card: &[u8]) -> &[u8]
+    requires { ⌜ 0 < length (roadsIn (now card)) ⌝ }
+    ensures { λ r. ⌜ now r ≡ roadsIn (now (card .entry)) ⌝ }
+{
+    let start = network::word_at(card, COUNT_SIZE + 4) as usize;
+    let end = start + network::word_at(card, COUNT_SIZE + 8) as usize;
+    &card[start..end]
+}
+
 // The order.
 pub fn order_of(card: &[u8]) -> &[u8]
     ensures { λ r. ⌜ now r ≡ orderIn (now (card .entry)) ⌝ }

@@ -53,6 +53,10 @@ module _ {h : Header} {card : List ℕ} {l : Each ℕ} (k : Fits h card l) where
   pub pairs-few : h .pairs ≤ mostPairs
   pairs-few = omega (arith, k .lengths .room, k .lengths .pairs-high)
 
+  -- where there is a road, the roads have a byte
+  pub roads-there : {i : ℕ} → i < h .m → 0 < length (roadsIn card)
+  roads-there b = omega (arith, k .roads)
+
   pub road-there : {roads : List ℕ} {i : ℕ} → roads ≡ roadsIn card → i < h .m → 12 * i + 12 ≤ length roads
   road-there {roads} {i} e b = let r = ap length e ∙ k .roads in omega arith
 

@@ -74,7 +74,7 @@ impl Header {
         ensures { λ r. ⌜ r ≡ fitsBy (headerIn self) (now (card .entry)) (lengthsIn l) ⌝ }
     {
         let sizes = self.sizes;
-        unit_questions::fits(sizes, card, l)
+        unit_questions::usable(sizes, card) & unit_questions::sized(sizes, card.len(), l)
     }
 
     // Question 13.
@@ -110,7 +110,7 @@ impl Header {
         if self.sizes.m <= road {
             return Verdict::Failed(Refusal::NO_ROAD);
         }
-        let base = network::base_of(card_layout::roads_of(card), road as usize);
+        let base = network::base_of(card_layout::roads_named(card), road as usize);
         network::ask(
             unit_questions::allowed(base, time),
             Refusal::NOT_ALLOWED,

@@ -3,7 +3,6 @@ ghost use mathlib.Core.Path.{_≡_};
 ghost use mathlib.Core.Bool.{_&&_};
 ghost use mathlib.Core.Option.{some};
 ghost use lib.Dec.{eqb, leb, ltb};
-ghost use lib.ListN.{length};
 ghost use Rattle.model.specs.Word.{ofWord};
 ghost use Rattle.model.specs.Limits.{classes, mostJunctions, mostRoads};
 ghost use Rattle.model.specs.Layout.{named};
@@ -79,16 +78,20 @@ pub fn lengths_fit(s: Sizes, l: Lengths) -> bool
         & (l.groups == n + 1)
 }
 
-// Question 9, of the header's numbers, the card and the lengths. A header out of range is refused too, and a card whose table names other
-// bodies: no list of calls leaves one.
-pub fn fits(s: Sizes, card: &[u8], l: Lengths) -> bool
-    ensures { λ r. ⌜ r ≡ (leb (s .n) mostJunctions && leb (s .m) mostRoads && named (now (card .entry)) (s .n) (s .m)
-        && question9 (s .n) (s .m) (s .pairs) (s .card) (length (now (card .entry))) (lengthsIn l)) ⌝ }
+// Question 9, of the header's numbers and the lengths; `card` is the card's.
+pub fn sized(s: Sizes, card: usize, l: Lengths) -> bool
+    ensures { λ r. ⌜ r ≡ question9 (s .n) (s .m) (s .pairs) (s .card) card (lengthsIn l) ⌝ }
+{
+    (card == s.card as usize) & lengths_fit(s, l)
+}
+
+// A header out of range is refused by 9 too, and a card whose table names other bodies: no list of calls leaves one.
+pub fn usable(s: Sizes, card: &[u8]) -> bool
+    ensures { λ r. ⌜ r ≡ (leb (s .n) mostJunctions && leb (s .m) mostRoads && named (now (card .entry)) (s .n) (s .m)) ⌝ }
 {
     (s.n <= network::MOST_JUNCTIONS)
         & (s.m <= network::MOST_ROADS)
         & card_layout::named(card, s.n, s.m)
-        & ((card.len() == s.card as usize) & lengths_fit(s, l))
 }
 
 // Question 18.

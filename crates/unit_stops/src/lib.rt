@@ -95,7 +95,7 @@ fn stops_asked(
         (Stops class (now (stops .entry))) route log) ⌝ }
 {
     let sizes = header.sizes;
-    let fits = unit_questions::fits(sizes, card, l);
+    let fits = unit_questions::usable(sizes, card) & unit_questions::sized(sizes, card.len(), l);
     let counted = count_fits(stops.len());
     let driven = unit_questions::class_fits(class);
     let below = all_below(sizes.n, stops);

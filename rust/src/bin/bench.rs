@@ -650,7 +650,7 @@ none, in a least-degree one, and has a table of its own at the end, under its na
   slice, where a bisection finds those of a rank; the order read from the card. With the arguments, the answer and the questions of the unit's
   function: a header that goes in by value and comes back, so that a call waits for the one before; nine slices; question 9 on their
   lengths. Of a `set`, which stores one word, that is nearly all; the methods under *Rust* are inlined and have none of it. Both
-  hand the header's words back as the header file says; from run to run one or the other is up to 3 % ahead.
+  hand the header's words back as the header file says.
 - **Dijkstra**: Dijkstra's algorithm with a binary heap, which finds the total alone.
 - **A\\***: A\\* with each junction's least base total to the target handed to it free. It logs what the unit logs.
 - **go**: 20 trips between any two junctions, each right after an aim, so with no estimate known; **again**: the same trips once more.
@@ -679,6 +679,26 @@ Of a first go on Liechtenstein the estimates that it asks for are 58 and 54. Jum
 of a second go there at 5 % (34 µs, then 22 µs), until the words of the queue had a part of the time (DECISIONS, the next candidate).
 ";
 
+/// Counts, taken by hand; to be taken again when the questions of a set change.
+const SET_GOES_INTO: &str = "
+What a `set` goes into: instructions a call (callgrind, 2026-11-17, all sets of a round in the town of 200; the same in that of 4,096).
+
+|  | unit, landing 15 | unit | Rust on the areas |
+|:--|--:|--:|--:|
+| The caller lays out header and nine slices: `Unit::set`, `areas::set` | 128 | 128 | 114 |
+| `unit_set`, `set_on` | 100 | 101 | 68 |
+| What these call: `fits`; `usable`; `fits` | 112 | 54 | 108 |
+| The caller reads the answer: `hand_back`, `done` | 76 | 76 | 76 |
+| All | 416 | 359 | 366 |
+
+- Landing 15's `fits` was lent the lengths in memory and made a flag of each of 21 tests. Now `unit_set` compares the lengths where they are
+  handed to it, each with a jump, and calls `usable` for what the card's table names.
+- Past 9, the body of the roads is not looked up again in full: 16 instructions fewer in `unit_set`.
+- The number of sections, for which up to six look-ups ask, was loaded once already: LLVM joins the look-ups. Handed on from `named`, tried on
+  LLVM's input alone, it made 77 or 81 of 79 instructions by the form of `named`, and was left as it is.
+- The twin's caller hands it three pointers fewer: LLVM leaves out those of areas that it does not read, which it cannot for an export.
+";
+
 /// The largest town's ratios as earlier landings left them, in the columns of `Report::landings`.
 #[rustfmt::skip]
 const BEFORE: [[&str; 8]; 6] = [
@@ -699,6 +719,7 @@ impl Display for Report {
         Report::table(f, &self.towns)?;
         self.growth(f)?;
         f.write_str(GOES_INTO)?;
+        f.write_str(SET_GOES_INTO)?;
         self.landings(f)?;
         for (name, file) in &self.files {
             let (n, m, pairs) = (file.map.n(), file.map.m(), file.pairs);

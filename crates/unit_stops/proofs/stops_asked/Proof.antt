@@ -1,5 +1,6 @@
 -- 9, 16, 18, 12 and 14: the code asks in the definition's order (`stops-asks`).
-use mathlib.Core.Path.{refl}
+use mathlib.Core.Path.{ap₂, refl}
+use mathlib.Core.Bool.{Bool, _&&_}
 use borrow.Author.Needs.{needs}
 use Rattle.model.specs.Types.{Lengths, LentLengths, NoClass, NoJunction, StopCount}
 use Rattle.unit_questions.specs.Lending.{lengthsIn}
@@ -8,7 +9,7 @@ use Rattle.unit_stops.proofs.Questions.{asked, stops-asks}
 use Rattle.unit_stops.proofs.stops_asked.Statement.{statement}
 use Rattle.unit_stops.proofs.stops_asked.Tie as tie
 
-abbrev start : tie.After-fits2 → tie.Start
+abbrev start : tie.After-usable → tie.Start
 start c = c .before .before .before .before
 
 returns : tie.Need-returns
@@ -20,10 +21,12 @@ returns c base =
     let after-all-below = after-lent-fit .before in
     let after-class-fits = after-all-below .before in
     let after-count-fits = after-class-fits .before in
-    let after-fits2 = after-count-fits .before in
-    let a = start after-fits2 .args in
+    let after-sized = after-count-fits .before in
+    let after-usable = after-sized .before in
+    let fits-is = ap₂ (λ (x : Bool) (y : Bool). x && y) (after-usable .usable .ensures) (after-sized .sized .ensures) in
+    let a = start after-usable .args in
     stops-asks base (headerIn (a .header)) (a .card .now) (lengthsIn (a .l)) (a .class) (a .stops .now) (a .route) (a .log)
-    (asked Lengths (c .ask5 .ensures) (after-fits2 .fits2 .ensures)
+    (asked Lengths (c .ask5 .ensures) fits-is
     (asked StopCount (c .before .ask4 .ensures) (after-count-fits .count-fits .ensures)
     (asked NoClass (after-ask3 .ask3 .ensures) (after-class-fits .class-fits .ensures)
     (asked NoJunction (after-ask2 .ask2 .ensures) (after-all-below .all-below .ensures)
@@ -33,6 +36,7 @@ pub stops-asked-spec : {M : Type 1} → statement M
 stops-asked-spec =
     tie.close
     (tie.spec
+    (λ c κs. search needs)
     (λ c κs. search needs)
     (λ c κs. search needs)
     (λ c κs. search needs)
