@@ -2,8 +2,11 @@
  * The route unit for C and C++: reading and writing a card, preparing it, the six calls, and a script of calls.
  *
  * Link with libunit_c.a (`rt staticlib unit_c` leaves it in target/staticlib). Words as "none" and "question 9" are
- * those of document 01, the areas leaving and groups, the calls preview and stops and the vehicle classes those of document 02,
- * A1 to A3 and A6; the contract of each function, for every input, stands at its namesake in crates/unit_c.
+ * those of document 01, the areas leaving and groups, the calls preview and stops, the vehicle classes and times of 64 bits those of
+ * document 02, A1 to A3, A6 and A7; the contract of each function, for every input, stands at its namesake in crates/unit_c.
+ *
+ * Times. A time, or a total of times, is a number of tenths of a second, in 64 bits. On a card it stands in a word of 32 bits, as all
+ * numbers of a card do; the words of a card that was made when times were seconds are read as tenths, as they stand.
  *
  * Areas. A slice is a pointer and, right after it, its length in elements (bytes of a card, words of all others). Each
  * pointer is aligned for its type, is not null even where the length is 0, and points at as many elements as the length
@@ -20,23 +23,24 @@
  * without it every class passes. A go, a preview and a list of stops take a class: a road barred to it counts as closed for that call,
  * and for no other. Estimates are over all roads, and no live time is altered.
  *
- * Lengths. With n junctions and m roads: card 28 + 12 m + 4 n bytes, or 40 + 13 m + 4 n with a byte for each road; ranks, down,
- * estimates, elapsed n words; live, leaving m words; groups n + 1 words; pairs a multiple of 4 words, four for each pair there is to be
- * room for, at most 262,144; route and log at least n words, route of a list of s stops at least s n; work 2 n words.
+ * Lengths. With n junctions and m roads: card 28 + 12 m + 4 n bytes, or 40 + 13 m + 4 n with a byte for each road; of 32-bit words
+ * ranks n, leaving m, groups n + 1, pairs two for each pair there is to be room for; of 64-bit words times as many as pairs, live m,
+ * down, estimates and elapsed n, work 2 n. Pairs and times have room for the same number of pairs, at most 65,536, so 131,072 words
+ * each. Of route and log, which are 32-bit words, at least n, of the route of a list of s stops at least s n.
  *
  * Refusals, by the number of the question that is answered with no, in order:
  *    1  card: at least 4 bytes; and, once 2 has passed its first word, 28 for a table of 2 sections or 40 for one of 3?
  *    2  card: is its first word 2 or 3; and, once 1 has passed the table, are the kinds 1, 2 or 1, 2, 3?
  *    3  card: do the bodies follow the table one after the other up to the card's end?
  *    4  card: 0 to 16,384 roads of 12 bytes, 1 to 4,096 junctions of 4 bytes; with a third section, a byte for each road?
- *    5  card: has each road two different ends below n and a base time from 1 to 1,000,000? With the first road that has not.
+ *    5  card: has each road two different ends below n and a base time from 1 to 10,000,000? With the first road that has not.
  *    6  card: is each entry of the order below n and new? With the first place, from 0, where it is not.
  *    7  prepare, write: has each area its length?
  *    8  prepare: do all kept pairs fit? If not, every area is filled with 0.
- *    9  calls: have the card and the eight areas, and of a preview its work area, the lengths that the header calls for, of at most
+ *    9  calls: have the card and the nine areas, and of a preview its work area, the lengths that the header calls for, of at most
  *       4,096 junctions and 16,384 roads; and does the card's table name bodies for these inside the card?
  *   10  set, preview: is the road below m?
- *   11  set, preview: is the time from the road's base time to 1,000,000, or closed?
+ *   11  set, preview: is the time from the road's base time to 10,000,000, or closed?
  *   12  aim, estimate, go, preview: is the junction below n? stops: is each of them?
  *   13  estimate, go, preview: is there a target?
  *   14  go: have route and log at least n words? stops: has route at least n words for each stop, and log at least n?
@@ -58,10 +62,14 @@
 extern "C" {
 #endif
 
-/* The marks that stand in the place of a time. */
-#define UNIT_NONE 4294967295u    /* there is no chain: pairs, down, estimates, elapsed, the answers of estimate and preview */
-#define UNIT_CLOSED 4294967295u  /* the road is closed: live, the time of a set or a preview */
-#define UNIT_UNASKED 4294967294u /* not asked since the last aim: estimates */
+/* The marks that stand in the place of a time: 18,446,744,073,709,551,615, and one below it. */
+#define UNIT_NONE ((uint64_t)-1)    /* there is no chain: times, down, estimates, elapsed, the answers of estimate and preview */
+#define UNIT_CLOSED ((uint64_t)-1)  /* the road is closed: live, the time of a set or a preview */
+#define UNIT_UNASKED ((uint64_t)-2) /* not asked since the last aim: estimates */
+
+/* The two words of a time in a script, in their order. */
+#define UNIT_LOW(time) ((uint32_t)(uint64_t)(time))
+#define UNIT_HIGH(time) ((uint32_t)((uint64_t)(time) >> 32))
 
 /* A list of stops has at most so many legs. */
 #define UNIT_MOST_LEGS 31
@@ -132,38 +140,39 @@ uint32_t card_write(const uint32_t *roads, size_t roads_len, const uint32_t *ord
     uint8_t *area, size_t area_len, uint32_t *place);
 
 /*
- * Prepares a card on the eight areas: questions 1 to 8. Fills ranks (by junction), pairs (low rank, high rank, up time, down
- * time; unused records are 0), leaving (road numbers by tail, ascending within a tail) and groups (where each tail's group starts
- * in leaving, at last m: the roads that leave v stand from groups[v] on, up to groups[v + 1]); sets each live time to its base
+ * Prepares a card on the nine areas: questions 1 to 8. Fills ranks (by junction), pairs (low rank, high rank) and times (up time,
+ * down time; what is unused of both is 0), leaving (road numbers by tail, ascending within a tail) and groups (where each tail's group
+ * starts in leaving, at last m: the roads that leave v stand from groups[v] on, up to groups[v + 1]); sets each live time to its base
  * time, down totals and elapsed to UNIT_NONE, estimates to UNIT_UNASKED. A refusal hands back a header of zeros.
  */
 UnitAnswer unit_prepare(const uint8_t *card, size_t card_len, uint32_t *ranks, size_t ranks_len,
-    uint32_t *pairs, size_t pairs_len, uint32_t *live, size_t live_len, uint32_t *down, size_t down_len,
-    uint32_t *estimates, size_t estimates_len, uint32_t *elapsed, size_t elapsed_len,
+    uint32_t *pairs, size_t pairs_len, uint64_t *times, size_t times_len, uint64_t *live, size_t live_len,
+    uint64_t *down, size_t down_len, uint64_t *estimates, size_t estimates_len, uint64_t *elapsed, size_t elapsed_len,
     uint32_t *leaving, size_t leaving_len, uint32_t *groups, size_t groups_len);
 
 /*
- * The six calls. They are handed the header that the last call handed back and the card and the eight areas it belongs to; none
- * writes ranks, pairs, leaving or groups. Where question 9 passes but these are not what a list of calls has left together, the
+ * The six calls. They are handed the header that the last call handed back and the card and the nine areas it belongs to; none
+ * writes ranks, pairs, times, leaving or groups. Where question 9 passes but these are not what a list of calls has left together, the
  * answer is free, 9 included.
  */
 
 /* Sets a road's live time: questions 9, 10, 11. Writes that entry of live alone. */
 UnitAnswer unit_set(UnitHeader header, const uint8_t *card, size_t card_len, const uint32_t *ranks, size_t ranks_len,
-    const uint32_t *pairs, size_t pairs_len, uint32_t *live, size_t live_len, const uint32_t *down, size_t down_len,
-    const uint32_t *estimates, size_t estimates_len, const uint32_t *elapsed, size_t elapsed_len,
-    const uint32_t *leaving, size_t leaving_len, const uint32_t *groups, size_t groups_len, uint32_t road, uint32_t time);
+    const uint32_t *pairs, size_t pairs_len, const uint64_t *times, size_t times_len, uint64_t *live, size_t live_len,
+    const uint64_t *down, size_t down_len, const uint64_t *estimates, size_t estimates_len,
+    const uint64_t *elapsed, size_t elapsed_len, const uint32_t *leaving, size_t leaving_len,
+    const uint32_t *groups, size_t groups_len, uint32_t road, uint64_t time);
 
 /* Aims at a junction, the new target: questions 9, 12. Writes down and estimates, which become unasked. */
 UnitAnswer unit_aim(UnitHeader header, const uint8_t *card, size_t card_len, const uint32_t *ranks, size_t ranks_len,
-    const uint32_t *pairs, size_t pairs_len, const uint32_t *live, size_t live_len, uint32_t *down, size_t down_len,
-    uint32_t *estimates, size_t estimates_len, const uint32_t *elapsed, size_t elapsed_len,
+    const uint32_t *pairs, size_t pairs_len, const uint64_t *times, size_t times_len, const uint64_t *live, size_t live_len,
+    uint64_t *down, size_t down_len, uint64_t *estimates, size_t estimates_len, const uint64_t *elapsed, size_t elapsed_len,
     const uint32_t *leaving, size_t leaving_len, const uint32_t *groups, size_t groups_len, uint32_t junction);
 
 /* A junction's least base total to the target: questions 9, 12, 13. Writes estimates: this one and those it asks for. */
 UnitAnswer unit_estimate(UnitHeader header, const uint8_t *card, size_t card_len, const uint32_t *ranks, size_t ranks_len,
-    const uint32_t *pairs, size_t pairs_len, const uint32_t *live, size_t live_len, const uint32_t *down, size_t down_len,
-    uint32_t *estimates, size_t estimates_len, const uint32_t *elapsed, size_t elapsed_len,
+    const uint32_t *pairs, size_t pairs_len, const uint64_t *times, size_t times_len, const uint64_t *live, size_t live_len,
+    const uint64_t *down, size_t down_len, uint64_t *estimates, size_t estimates_len, const uint64_t *elapsed, size_t elapsed_len,
     const uint32_t *leaving, size_t leaving_len, const uint32_t *groups, size_t groups_len, uint32_t junction);
 
 /*
@@ -172,10 +181,10 @@ UnitAnswer unit_estimate(UnitHeader header, const uint8_t *card, size_t card_len
  * estimates and elapsed too.
  */
 UnitAnswer unit_go(UnitHeader header, const uint8_t *card, size_t card_len, const uint32_t *ranks, size_t ranks_len,
-    const uint32_t *pairs, size_t pairs_len, const uint32_t *live, size_t live_len, const uint32_t *down, size_t down_len,
-    uint32_t *estimates, size_t estimates_len, uint32_t *elapsed, size_t elapsed_len,
-    const uint32_t *leaving, size_t leaving_len, const uint32_t *groups, size_t groups_len,
-    uint32_t *route, size_t route_len, uint32_t *log, size_t log_len, uint32_t vehicle_class, uint32_t start);
+    const uint32_t *pairs, size_t pairs_len, const uint64_t *times, size_t times_len, const uint64_t *live, size_t live_len,
+    const uint64_t *down, size_t down_len, uint64_t *estimates, size_t estimates_len, uint64_t *elapsed, size_t elapsed_len,
+    const uint32_t *leaving, size_t leaving_len, const uint32_t *groups, size_t groups_len, uint32_t *route, size_t route_len,
+    uint32_t *log, size_t log_len, uint32_t vehicle_class, uint32_t start);
 
 /*
  * What if that road took longer, or less, or were closed or open: the total of a go of the class from the start now, and with that time
@@ -185,10 +194,10 @@ UnitAnswer unit_go(UnitHeader header, const uint8_t *card, size_t card_len, cons
  * any.
  */
 UnitAnswer unit_preview(UnitHeader header, const uint8_t *card, size_t card_len, const uint32_t *ranks, size_t ranks_len,
-    const uint32_t *pairs, size_t pairs_len, const uint32_t *live, size_t live_len, const uint32_t *down, size_t down_len,
-    uint32_t *estimates, size_t estimates_len, const uint32_t *elapsed, size_t elapsed_len,
-    const uint32_t *leaving, size_t leaving_len, const uint32_t *groups, size_t groups_len,
-    uint32_t *work, size_t work_len, uint32_t vehicle_class, uint32_t road, uint32_t time, uint32_t start);
+    const uint32_t *pairs, size_t pairs_len, const uint64_t *times, size_t times_len, const uint64_t *live, size_t live_len,
+    const uint64_t *down, size_t down_len, uint64_t *estimates, size_t estimates_len, const uint64_t *elapsed, size_t elapsed_len,
+    const uint32_t *leaving, size_t leaving_len, const uint32_t *groups, size_t groups_len, uint64_t *work, size_t work_len,
+    uint32_t vehicle_class, uint32_t road, uint64_t time, uint32_t start);
 
 /*
  * Calls at the stops in their order, repeats allowed: questions 9, 16, 18, 12, 14, 17. Each leg, from a stop to the next, is an aim at
@@ -197,30 +206,29 @@ UnitAnswer unit_preview(UnitHeader header, const uint8_t *card, size_t card_len,
  * log, so after that of the last one made there may be more of an earlier one. Writes down, estimates, elapsed, route and log.
  */
 UnitStops unit_stops(UnitHeader header, const uint8_t *card, size_t card_len, const uint32_t *ranks, size_t ranks_len,
-    const uint32_t *pairs, size_t pairs_len, const uint32_t *live, size_t live_len, uint32_t *down, size_t down_len,
-    uint32_t *estimates, size_t estimates_len, uint32_t *elapsed, size_t elapsed_len,
-    const uint32_t *leaving, size_t leaving_len, const uint32_t *groups, size_t groups_len,
-    uint32_t *route, size_t route_len, uint32_t *log, size_t log_len, uint32_t vehicle_class,
-    const uint32_t *stops, size_t stops_len);
+    const uint32_t *pairs, size_t pairs_len, const uint64_t *times, size_t times_len, const uint64_t *live, size_t live_len,
+    uint64_t *down, size_t down_len, uint64_t *estimates, size_t estimates_len, uint64_t *elapsed, size_t elapsed_len,
+    const uint32_t *leaving, size_t leaving_len, const uint32_t *groups, size_t groups_len, uint32_t *route, size_t route_len,
+    uint32_t *log, size_t log_len, uint32_t vehicle_class, const uint32_t *stops, size_t stops_len);
 
 /*
  * Prepares a card and makes a list of calls. A call in script is its kind and as many words as that call has: 0, road, time for set; 1,
  * junction for aim; 2, junction for estimate; 3, class, start, entries of route, entries of log for go; 4, class, road, time, start for
- * preview; 5, class, their number, entries of route, entries of log and then the stops for a list of stops. A go and a list of stops
- * are lent the first so many entries of route and log, or all of them where there are fewer; what lies behind them is as it was. A
- * preview is lent all of work. The script ends with its last word, at any other kind, or at a call that is cut short: no call from
- * there on is made. An answer is UNIT_ANSWER_WORDS words of out: the refusal or 0; estimate, total or the leg of 17; count; number of
- * roads; of a preview 0, its two totals, and its change as a two's complement of 64 bits; of a list of stops 0, the whole total, 0 and
- * the number of legs; then of each of UNIT_MOST_LEGS legs its total and its number of roads, 0 where there is none. No more calls are
- * made than out has room for answers; the rest of out is as it was. What is handed back is preparing's answer, with the header after
- * the last call. After a refused preparing the calls are made all the same, on its header of zeros.
+ * preview; 5, class, their number, entries of route, entries of log and then the stops for a list of stops. A time takes two words, the
+ * lower first: UNIT_LOW and UNIT_HIGH. A go and a list of stops are lent the first so many entries of route and log, or all of them
+ * where there are fewer; what lies behind them is as it was. A preview is lent all of work. The script ends with its last word, at any
+ * other kind, or at a call that is cut short: no call from there on is made. An answer is UNIT_ANSWER_WORDS words of out: the refusal
+ * or 0; estimate, total or the leg of 17; count; number of roads; of a preview 0, its two totals, and its change as a two's complement
+ * of 64 bits; of a list of stops 0, the whole total, 0 and the number of legs; then of each of UNIT_MOST_LEGS legs its total and its
+ * number of roads, 0 where there is none. No more calls are made than out has room for answers; the rest of out is as it was. What is
+ * handed back is preparing's answer, with the header after the last call. After a refused preparing the calls are made all the same,
+ * on its header of zeros.
  */
-UnitAnswer unit_replay(const uint8_t *card, size_t card_len, uint32_t *ranks, size_t ranks_len,
-    uint32_t *pairs, size_t pairs_len, uint32_t *live, size_t live_len, uint32_t *down, size_t down_len,
-    uint32_t *estimates, size_t estimates_len, uint32_t *elapsed, size_t elapsed_len,
-    uint32_t *leaving, size_t leaving_len, uint32_t *groups, size_t groups_len, uint32_t *route, size_t route_len,
-    uint32_t *log, size_t log_len, uint32_t *work, size_t work_len, const uint32_t *script, size_t script_len,
-    uint64_t *out, size_t out_len);
+UnitAnswer unit_replay(const uint8_t *card, size_t card_len, uint32_t *ranks, size_t ranks_len, uint32_t *pairs, size_t pairs_len,
+    uint64_t *times, size_t times_len, uint64_t *live, size_t live_len, uint64_t *down, size_t down_len,
+    uint64_t *estimates, size_t estimates_len, uint64_t *elapsed, size_t elapsed_len, uint32_t *leaving, size_t leaving_len,
+    uint32_t *groups, size_t groups_len, uint32_t *route, size_t route_len, uint32_t *log, size_t log_len,
+    uint64_t *work, size_t work_len, const uint32_t *script, size_t script_len, uint64_t *out, size_t out_len);
 
 #ifdef __cplusplus
 }

@@ -15,11 +15,13 @@ sys.dont_write_bytecode = True
 import reference as model
 import scripts
 from reference import NONE, SLOWEST, UNASKED, Areas, Header
+from scripts import FAR
 
 SPECS = pathlib.Path(__file__).resolve().parent.parent / "crates" / "model_cases" / "specs"
 
 
 WIDTH = 140
+LARGEST = 2 ** 32 - 1  # of the words of a card
 
 
 # ---- the text of imports, numbers, lists, calls and refusals
@@ -41,7 +43,7 @@ CALLS = {"set": "setCall", "aim": "aimCall", "est": "estimateCall", "preview": "
 
 
 def number(word):
-    return {NONE: "∞", UNASKED: "□"}.get(word, str(word))
+    return {NONE: "∞", UNASKED: "□", LARGEST: "largest"}.get(word, str(word))
 
 
 def applied(name, *words):
@@ -73,7 +75,7 @@ def total_text(total):
 
 
 def change_text(change):
-    """A change of so many seconds, or that there is none."""
+    """A change of so many tenths of a second, or that there is none."""
     return "none" if change is None else f"less {-change}" if change < 0 else f"more {change}"
 
 
@@ -126,7 +128,7 @@ def entry(text, indent):
 
 def turn_text(turn):
     (kind, *rest), answer, areas, rows = turn.call, turn.answer, turn.areas, [argument(row(area)) for area in turn.areas]
-    live, down, estimates, elapsed = rows[2:6]
+    live, down, estimates, elapsed = rows[3:7]
     if answer[0] == "no" and answer[1] not in (15, 17):
         return says(turn, f"no {refusal_text(answer[1:])} ({call_text(turn.call)})")
     if kind == "set":
@@ -173,9 +175,10 @@ def says(turn, text, target=None, **altered):
 
 def script_text(index, script):
     answer, header, areas = script.prepared
-    records = [areas.pairs[4 * i:4 * i + 4] for i in range(header.pairs)]
-    rest = [0] * (4 * script.room - 4 * header.pairs), script.chart.base, *[[mark] * header.n for mark in (NONE, UNASKED, NONE)]
-    assert answer == ("ok",) and header.target is None and (areas.pairs[4 * header.pairs:], *areas[2:6]) == rest
+    records, unused = model.records_in(header, areas), [0] * (2 * script.room - 2 * header.pairs)
+    rest = unused, unused, script.chart.base, *[[mark] * header.n for mark in (NONE, UNASKED, NONE)]
+    assert answer == ("ok",) and header.target is None
+    assert (areas.pairs[2 * header.pairs:], areas.times[2 * header.pairs:], *areas[3:7]) == rest
     turns = "\n      ".join(entry(text, 6) for text in [*map(turn_text, script.turns), "[]"])[2:]
     return f"""
 -- {script.made[0]}
@@ -204,7 +207,7 @@ use mathlib.Core.List.{{[], _∷_}}
 use lib.ListN.{{replicate}}
 use Rattle.model.specs.Types.{{Lengths, LentLengths, NoClass, NoJunction, NoRoad, NoTarget, NotAllowed, StopCount}}
 use Rattle.model.specs.Calls.{{aimCall, estimateCall, goCall, previewCall, setCall, stopsCall}}
-{use(NOTATION, "Holds _over_ _–_–_ aim est figures go lent less lost more no pair played preview set stops stranded ∞ □".split())}"""
+{use(NOTATION, "Holds _over_ _–_–_ aim est figures go largest lent less lost more no pair played preview set stops stranded ∞ □".split())}"""
 
 
 # ---- Cards.antt: what is given, in groups with a comment each
@@ -270,17 +273,19 @@ READINGS = {
         put((3, 2 ** 32 - 16), (5, 12), (6, 36)), put((3, 2 ** 32 - 40), (5, 2 ** 32 - 12), (6, 60)),
         put((6, 2 ** 32 - 20), (8, 32), (9, 29), old=CLASSED), put((6, 2 ** 32 - 56), (8, 2 ** 32 - 4), (9, 65), old=CLASSED)],
     "lengths": [blank(13, 8), blank(4, 4), blank(12, 6), blank(12, 9), blank(0, 0), blank(12, 0), blank(196_620, 4), blank(12, 16_388)],
-    "the ends of a road": [card([(2, 1, 5)], [1, 0]), card([(0, 2, 5)], [1, 0]), card([(0, NONE, 5)], [1, 0]), card([(0, 1, 5)], [0]),
+    "the ends of a road": [card([(2, 1, 5)], [1, 0]), card([(0, 2, 5)], [1, 0]), card([(0, LARGEST, 5)], [1, 0]), card([(0, 1, 5)], [0]),
                            card([(0, 1, 5), (1, 1, 5)], [1, 0])],
-    "base times": [card([(0, 1, 0)], [1, 0]), card([(0, 1, NONE)], [1, 0]),
+    "base times": [card([(0, 1, 0)], [1, 0]), card([(0, 1, LARGEST)], [1, 0]),
                    card([(0, 1, 1), (1, 0, SLOWEST), (0, 1, SLOWEST + 1)], [1, 0])],
     "two roads; a road and a place; a road and the longest order": [
         card([(0, 1, 5), (0, 0, 5), (1, 0, 0)], [1, 0]), card([(0, 1, 5), (1, 0, 0)], [1, 1]), blank(12, 16_384)],
-    "places of the order": [card([], [1]), card([(0, 1, 5)], [0, 2]), card([], [NONE, 0]), card([], [1, 0, 1]),
+    "places of the order": [card([], [1]), card([(0, 1, 5)], [0, 2]), card([], [LARGEST, 0]), card([], [1, 0, 1]),
                             card([(2, 0, 1)], [2, 2, 1]), card([], [0, 1, 9, 1])],
     "a road and a place, with a third section": [card_with([(0, 1, 0)], [1, 0], [9]), card_with([(0, 1, 5)], [1, 1], [9])],
     "accepted": [SMALL, MAP_P, CLASSED, card_with([(0, 1, 5)], [1, 0], [0]), card_with([(1, 0, 1), (1, 0, SLOWEST)], [0, 1], [255, 7]),
                  card_with([], [0], []), blank(0, 4), card([], [2, 0, 1]), card([(1, 0, 1), (1, 0, SLOWEST)], [0, 1])],
+    "accepted, at and past the longest base time before A7": [
+        card([(1, 0, 1_000_000), (0, 1, 1_000_001)], [0, 1]), card_with([(1, 0, 1_000_000), (0, 1, 9_999_999)], [0, 1], [255, 1])],
 }
 ROAD, ORDER = words(0, 1, 5), words(1, 0)
 WRITINGS = {
@@ -291,30 +296,38 @@ WRITINGS = {
     "the area": [(ROAD, ORDER, 0), (ROAD, ORDER, 47), (ROAD, ORDER, 49)],
     "accepted": [([], [0]), ([(0, 1, 5)], [1, 0]), ([(2, 0, SLOWEST), (0, 1, 1), (2, 0, 66_051)], [2, 0, 1])],
 }
-FITTING = Areas(2, 4, 1, 2, 2, 2, 1, 3)  # the lengths for the small card and its one pair
+FITTING = Areas(2, 2, 2, 1, 2, 2, 2, 1, 3)  # the lengths for the small card and its one pair
+
+
+def both(pairs, times, old=FITTING):
+    """Other lengths of the pairs' two areas."""
+    return old._replace(pairs=pairs, times=times)
+
+
 OTHER = {area: [FITTING._replace(**{area: length - 1}), FITTING._replace(**{area: length + 1})] for area, length in FITTING._asdict().items()}
+OTHER["pairs and times of different room, and of half a pair"] = [both(*two) for two in ((4, 2), (2, 4), (0, 2), (2, 0), (3, 3), (1, 1))]
 PREPARINGS = {
-    "the card": [(READINGS[group][-1], FITTING) for group in READINGS if group != "accepted"],
+    "the card": [(READINGS[group][-1], FITTING) for group in READINGS if not group.startswith("accepted")],
     **{area: [(SMALL, lengths) for lengths in changed] for area, changed in OTHER.items()},
-    "an area before the room": [(SMALL, FITTING._replace(pairs=0, elapsed=1)), (SMALL, FITTING._replace(pairs=0, groups=2))],
-    "the room": [(SMALL, FITTING._replace(pairs=0)), (MAP_P, Areas(4, 16, 5, 4, 4, 4, 5, 5))],
+    "an area before the room": [(SMALL, both(0, 0)._replace(elapsed=1)), (SMALL, both(0, 0)._replace(groups=2))],
+    "the room": [(SMALL, both(0, 0)), (MAP_P, Areas(4, 8, 8, 5, 4, 4, 4, 5, 5))],
 }
 CHANGES = [("set", 0, 5), ("set", 1, 0), ("preview", 0, 0, 5, 0, 0), ("preview", 7, 1, 0, 2, 0)]
 OTHERS = [("aim", 1), ("aim", 2), ("est", 0), ("go", 0, 0, [60, 61], [80, 81, 82]), ("go", 7, 2, [], []),
           ("stops", 0, [0, 1], [60, 61, 62, 63], [80, 81]), ("stops", 7, [2, 1, 0], [], [])]
 LISTS = [("stops", 0, [], [], []), ("stops", 8, [0], [60, 61], [80, 81]), ("stops", 8, [2] * 33, [], [])]
-CLASSES = [("go", 8, 0, [60, 61], [80, 81, 82]), ("go", 16, 2, [], []), ("go", NONE, 0, [60, 61], [80, 81]),
+CLASSES = [("go", 8, 0, [60, 61], [80, 81, 82]), ("go", 16, 2, [], []), ("go", FAR, 0, [60, 61], [80, 81]),
            ("stops", 8, [0, 1], [60, 61, 62, 63], [80, 81]), ("stops", 255, [2, 1, 0], [], [])]
 OUTLOOKS = [("preview", 8, 0, 5, 0, 4), ("preview", 9, 1, 0, 2, 4)]
-NO_OUTLOOKS = [("preview", 8, 0, 5, 0, 0), ("preview", NONE, 1, 0, 2, 0)]
+NO_OUTLOOKS = [("preview", 8, 0, 5, 0, 0), ("preview", FAR, 1, 0, 2, 0)]
 WORKS = [("preview", 0, 0, 5, 0, 1), ("preview", 0, 0, 5, 0, 3), ("preview", 8, 1, 0, 2, 5), ("preview", 8, 1, 0, 2, 8)]
 FORGED = [(1, 1, 1, 48), (3, 1, 1, 48), (2, 0, 1, 48), (2, 2, 1, 48), (2, 1, 2, 48), (0, 0, 0, 48), (2 ** 30 + 2, 1, 1, 48), (2, 2 ** 30 + 1, 1, 48),
           (2, 1, 2 ** 30 + 1, 48), (2, 1, 1, 47), (2, 1, 1, 61), (2, 1, 1, 0), (2, 1, 1, 48 + 2 ** 31)]
-UNMAPPED = Areas(0, 8, 0, 0, 0, 0, 0, 1)
+UNMAPPED = Areas(0, 4, 4, 0, 0, 0, 0, 0, 1)
 CALLINGS = {
     "the card": [("all", (2, 1, 1, 48), 0, 47, FITTING), ("all", (2, 1, 1, 48), None, 49, FITTING), ("all", (2, 1, 1, 48), 1, 0, FITTING)],
     **{area: [("all", (2, 1, 1, 48), 1, 48, lengths) for lengths in changed] for area, changed in OTHER.items()},
-    "fewer pairs than the header has": [("all", (2, 1, 1, 48), None, 48, FITTING._replace(pairs=0))],
+    "fewer pairs than the header has": [("all", (2, 1, 1, 48), None, 48, both(0, 0))],
     "forged headers": [("all", numbers, 0, 48, FITTING) for numbers in FORGED],
     "the header of a refused preparing, with areas that it calls for": [
         ("changes", (0, 0, 0, 0), None, 0, UNMAPPED), ("others", (0, 0, 0, 0), None, 0, UNMAPPED), ("lists", (0, 0, 0, 0), None, 0, UNMAPPED)],
@@ -336,22 +349,23 @@ SIZES = {
     "bounds": [(0, 4), (196_608, 16_384), (196_620, 4), (0, 16_388), (12, 0)],
     "multiples": [(196_604, 4), (6, 4), (12, 6), (24, 16_380)],
 }
-MOST = Areas(4096, 262_144, 16_384, 4096, 4096, 4096, 16_384, 4097)
-WIDE = Areas(2 ** 30 + 2, 4, 1, 2 ** 30 + 2, 2 ** 30 + 2, 2 ** 30 + 2, 1, 2 ** 30 + 3)
+MOST = Areas(4096, 131_072, 131_072, 16_384, 4096, 4096, 4096, 16_384, 4097)
+WIDE = Areas(2 ** 30 + 2, 2, 2, 1, 2 ** 30 + 2, 2 ** 30 + 2, 2 ** 30 + 2, 1, 2 ** 30 + 3)
 LENGTHS = {
-    "bounds": [(1, 0, 0, 32, 32, 1, 0, 0, 1, 1, 1, 0, 2), (4096, 16_384, 65_536, 213_020, 213_020, *MOST), (4096, 16_384, 65_536, 213_020, 213_019, *MOST),
+    "bounds": [(1, 0, 0, 32, 32, 1, 0, 0, 0, 1, 1, 1, 0, 2), (4096, 16_384, 65_536, 213_020, 213_020, *MOST), (4096, 16_384, 65_536, 213_020, 213_019, *MOST),
                (4096, 16_384, 65_536, 229_416, 229_416, *MOST), (4096, 16_384, 65_536, 229_416, 213_020, *MOST),
-               *[(4096, 16_384, pairs, 213_020, 213_020, *MOST._replace(pairs=length))
-                 for pairs, length in ((65_535, 262_140), (65_536, 262_140), (65_536, 262_148), (65_535, 262_142))]],
+               *[(4096, 16_384, pairs, 213_020, 213_020, *both(length, length, MOST))
+                 for pairs, length in ((65_535, 131_070), (65_536, 131_070), (65_536, 131_074), (65_535, 131_071))],
+               *[(4096, 16_384, 65_535, 213_020, 213_020, *both(*two, MOST)) for two in ((131_072, 131_070), (131_070, 131_072))]],
     "numbers whose products and sums would wrap": [
         (2 ** 30 + 2, 1, 1, 48, 48, *WIDE), (2, 2 ** 30 + 1, 1, 48, 48, *FITTING._replace(live=2 ** 30 + 1, leaving=2 ** 30 + 1)),
-        (2, 1, 2 ** 30 + 1, 48, 48, *FITTING), (NONE, 0, 0, 28, 28 + 4 * NONE, NONE, 0, 0, NONE, NONE, NONE, 0, 0)],
+        (2, 1, 2 ** 30 + 1, 48, 48, *FITTING), (LARGEST, 0, 0, 28, 28 + 4 * LARGEST, LARGEST, 0, 0, 0, LARGEST, LARGEST, LARGEST, 0, 0)],
     "one length that does not fit, each in turn": [
         (2, 1, 1, 48, 48, *FITTING), *[(2, 1, 1, 48, 48, *lengths) for changed in OTHER.values() for lengths in changed],
         (2, 1, 1, 48, 47, *FITTING), (2, 1, 1, 48, 49, *FITTING), (2, 1, 1, 47, 48, *FITTING), (2, 1, 1, 49, 48, *FITTING),
         (2, 1, 1, 61, 61, *FITTING), (2, 1, 1, 61, 48, *FITTING)],
     "headers out of range, with the lengths that they call for": [
-        (4097, 0, 0, 16_416, 16_416, 4097, 0, 0, 4097, 4097, 4097, 0, 4098), (1, 16_385, 0, 196_652, 196_652, 1, 0, 16_385, 1, 1, 1, 16_385, 2)],
+        (4097, 0, 0, 16_416, 16_416, 4097, 0, 0, 0, 4097, 4097, 4097, 0, 4098), (1, 16_385, 0, 196_652, 196_652, 1, 0, 0, 16_385, 1, 1, 1, 16_385, 2)],
 }
 EMPTY = Given("[]", b"")
 RANGES = {
@@ -363,7 +377,7 @@ RANGES = {
         (put((2, 0)), 2, 1), (put((2, 36)), 2, 1), (put((2, 37)), 2, 1), (put((5, 0)), 2, 1), (put((5, 41)), 2, 1), (put((8, 0), old=CLASSED), 2, 1),
         (put((8, 61), old=CLASSED), 2, 1), (put((2, 2 ** 32 - 4)), 2, 1), (put((3, 2 ** 32 - 12), (2, 24)), 2, 1)],
     "numbers of sections, and kinds": [(put((0, 0)), 2, 1), (put((0, 1)), 2, 1), (put((0, 3)), 2, 1), (put((0, 2), old=CLASSED), 2, 1),
-                                       (put((0, NONE), old=CLASSED), 2, 1), (put((1, 9), (4, 7)), 2, 1), (cut(27, SMALL), 2, 1), (cut(39, CLASSED), 2, 1)],
+                                       (put((0, LARGEST), old=CLASSED), 2, 1), (put((1, 9), (4, 7)), 2, 1), (cut(27, SMALL), 2, 1), (cut(39, CLASSED), 2, 1)],
 }
 
 
@@ -450,8 +464,8 @@ def section(name, types, theorem, tested, unfolds, groups, line, due, counts):
     return f"\nabbrev {name} : List (Case {types})\n{name} =\n{table}\n\n{theorem} : Agree {tested} {name}\n{opened}{theorem} = refl\n"
 
 
-CARDS_NOTATION = """Agree Calling Case Preparing Writing _–_–_ _⇒_ answers blank bytes card cardWith headerOf lent prepares put refused same
-    unprepared unwritten writes written ∞"""
+CARDS_NOTATION = """Agree Calling Case Preparing Writing _–_–_ _⇒_ answers blank bytes card cardWith headerOf largest lent prepares put refused same
+    unprepared unwritten writes written"""
 CARDS = f"""-- Cards, writings, preparings and lengths, with what the reference model answers and leaves. Made by tools/cases.py.
 use mathlib.Core.Path.{{_≡_, refl}}
 use mathlib.Core.Bool.{{Bool, false, true}}
@@ -474,7 +488,7 @@ numbers :
 numbers = refl
 
 -- the lowest byte first
-bytes-of : bytes (1000000 ∷ []) ≡ 64 ∷ 66 ∷ 15 ∷ 0 ∷ []
+bytes-of : bytes (10000000 ∷ []) ≡ 128 ∷ 150 ∷ 152 ∷ 0 ∷ []
 bytes-of = refl
 
 -- 48 bytes: one road, two junctions

@@ -36,7 +36,8 @@ def named(text, found):
     # the definition in which the chain stands
     begin = max(text.rfind('\n\n', 0, found.start()) + 2, 0)
     before, after = text[begin:found.start()], text[found.end():]
-    own_line = before.split('\n')[-1]
+    # a definition may be broken behind its `=`
+    own_line = re.sub(r'=\n\s+', '= ', before).split('\n')[-1]
     if LET.search(before):
         return re.match(r'in\b', after) is not None
     if ACCESSOR.match(own_line):

@@ -1,8 +1,8 @@
-"""Document 01, with A1 to A3, A5 and A6 of document 02, as a plain model: the card, preparing, the six calls and the machine to compare with.
+"""Document 01, with A1 to A3 and A5 to A7 of document 02, as a plain model: the card, preparing, the six calls and the machine to compare with.
 
 It is written from the paper alone and shares nothing with the definitions of crates/model. Each least total comes from
 one function, which relaxes arcs until nothing changes; candidates, fillings and routes are read off the paper's sentences.
-A refusal is a tuple: the question's number and, after 5, 6, 15 and 17, the place, count or leg. A call is ("set", road, time),
+Times are tenths of a second, and numbers without a width but for the marks (A7). A refusal is a tuple: the question's number and, after 5, 6, 15 and 17, the place, count or leg. A call is ("set", road, time),
 ("aim", junction), ("est", junction), ("go", class, start, route area, log area), ("preview", class, road, time, start, words of its
 work area) or ("stops", class, junctions, route area, log area). A preview's totals and change are numbers, or None; a leg of a list of
 stops is its total and its number of roads.
@@ -10,14 +10,14 @@ stops is its total and its number of roads.
 import math
 from collections import namedtuple
 
-NONE = CLOSED = 4_294_967_295
-UNASKED = 4_294_967_294
-SLOWEST = 1_000_000
+NONE = CLOSED = 18_446_744_073_709_551_615
+UNASKED = NONE - 1
+SLOWEST = 10_000_000
 FEWEST_STOPS, MOST_STOPS = 2, 32
 CLASSES, EVERY_CLASS = 8, 255
 
 Header = namedtuple("Header", "n m pairs card target")
-Areas = namedtuple("Areas", "ranks pairs live down estimates elapsed leaving groups")
+Areas = namedtuple("Areas", "ranks pairs times live down estimates elapsed leaving groups")
 NO_HEADER = Header(0, 0, 0, 0, None)
 
 
@@ -140,7 +140,7 @@ def pair_time(chart, a, b):
 
 
 def kept_pairs(chart):
-    """The records: rank of low, rank of high, up, down."""
+    """The records: rank of low, rank of high, up, down; the first two stand in one area, the others in another."""
     records = []
     for low, a in enumerate(chart.order):
         for high, b in list(enumerate(chart.order))[low + 1:]:
@@ -331,9 +331,10 @@ class Machine:
 # ---- the unit
 
 def lengths_right(lengths, n, m, pairs):
-    """The eight areas, in the order of Areas, for questions 7 and 9."""
-    ranks, records, *others = lengths
-    return [ranks, *others] == [n, m, n, n, n, m, n + 1] and records % 4 == 0 and 4 * pairs <= records <= 262_144
+    """The nine areas, in the order of Areas, for questions 7 and 9: room for the same whole number of pairs in two of them."""
+    ranks, records, times, *others = lengths
+    return ([ranks, *others] == [n, m, n, n, n, m, n + 1] and records == times and records % 2 == 0
+            and 2 * pairs <= records <= 2 * 65_536)
 
 
 def all_lengths_right(lengths, bytes_, n, m, pairs, card):
@@ -364,18 +365,22 @@ def prepare(card, areas):
     n, m, records = len(chart.order), len(chart.roads), kept_pairs(chart)
     if not lengths_right([*map(len, areas)], n, m, 0):
         return ("no", 7), NO_HEADER, areas
-    if 4 * len(records) > len(areas.pairs):
+    if 2 * len(records) > len(areas.pairs):
         return ("no", 8), NO_HEADER, Areas(*[[0] * len(area) for area in areas])
-    pairs = [word for record in records for word in record]
-    pairs += [0] * (len(areas.pairs) - len(pairs))
-    areas = Areas(chart.rank, pairs, chart.base, [NONE] * n, [UNASKED] * n, [NONE] * n, roads_by_tail(chart), group_starts(chart))
+    unused = [0] * (len(areas.pairs) - 2 * len(records))
+    pairs, times = [[word for record in records for word in record[i:i + 2]] + unused for i in (0, 2)]
+    areas = Areas(chart.rank, pairs, times, chart.base, [NONE] * n, [UNASKED] * n, [NONE] * n, roads_by_tail(chart), group_starts(chart))
     return ("ok",), Header(n, m, len(records), len(card), None), areas
+
+
+def records_in(header, areas):
+    """The records as they stand in their two areas."""
+    return [(*areas.pairs[2 * i:2 * i + 2], *areas.times[2 * i:2 * i + 2]) for i in range(header.pairs)]
 
 
 def stored_pairs(chart, header, areas):
     """(low, high, up, down), with the junctions themselves."""
-    records = [areas.pairs[4 * i:4 * i + 4] for i in range(header.pairs)]
-    return [(chart.order[low], chart.order[high], up, down) for low, high, up, down in records]
+    return [(chart.order[low], chart.order[high], up, down) for low, high, up, down in records_in(header, areas)]
 
 
 def down_totals(chart, header, areas, target):

@@ -16,7 +16,7 @@ from collections import Counter, namedtuple
 sys.dont_write_bytecode = True
 import reference as model
 from reference import CLOSED, NONE, SLOWEST, UNASKED
-from scripts import Dice, shuffled
+from scripts import NARROW, Dice, shuffled
 
 CRATES = pathlib.Path(__file__).resolve().parent.parent / "crates"
 MOST_BYTES, MOST_JUNCTIONS, MOST_ROADS, MOST_PAIRS = 32_768, 200, 800, 4_000
@@ -183,7 +183,8 @@ CARDS = {
     "head_is_n": card_of([(0, 1, 1), (1, 0, 1), (0, 2, 1)], [0, 1]),
     "road_to_itself": card_of([(1, 1, 1)], [0, 1]),
     "base_0": card_of([(0, 1, 1), (0, 1, 0)], [0, 1]),
-    "base_1000001": card_of([(0, 1, 1), (1, 0, SLOWEST), (0, 1, SLOWEST + 1)], [0, 1]),
+    "base_10000001": card_of([(0, 1, 1), (1, 0, SLOWEST), (0, 1, SLOWEST + 1)], [0, 1]),
+    "base_of_32_bits": card_of([(0, 1, 1), (0, 1, NARROW - 1)], [0, 1]),
     "bad_road_of_4096": card_of(ring(4_096, 1_300) + [(7, 7, 7)], range(4_096)),
     "order_has_n": card_of([(0, 1, 1)], [0, 2]),
     "order_repeats": card_of([(0, 1, 1)], [2, 0, 1, 2]),
@@ -208,6 +209,7 @@ MAPS = {
     "P": MAP_P,
     "one_junction": card_of([], [0]),
     "two_junctions": card_of([(0, 1, 1), (0, 1, SLOWEST), (0, 1, 1)], [1, 0]),
+    "longest_before": card_of([(0, 1, 1_000_000), (1, 0, 1_000_001), (1, 2, SLOWEST - 1), (2, 0, SLOWEST)], [1, 0, 2]),
     "junctions_200": card_of(ring(200, 200), [*range(0, 200, 2), *range(1, 200, 2)]),
     "roads_800": card_of(ring(100, 800), range(100)),
     "both_limits": card_of(ring(200, 800), range(200)),
@@ -228,21 +230,29 @@ def joined(*lines):
     return b"".join(line.encode() + b"\n" for line in lines)
 
 
-EXAMPLE = ["aim 3", "est 0", "go 0", "set 1 4294967295", "go 0", "set 1 9"]
+EXAMPLE = ["aim 3", "est 0", "go 0", f"set 1 {CLOSED}", "go 0", "set 1 9"]
 ASK = joined("aim 0", "est 0", "go 0")
 
 NUMBERS = ["0", "3", "03", "4", "00000000000000000003", "000000000000000000003", "99999999999999999999", "100000000000000000000",
-           "4294967294", "4294967295", "4294967296", "4294967299", "04294967295", "00000000004294967295", "00000000004294967296",
-           "18446744073709551615", "18446744073709551616", "18446744073709551619", "12345678901234567890", "", "-1", "+1", "1.0", "0x1", "1e0", "3a", "a"]
+           *[str(NARROW + by) for by in (-2, -1, 0, 3)], f"0{NARROW - 1}", f"{NARROW - 1:020}", f"{NARROW + 3:020}",
+           "18446744073709551613", "18446744073709551614", "18446744073709551615", "018446744073709551615", "18446744073709551616", "18446744073709551619",
+           "12345678901234567890", "28446744073709551615", "", "-1", "+1", "1.0", "0x1", "1e0", "3a", "a"]
 UNREADABLE = [
     "", " ", "  ", "\t", "\r", "\0", "0", "3", "aim", "est", "go", "set", "aim ", "est ", "go ", "set ", "set 1", "set 1 ", "set  1", "set 1  20", "set 1 20 ", "set 1 20 3",
     " aim 3", "aim  3", "aim 3 ", "aim 3 3", "aim3", "aim\t3", "aim 3\r", "aim 3\t", "aim 3\0", "\0aim 3", "aim\x003", "aim 3;", "aim 3,", "aim,3", "aim_3", "aim 3.", "#aim 3",
     "Aim 3", "AIM 3", "aIm 3", "Est 0", "Go 0", "Set 1 20", "estimate 0", "ai 3", "aimm 3", "im 3", "a 3", "gone 0", "g 0", "goo 0", "sets 1 20", "se 1 20", "est0", "go0", "set1 20", "set 1,20",
     "aim /", "aim :", "aim 3/", "aim 3:", "aim 0/3", "ok", "no", "no 0", "none", "est none", "quit", "help", "exit", "aim three", "go 0 1", "est 0 0", "set 1 closed", "set closed",
     "\u00e9", "aim \u0663", "aim \uff13", "\u00a0aim 3", "aim\u00a03", "\x7f", "\x1b[A", "\ufeffaim 3", "-", "aim -1", "go -0", "set -1 20", "set 1 -20", "set 1 +20",
-    "set 1 4294967296", "set 99 4294967296", "set 4294967296 20", "set 000000000000000000001 20", "set 1 000000000000000000020", "preview 1 15 0", "preview 0",
+    f"set 1 {NONE + 1}", f"set 99 {NONE + 1}", f"set {NONE + 1} 20", f"set {NONE + 1} {NONE + 1}", f"aim {NONE + 4}", "set 000000000000000000001 20", "set 1 000000000000000000020", "preview 1 15 0", "preview 0",
 ]
 LONGEST = "set 00000000000000000001 00000000000000000020"  # 45 bytes, readable
+# of more than 32 bits, with what is printed: a junction or road is out of range, whatever its lowest 32 bits are
+WIDE = [("aim 3", "ok"), (f"aim {NARROW}", "no 12"), (f"aim {NARROW + 1}", "no 12"), ("est 0", "est 20"), (f"est {NARROW}", "no 12"),
+        (f"go {NARROW}", "no 12"), (f"go {NARROW + 3}", "no 12"), (f"set {NARROW} 10", "no 10"), (f"set {NARROW + 1} 15", "no 10"),
+        (f"set 0 {NARROW - 1}", "no 11"), (f"set 0 {NARROW - 2}", "no 11"), (f"set 0 {NARROW + 10}", "no 11"), (f"set 1 {CLOSED - NARROW}", "no 11"),
+        (f"set 1 {UNASKED}", "no 11"), ("go 0", "go 20 3 0 1"), (f"set 0 {NONE + 1}", "no 0"), (f"aim {NONE + 1}", "no 0"), (f"aim {NONE}", "no 12"),
+        (f"set {NONE} {NONE}", "no 10"), (f"set 1 {CLOSED}", "ok"), ("go 0", "go 25 4 2 3"), ("set 4 10000001", "no 11"), ("set 4 10000000", "ok"),
+        ("set 4 1000001", "ok"), ("aim 0", "ok"), ("go 3", "go 1000001 2 4")]
 
 
 def readable_numbers():
@@ -258,7 +268,7 @@ def unreadable_lines():
 
 
 def long_lines():
-    lines = [LONGEST, LONGEST + " ", LONGEST + "0", "0" + LONGEST, " " * 46]
+    lines = [LONGEST, f"set {NONE} {NONE}", f"set {NONE} {NONE} ", f"set {NONE} {NONE}0", LONGEST + " ", LONGEST + "0", "0" + LONGEST, " " * 46]
     for length in (45, 46, 47, 48, 63, 64, 65, 255, 256, 257):
         lines += ["aim 3".ljust(length), "go 0", "aim " + "3".rjust(length - 4, "0"), "a" * length, "go 0", "\0" * length, ("go 0\r" * length)[:length]]
     for length in (4_095, 4_096, 4_097, 10_000):
@@ -293,22 +303,29 @@ def endings():
 
 
 def limits():
-    """Times at both ends and one beyond, on a map whose base times are 1 and 1,000,000."""
-    times = [0, 1, 2, 999_999, SLOWEST, SLOWEST + 1, UNASKED, CLOSED]
+    """Times at both ends and one beyond, in 64 bits and in 32, on a map whose base times are 1 and 10,000,000."""
+    times = [0, 1, 2, 999_999, 1_000_000, 1_000_001, SLOWEST - 1, SLOWEST, SLOWEST + 1, NARROW - 2, NARROW - 1, NARROW, NARROW + 1,
+             NARROW + SLOWEST, UNASKED - NARROW, UNASKED, CLOSED]
     calls = [text for road in (0, 1, 2, 3) for time in times for text in (f"set {road} {time}", "go 0")]
     return joined("set 0 1", "go 0", "est 1", "aim 2", "aim 1", "go 0", *calls, "est 0", "set 0 1", "go 0", "go 1", "est 1", "aim 0", "est 1", "go 1", "go 0")
 
 
 def refusals():
     """Each question that a line can meet, in its order: 12 before 13, 10 before 11."""
-    return joined("est 0", "go 0", "est 4", "go 4", "aim 4", "est 3", "set 5 9", "set 5 4294967294", "set 1 9", "set 1 4294967294", "set 1 1000001", "set 1 1000000", "aim 3", "aim 4", "go 4", "est 4",
-                  "go 0", "set 1 4294967295", "set 2 4294967295", "go 0", "go 1", "go 2", "est 0", "est 1", "go 3", "set 4 4294967295", "aim 0", "go 3", "go 0", "est 3", "set 4 20", "go 3", "aim 1", "est 3", "go 3")
+    return joined("est 0", "go 0", "est 4", "go 4", "aim 4", "est 3", "set 5 9", f"set 5 {UNASKED}", "set 1 9", f"set 1 {UNASKED}", f"set 1 {SLOWEST + 1}", f"set 1 {SLOWEST}", "aim 3", "aim 4", "go 4", "est 4",
+                  "go 0", f"set 1 {CLOSED}", f"set 2 {CLOSED}", "go 0", "go 1", "go 2", "est 0", "est 1", "go 3", f"set 4 {CLOSED}", "aim 0", "go 3", "go 0", "est 3", "set 4 20", "go 3", "aim 1", "est 3", "go 3")
 
 
 def cases_of_p():
     """P3 to P10, one after the other: each is undone before the next."""
-    return joined("aim 3", "est 0", "est 1", "est 2", "est 3", "aim 1", "est 3", "aim 3", "go 0", "set 1 4294967295", "go 0", "set 1 15", "go 0", "set 1 10", "go 3",
-                  "set 0 9", "set 0 10", "set 0 1000001", "set 1 4294967295", "set 2 4294967295", "go 0")
+    return joined("aim 3", "est 0", "est 1", "est 2", "est 3", "aim 1", "est 3", "aim 3", "go 0", f"set 1 {CLOSED}", "go 0", "set 1 15", "go 0", "set 1 10", "go 3",
+                  "set 0 9", "set 0 10", f"set 0 {SLOWEST + 1}", f"set 1 {CLOSED}", f"set 2 {CLOSED}", "go 0")
+
+
+def old_card():
+    """Base times at the end of the range that document 01 had and past it, read as they stand."""
+    return joined("aim 0", "est 1", "est 2", "go 1", "set 1 999999", "set 1 1000000", "set 1 1000001", f"set 3 {SLOWEST - 1}", f"set 3 {SLOWEST}", f"set 0 {SLOWEST}",
+                  f"set 1 {SLOWEST}", "go 1", "go 2", "aim 2", "go 0", f"set 2 {SLOWEST + 1}", f"set 2 {CLOSED}", "go 0", "est 0")
 
 
 def around(n):
@@ -423,9 +440,12 @@ def made():
     for name, data in endings().items():
         run("P", name, data)
     for name, data in (("cases_of_p", cases_of_p()), ("refusals", refusals()), ("numbers", readable_numbers()), ("unreadable", unreadable_lines()),
-                       ("long_lines", long_lines()), ("chunks", at_chunks())):
+                       ("long_lines", long_lines()), ("chunks", at_chunks()), ("wide_numbers", joined(*[line for line, _ in WIDE]))):
         run("P", name, data)
+    assert printed(MAP_P, lines["wide_numbers"]) == [answer for _, answer in WIDE]
+    assert printed(MAP_P, joined(*EXAMPLE)) == ["ok", "est 20", "go 20 3 0 1", "ok", "go 25 4 2 3", "no 11"]
     run("two_junctions", "limits", limits())
+    run("longest_before", "old_card", old_card())
     run("one_junction", "around_1", around(1))
     run("one_junction_classed", "around_1", around(1))
     for name in ("junctions_200", "both_limits", "slow_ring", "largest_classed"):

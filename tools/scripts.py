@@ -4,6 +4,8 @@ from collections import Counter, namedtuple
 import reference as model
 from reference import CLASSES, CLOSED, EVERY_CLASS, NONE, SLOWEST, UNASKED, Areas
 
+FAR = 2 ** 31  # no road, junction or class
+NARROW = 2 ** 32  # times of 64 bits that end as others of 32 bits: an allowed one, and closed as it was before A7
 POOL, STREETS, TURNS = 800, 200, 40  # random scripts to choose from, of both kinds, and how many turns each has at first
 
 
@@ -38,7 +40,7 @@ class Script:
         self.chart = model.Map(self.card)
         self.records = model.kept_pairs(self.chart)
         n, m, self.room = len(order), len(roads), len(self.records) + spare
-        self.prepared = model.prepare(self.card, Areas(*[[7] * k for k in (n, 4 * self.room, m, n, n, n, m, n + 1)]))
+        self.prepared = model.prepare(self.card, Areas(*[[7] * k for k in (n, 2 * self.room, 2 * self.room, m, n, n, n, m, n + 1)]))
         _, self.header, self.areas = self.prepared
         self.machine, self.ended, self.kinds = model.Machine(self.chart), set(), Counter()
         self.count(map_kinds(self.chart, self.records, spare))
@@ -121,12 +123,13 @@ def random_turns(dice, script):
 def random_call(dice, script):
     n, m, live, base = script.header.n, script.header.m, script.areas.live, script.chart.base
     kind = dice.pick("set", "set", "set", "aim", "est", "go", "go", "go", "go", "preview", "preview", "preview", "stops", "stops")
-    junction = dice.below(n) if dice.below(20) else dice.pick(n, UNASKED)
-    vehicle = dice.pick(0, 0, 1, 1, 2, 7) if dice.below(16) else dice.pick(CLASSES, CLASSES + 1, 255, NONE)
+    junction = dice.below(n) if dice.below(20) else dice.pick(n, FAR)
+    vehicle = dice.pick(0, 0, 1, 1, 2, 7) if dice.below(16) else dice.pick(CLASSES, CLASSES + 1, 255, FAR)
     if kind in ("set", "preview"):
-        road = dice.pick(*[road for road in range(m) if live[road] != base[road]] or range(m), *range(m), m, NONE)
+        road = dice.pick(*[road for road in range(m) if live[road] != base[road]] or range(m), *range(m), m, FAR)
         slow = base[road] if road < m else SLOWEST
-        time = dice.pick(slow, slow, slow, slow + 1, slow + 1, slow + 2, CLOSED, CLOSED, SLOWEST, slow - 1, SLOWEST + 1, UNASKED)
+        time = dice.pick(slow, slow, slow, slow + 1, slow + 1, slow + 2, CLOSED, CLOSED, SLOWEST, slow - 1, SLOWEST + 1, UNASKED,
+                         dice.pick(NARROW - 1, NARROW + slow, CLOSED - NARROW))
         if kind == "set":
             return kind, road, time
         return kind, vehicle, road, time, junction, 2 * n if dice.below(12) else dice.pick(0, n, 2 * n - 1, 2 * n + 1)
@@ -154,7 +157,7 @@ def chosen_scripts():
         Script("one junction", [], [0], 0,
                ("go", 0, 0, 1, 1), ("aim", 1), ("aim", 0), ("est", 0), ("go", 0, 0, 1, 1), ("set", 0, 1), ("go", 0, 0, 0, 1)),
         Script("no roads, and calls before the first aim", [], [1, 0], 1,
-               ("est", 0), ("est", 2), ("est", NONE), ("go", 0, 2, 2, 2), ("go", 0, UNASKED, 1, 1), ("go", 0, 1, 2, 1), ("go", 0, 1, 1, 3), ("aim", 2),
+               ("est", 0), ("est", 2), ("est", FAR), ("go", 0, 2, 2, 2), ("go", 0, FAR, 1, 1), ("go", 0, 1, 2, 1), ("go", 0, 1, 1, 3), ("aim", 2),
                ("set", 0, UNASKED), ("aim", 1), ("est", 0), ("est", 1), ("go", 0, 0, 2, 3), ("aim", 0), ("go", 0, 0, 2, 2)),
         Script("road 0, from 2 to 1, gives the time of 1, and 2 is logged before 1", [(2, 1, 1), (0, 1, 2), (0, 2, 1), (1, 3, 1)], [3, 1, 0, 2], 0,
                ("est", 0), ("go", 0, 4, 4, 4), ("go", 0, 0, 0, 0), ("est", 4), ("aim", 3), ("go", 0, 0, 4, 5), ("set", 0, 2), ("go", 0, 0, 5, 4),
@@ -241,7 +244,7 @@ def map_kinds(chart, records, spare):
         "map of one junction": len(chart.order) == 1,
         "map without roads": not chart.roads,
         "map with parallel roads": len(set(ends)) < len(ends),
-        "map with base times 1 and 1,000,000": {1, SLOWEST} <= set(chart.base),
+        "map with base times 1 and 10,000,000": {1, SLOWEST} <= set(chart.base),
         "map with roads that bar a class": set(chart.access) - {EVERY_CLASS},
         "map with a road that bars every class": 0 in chart.access,
         **listing_kinds(chart),
@@ -275,10 +278,13 @@ def set_kinds(script, turn, no):
         "set: 10": no == 10,
         "set: 10 where the time is not allowed either": no == 10 and (time == 0 or SLOWEST < time < CLOSED),
         "set: 11 below the base time": no == 11 and time < base,
-        "set: 11 above 1,000,000": no == 11 and SLOWEST < time < UNASKED,
-        "set: 11 at 4,294,967,294": no == 11 and time == UNASKED,
+        "set: 11 above 10,000,000": no == 11 and SLOWEST < time < NARROW - 1,
+        "set: 11 at the mark unasked": no == 11 and time == UNASKED,
+        "set: 11 at what closed was in 32 bits": no == 11 and time == NARROW - 1,
+        "set: 11 at a time that ends as an allowed one": no == 11 and NARROW <= time and base <= time % NARROW <= SLOWEST,
+        "set: 11 at a time that ends as closed": no == 11 and NARROW <= time < UNASKED and time % NARROW == NARROW - 1,
         "set to the base time": not no and time == base,
-        "set to 1,000,000": not no and time == SLOWEST,
+        "set to 10,000,000": not no and time == SLOWEST,
         "set to closed": not no and time == CLOSED,
         "set to the present time": not no and time == live,
         "set that ends a delay": not no and base == time < live < CLOSED,
@@ -293,7 +299,7 @@ def aim_kinds(script, turn, no):
         "aim, the first": not no and target is None,
         "aim elsewhere, estimates filled": not no and target != turn.call[1] and filled,
         "aim at the present target, estimates filled": not no and target == turn.call[1] and filled,
-        "aim with a down total of two pairs": not no and set(turn.areas.down) - {0, *turn.areas.pairs[3::4]},
+        "aim with a down total of two pairs": not no and set(turn.areas.down) - {0, *turn.areas.times[1::2]},
     }
 
 
@@ -307,7 +313,7 @@ def est_kinds(script, turn, no):
         "est none": first and after[junction] == NONE,
         "est of the target": first and after[junction] == 0,
         "est of a number": first and 0 < after[junction] < NONE,
-        "est of 1,000,000 and more": first and SLOWEST <= after[junction] < NONE,
+        "est of 10,000,000 and more": first and SLOWEST <= after[junction] < NONE,
         "est that is filled already": not no and not first,
         "est that fills others too": first and sum(map(int.__ne__, before, after)) > 1,
         "est that leaves others unasked": first and UNASKED in after,
@@ -376,7 +382,7 @@ def log_kinds(script, turn, arcs, times, choices, found):
         "go: 15 with a log": not found and log,
         "go from the target": start == target,
         "go that finds a route": found and start != target,
-        "go of 1,000,000 and more": found and times[target] >= SLOWEST,
+        "go of 10,000,000 and more": found and times[target] >= SLOWEST,
         "go that meets a closed road": closed,
         "go that leaves the head of a closed road unasked": any(after.estimates[head] == UNASKED for head in closed),
         "go that leaves a head behind the target unasked": any(after.estimates[head] == UNASKED for head in beyond),
@@ -478,7 +484,7 @@ def outlook_kinds(script, turn, base, live):
         "preview of more": change and change > 0,
         "preview of less": change and change < 0,
         "preview of as much": change == 0 and time != live,
-        "preview of about 1,000,000 more or less": change and abs(change) >= SLOWEST - 5,
+        "preview of about 10,000,000 more or less": change and abs(change) >= SLOWEST - 5,
         "preview at the present time": time == live and present is not None,
         "preview with a chain now alone": present is not None and new is None,
         "preview with a chain then alone": present is None and new is not None,

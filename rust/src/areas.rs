@@ -1,14 +1,14 @@
-//! Aim, estimate, set, preview and stops in plain Rust over the unit's areas, and nothing else: records of four
-//! words in one slice, with no place for where each rank's begin. Each is a function with the arguments, the
-//! answer and the questions of its export: a header by value that is handed back, and nine slices, of a preview
-//! its work area too, of a list of stops route, log and stops. Each finds the card's bodies by its table.
+//! Aim, estimate, set, preview and stops in plain Rust over the unit's areas, and nothing else: records of two
+//! ranks in one slice and two times in another, with no place for where each rank's begin. Each is a function with
+//! the arguments, the answer and the questions of its export: a header by value that is handed back, and ten slices,
+//! of a preview its work area too, of a list of stops route, log and stops. Each finds the card's bodies by its table.
 #![allow(improper_ctypes_definitions, clippy::too_many_arguments)]
 
 use crate::calls::{Previewed, Refusal, Stopped, CLASSES, FEWEST_STOPS, MOST_STOPS};
 use crate::card::{table_len, LONGEST, MOST_JUNCTIONS, MOST_ROADS};
 use crate::order::MOST_PAIRS;
 use crate::time::{add, Time, CLOSED, NONE, UNASKED};
-use crate::unit::{Header, Returned, ReturnedStops, Unit};
+use crate::unit::{Header, Returned, ReturnedStops, Unit, RECORD};
 use std::cmp::{Ordering, Reverse};
 use std::collections::BinaryHeap;
 
@@ -16,7 +16,7 @@ use std::collections::BinaryHeap;
 macro_rules! lend {
     ($function:ident($unit:ident, $live:expr, $down:expr, $estimates:expr, $($last:ident),+)) => {{
         let returned = $function(
-            $unit.header, &$unit.card, &$unit.ranks, &$unit.pairs, $live, $down, $estimates,
+            $unit.header, &$unit.card, &$unit.ranks, &$unit.pairs, &$unit.times, $live, $down, $estimates,
             &$unit.elapsed, &$unit.leaving, &$unit.groups, $($last),+
         );
         $unit.hand_back(returned)
@@ -60,6 +60,7 @@ pub fn stops(
         &unit.card,
         &unit.ranks,
         &unit.pairs,
+        &unit.times,
         &unit.live,
         &mut unit.down,
         &mut unit.estimates,
@@ -103,7 +104,8 @@ impl Bodies<'_> {
         let sections = words.first().map_or(0, |&word| u32::from_le_bytes(word)) as usize;
         // Nothing where there is no such entry; none where what it names lies past the card's end.
         let body = |i: usize| {
-            let Some(entry) = card.get(table_len(i)..table_len(i + 1)).filter(|_| i < sections) else {
+            let Some(entry) = card.get(table_len(i)..table_len(i + 1)).filter(|_| i < sections)
+            else {
                 return Some(&card[..0]);
             };
             let words: &[[u8; 4]] = entry.as_chunks().0;
@@ -118,38 +120,51 @@ impl Bodies<'_> {
     }
 }
 
-/// Question 9, and the bodies: `of_n` and `of_m` are the areas with a word for each junction and for each road.
-fn fits<'a>(
+/// Question 9, and the bodies: the lengths of the pairs' two areas, of those with a word for each junction and for each
+/// road, and of the groups.
+fn fits(
     header: Header,
-    card: &'a [u8],
-    pairs: &[u32],
-    of_n: [&[u32]; 4],
-    of_m: [&[u32]; 2],
-    groups: &[u32],
-) -> Option<Bodies<'a>> {
+    card: &[u8],
+    pairs: [usize; 2],
+    of_n: [usize; 4],
+    of_m: [usize; 2],
+    groups: usize,
+) -> Option<Bodies<'_>> {
     let (n, m) = (header.n as usize, header.m as usize);
     let fits = n <= MOST_JUNCTIONS
         && m <= MOST_ROADS
         && card.len() == header.card as usize
-        && of_n.iter().all(|area| area.len() == n)
-        && of_m.iter().all(|area| area.len() == m)
-        && groups.len() == n + 1
-        && pairs.len().is_multiple_of(4)
-        && (4 * header.pairs as usize..=4 * MOST_PAIRS).contains(&pairs.len());
+        && of_n == [n; 4]
+        && of_m == [m; 2]
+        && groups == n + 1
+        && pairs[0] == pairs[1]
+        && pairs[0].is_multiple_of(RECORD)
+        && (RECORD * header.pairs as usize..=RECORD * MOST_PAIRS).contains(&pairs[0]);
     fits.then(|| Bodies::of(card, n, m)).flatten()
 }
 
-fn records(pairs: &[u32], header: Header) -> &[[u32; 4]] {
-    &pairs.as_chunks().0[..header.pairs as usize]
+/// The kept pairs: low and high rank of each, and its up and down time.
+#[derive(Clone, Copy)]
+struct Records<'a> {
+    ranks: &'a [[u32; RECORD]],
+    times: &'a [[Time; RECORD]],
+}
+
+impl<'a> Records<'a> {
+    fn of(pairs: &'a [u32], times: &'a [Time], header: Header) -> Records<'a> {
+        let count = header.pairs as usize;
+        Records { ranks: &pairs.as_chunks().0[..count], times: &times.as_chunks().0[..count] }
+    }
+
+    /// Those of a rank with higher ones, and all after them.
+    fn from(self, rank: u32) -> impl Iterator<Item = (&'a [u32; RECORD], &'a [Time; RECORD])> {
+        let first = self.ranks.partition_point(|ranks| ranks[0] < rank);
+        self.ranks[first..].iter().zip(&self.times[first..])
+    }
 }
 
 fn junction_at(order: &[[u8; 4]], rank: u32) -> usize {
     u32::from_le_bytes(order[rank as usize]) as usize
-}
-
-/// The records of a rank's pairs with higher ones, and all after them.
-fn from(records: &[[u32; 4]], rank: u32) -> &[[u32; 4]] {
-    &records[records.partition_point(|record| record[0] < rank)..]
 }
 
 #[inline(never)]
@@ -158,6 +173,7 @@ extern "C" fn aim_on(
     card: &[u8],
     ranks: &[u32],
     pairs: &[u32],
+    times: &[Time],
     live: &[Time],
     down: &mut [Time],
     estimates: &mut [Time],
@@ -166,23 +182,25 @@ extern "C" fn aim_on(
     groups: &[u32],
     target: u32,
 ) -> Returned {
-    let (of_n, of_m) = ([ranks, down, estimates, elapsed], [live, leaving]);
-    let Some(bodies) = fits(header, card, pairs, of_n, of_m, groups) else {
+    let of_n = [ranks.len(), down.len(), estimates.len(), elapsed.len()];
+    let of_m = [live.len(), leaving.len()];
+    let Some(bodies) = fits(header, card, [pairs.len(), times.len()], of_n, of_m, groups.len())
+    else {
         return answer(header, 9);
     };
     if target >= header.n {
         return answer(header, 12);
     }
-    descend(bodies.order, ranks, records(pairs, header), down, target);
+    descend(bodies.order, ranks, Records::of(pairs, times, header), down, target);
     estimates.fill(UNASKED);
     answer(Header { aimed: 1, target, ..header }, 0)
 }
 
 /// The down totals of a target.
-fn descend(order: &[[u8; 4]], ranks: &[u32], records: &[[u32; 4]], down: &mut [Time], target: u32) {
+fn descend(order: &[[u8; 4]], ranks: &[u32], records: Records, down: &mut [Time], target: u32) {
     down.fill(NONE);
     down[target as usize] = 0;
-    for &[low, high, _, time] in from(records, ranks[target as usize]) {
+    for (&[low, high], &[_, time]) in records.from(ranks[target as usize]) {
         let below = down[junction_at(order, low)];
         let total = &mut down[junction_at(order, high)];
         *total = add(time, below).min(*total);
@@ -195,6 +213,7 @@ extern "C" fn estimate_on(
     card: &[u8],
     ranks: &[u32],
     pairs: &[u32],
+    times: &[Time],
     live: &[Time],
     down: &[Time],
     estimates: &mut [Time],
@@ -203,8 +222,10 @@ extern "C" fn estimate_on(
     groups: &[u32],
     junction: u32,
 ) -> Returned {
-    let (of_n, of_m) = ([ranks, down, estimates, elapsed], [live, leaving]);
-    let Some(bodies) = fits(header, card, pairs, of_n, of_m, groups) else {
+    let of_n = [ranks.len(), down.len(), estimates.len(), elapsed.len()];
+    let of_m = [live.len(), leaving.len()];
+    let Some(bodies) = fits(header, card, [pairs.len(), times.len()], of_n, of_m, groups.len())
+    else {
         return answer(header, 9);
     };
     if junction >= header.n {
@@ -213,17 +234,17 @@ extern "C" fn estimate_on(
     if header.aimed == 0 {
         return answer(header, 13);
     }
-    let (order, records) = (bodies.order, records(pairs, header));
+    let (order, records) = (bodies.order, Records::of(pairs, times, header));
     let prepared = Prepared { order, ranks, records, down };
     let total = prepared.estimate(estimates, junction as usize);
-    Returned { total: total.into(), ..answer(header, 0) }
+    Returned { total, ..answer(header, 0) }
 }
 
 /// What an estimate reads.
 struct Prepared<'a> {
     order: &'a [[u8; 4]],
     ranks: &'a [u32],
-    records: &'a [[u32; 4]],
+    records: Records<'a>,
     down: &'a [Time],
 }
 
@@ -234,7 +255,7 @@ impl Prepared<'_> {
         }
         let rank = self.ranks[at];
         let mut least = self.down[at];
-        for &[low, high, up, _] in from(self.records, rank) {
+        for (&[low, high], &[up, _]) in self.records.from(rank) {
             if low != rank {
                 break;
             }
@@ -254,6 +275,7 @@ extern "C" fn set_on(
     card: &[u8],
     ranks: &[u32],
     pairs: &[u32],
+    times: &[Time],
     live: &mut [Time],
     down: &[Time],
     estimates: &[Time],
@@ -263,8 +285,10 @@ extern "C" fn set_on(
     road: u32,
     time: Time,
 ) -> Returned {
-    let (of_n, of_m) = ([ranks, down, estimates, elapsed], [live, leaving]);
-    let Some(bodies) = fits(header, card, pairs, of_n, of_m, groups) else {
+    let of_n = [ranks.len(), down.len(), estimates.len(), elapsed.len()];
+    let of_m = [live.len(), leaving.len()];
+    let Some(bodies) = fits(header, card, [pairs.len(), times.len()], of_n, of_m, groups.len())
+    else {
         return answer(header, 9);
     };
     if let Some(question) = refused_time(bodies, road, time) {
@@ -279,7 +303,7 @@ fn refused_time(bodies: Bodies, road: u32, time: Time) -> Option<u32> {
     let Some(&[_, _, base]) = bodies.roads.get(road as usize) else {
         return Some(10);
     };
-    let base = u32::from_le_bytes(base);
+    let base = u32::from_le_bytes(base).into();
     (time != CLOSED && !(base..=LONGEST).contains(&time)).then_some(11)
 }
 
@@ -289,6 +313,7 @@ extern "C" fn preview_on(
     card: &[u8],
     ranks: &[u32],
     pairs: &[u32],
+    times: &[Time],
     live: &[Time],
     down: &[Time],
     estimates: &mut [Time],
@@ -301,8 +326,9 @@ extern "C" fn preview_on(
     time: Time,
     start: u32,
 ) -> Returned {
-    let (of_n, of_m) = ([ranks, down, estimates, elapsed], [live, leaving]);
-    let bodies = fits(header, card, pairs, of_n, of_m, groups);
+    let of_n = [ranks.len(), down.len(), estimates.len(), elapsed.len()];
+    let of_m = [live.len(), leaving.len()];
+    let bodies = fits(header, card, [pairs.len(), times.len()], of_n, of_m, groups.len());
     let Some(bodies) = bodies.filter(|_| work.len() == 2 * header.n as usize) else {
         return answer(header, 9);
     };
@@ -318,12 +344,13 @@ extern "C" fn preview_on(
     if header.aimed == 0 {
         return answer(header, 13);
     }
-    let prepared = Prepared { order: bodies.order, ranks, records: records(pairs, header), down };
+    let records = Records::of(pairs, times, header);
+    let prepared = Prepared { order: bodies.order, ranks, records, down };
     let target = header.target;
     let ways = Ways { prepared, bodies, class, live, leaving, groups, target };
-    let [total, then] = [live[road as usize], time]
-        .map(|time| u64::from(ways.total(estimates, work, start, road, time)));
-    let compared = total != NONE.into() && then != NONE.into();
+    let [total, then] =
+        [live[road as usize], time].map(|time| ways.total(estimates, work, start, road, time));
+    let compared = total != NONE && then != NONE;
     let change = if compared { then as i64 - total as i64 } else { 0 };
     Returned { total, then, compared: compared.into(), change, ..answer(header, 0) }
 }
@@ -419,7 +446,7 @@ impl Ways<'_> {
         let ahead = self.prepared.estimate(estimates, start as usize);
         if ahead != NONE {
             times[start as usize] = 0;
-            queue.push(Reverse((u64::from(ahead), 0, start)));
+            queue.push(Reverse((ahead, 0, start)));
         }
         while let Some(Reverse((_, time, junction))) = queue.pop() {
             let at = junction as usize;
@@ -445,7 +472,7 @@ impl Ways<'_> {
                 let order = sum.cmp(&times[head as usize]);
                 if order.is_lt() {
                     times[head as usize] = sum;
-                    queue.push(Reverse((u64::from(sum) + u64::from(ahead), sum, head)));
+                    queue.push(Reverse((sum + ahead, sum, head)));
                 }
                 if order.is_le() && logged[head as usize] == NONE {
                     leads(road, head, order);
@@ -461,6 +488,7 @@ extern "C" fn stops_on(
     card: &[u8],
     ranks: &[u32],
     pairs: &[u32],
+    times: &[Time],
     live: &[Time],
     down: &mut [Time],
     estimates: &mut [Time],
@@ -472,16 +500,18 @@ extern "C" fn stops_on(
     class: u32,
     stops: &[u32],
 ) -> ReturnedStops {
-    let (of_n, of_m) = ([ranks, down, estimates, elapsed], [live, leaving]);
+    let of_n = [ranks.len(), down.len(), estimates.len(), elapsed.len()];
+    let of_m = [live.len(), leaving.len()];
     let mut answer = ReturnedStops { header: handed(header), ..ReturnedStops::default() };
-    let Some(bodies) = fits(header, card, pairs, of_n, of_m, groups) else {
+    let Some(bodies) = fits(header, card, [pairs.len(), times.len()], of_n, of_m, groups.len())
+    else {
         return ReturnedStops { question: 9, ..answer };
     };
     if let Some(question) = refused_stops(header, class, stops, route.len(), log.len()) {
         return ReturnedStops { question, ..answer };
     }
-    let (order, records) = (bodies.order, records(pairs, header));
-    let (mut times, mut by) = (vec![NONE; header.n as usize], vec![0; header.n as usize]);
+    let (order, records) = (bodies.order, Records::of(pairs, times, header));
+    let (mut candidates, mut by) = (vec![NONE; header.n as usize], vec![0; header.n as usize]);
     let mut at = 0;
     for (leg, ends) in stops.windows(2).enumerate() {
         let [start, target] = [ends[0], ends[1]];
@@ -490,15 +520,16 @@ extern "C" fn stops_on(
         answer.header = Header { aimed: 1, target, ..header };
         let prepared = Prepared { order, ranks, records, down };
         let ways = Ways { prepared, bodies, class, live, leaving, groups, target };
-        let found = ways.go(estimates, elapsed, &mut times, &mut by, &mut route[at..], log, start);
+        let found =
+            ways.go(estimates, elapsed, &mut candidates, &mut by, &mut route[at..], log, start);
         let Some((total, roads)) = found else {
             let leg = leg as u32;
             let header = answer.header;
             return ReturnedStops { header, question: 17, leg, ..ReturnedStops::default() };
         };
-        answer.totals[leg] = total.into();
+        answer.totals[leg] = total;
         answer.roads[leg] = roads;
-        answer.whole += u64::from(total);
+        answer.whole += total;
         answer.legs += 1;
         at += roads as usize;
     }
@@ -533,6 +564,7 @@ mod tests {
     use crate::maps::{self, Streets};
     use crate::order;
     use crate::random::Random;
+    use crate::unit::AREAS;
 
     /// Answers and areas are the proved unit's.
     #[test]
@@ -556,7 +588,7 @@ mod tests {
                 let time = random.pick(&[1, 5, 60, LONGEST, LONGEST + 1, CLOSED]);
                 let class = random.below(9) as u32;
                 if random.chance(10) {
-                    let (which, len) = (random.below(8), random.below(60));
+                    let (which, len) = (random.below(AREAS), random.below(60));
                     unit.areas_mut()[which].resize(len);
                     plain.areas_mut()[which].resize(len);
                 }

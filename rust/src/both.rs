@@ -3,11 +3,13 @@
 
 use crate::by_tail::ByTail;
 use crate::calls::{Call, Calls, Refusal};
+use crate::hierarchy::Record;
 use crate::machine::Reply;
 use crate::maps::Map;
 use crate::random::setting;
 use crate::router::Router;
-use crate::unit::{Area, Header, LentAreas, Unit, UNWRITTEN};
+use crate::time::Time;
+use crate::unit::{same, Header, LentAreas, Unit, RECORD, UNWRITTEN};
 use std::panic::resume_unwind;
 use std::sync::mpsc::{self, RecvTimeoutError};
 use std::thread;
@@ -18,9 +20,10 @@ pub struct Both {
     pub unit: Unit,
     pub router: Router,
     card: Vec<u8>,
-    /// What the areas of ranks, of pairs and of roads by tail are to hold throughout.
+    /// What the areas of ranks, of pairs, of their times and of roads by tail are to hold throughout.
     ranks: Vec<u32>,
     pairs: Vec<u32>,
+    times: Vec<Time>,
     by_tail: ByTail,
 }
 
@@ -41,22 +44,26 @@ impl Both {
     /// Prepares a unit's card by both, on the unit's areas, which have their lengths.
     pub fn prepare_on(mut unit: Unit) -> Result<Both, Refusal> {
         let card = unit.card.clone();
-        let router = Router::new(&card, unit.pairs.len() / 4);
+        let router = Router::new(&card, unit.pairs.len() / RECORD);
         let answer = unit.prepare();
         assert_eq!(answer.err(), router.as_ref().err().copied(), "proved (left), plain (right)");
         assert!(unit.card == card, "preparing alters no byte of the card");
         assert!(unit.guarded(), "preparing alters guard words");
         let router = router.inspect_err(|&refusal| {
             assert_eq!(unit.header, Header::default());
-            let zeros = |area: &Area| area.iter().all(|&word| word == 0);
-            let zeroed = unit.areas().iter().all(|(_, area)| zeros(area));
+            let zeroed = unit.areas().iter().all(|(_, area)| area.zero());
             assert!(refusal != Refusal::Room || zeroed, "8 fills every area with 0");
         })?;
-        let mut pairs = router.hierarchy.records().concat();
+        let records = router.hierarchy.records();
+        let ranks_of = |&(low, high, _, _): &Record| [low, high];
+        let times_of = |&(_, _, up, down): &Record| [up, down];
+        let mut pairs: Vec<u32> = records.iter().flat_map(ranks_of).collect();
+        let mut times: Vec<Time> = records.iter().flat_map(times_of).collect();
         pairs.resize(unit.pairs.len(), 0);
+        times.resize(unit.pairs.len(), 0);
         let by_tail = ByTail::new(&Map::of_card(&card)?);
         let ranks = router.hierarchy.ranks().to_vec();
-        let both = Both { unit, router, card, ranks, pairs, by_tail };
+        let both = Both { unit, router, card, ranks, pairs, times, by_tail };
         both.check();
         Ok(both)
     }
@@ -94,35 +101,21 @@ impl Both {
         assert_eq!(unit.header, header, "proved (left), plain (right)");
         assert!(unit.card == self.card, "no call alters the card");
         assert!(unit.guarded(), "no call alters guard words");
-        let want: [&[u32]; 8] = [
-            &self.ranks,
-            &self.pairs,
-            &router.live,
-            &router.down,
-            &router.estimates,
-            &router.elapsed,
-            &self.by_tail.leaving,
-            &self.by_tail.groups,
-        ];
-        for ((name, area), want) in unit.areas().into_iter().zip(want) {
-            same(name, area, want);
-        }
+        same("ranks", &unit.ranks, &self.ranks);
+        same("pairs", &unit.pairs, &self.pairs);
+        same("pair times", &unit.times, &self.times);
+        same("live times", &unit.live, &router.live);
+        same("down totals", &unit.down, &router.down);
+        same("estimates", &unit.estimates, &router.estimates);
+        same("elapsed", &unit.elapsed, &router.elapsed);
+        same("leaving", &unit.leaving, &self.by_tail.leaving);
+        same("groups", &unit.groups, &self.by_tail.groups);
     }
 }
 
 /// What was written first in an area that nothing was written to; no road or junction is [`UNWRITTEN`].
 fn written(area: &[u32]) -> Vec<u32> {
     area.iter().copied().take_while(|&word| word != UNWRITTEN).collect()
-}
-
-/// Two areas are the same, word by word.
-pub fn same(name: &str, area: &[u32], want: &[u32]) {
-    if area != want {
-        assert_eq!(area.len(), want.len(), "{name}: the lengths differ");
-        let place = area.iter().zip(want).position(|(word, want)| word != want);
-        let place = place.expect("a word that differs");
-        panic!("{name}: {} in place {place}, not {}", area[place], want[place]);
-    }
 }
 
 /// Runs a test with more stack than a test's thread has, since an estimate may ask for 4,095 others, one

@@ -19,17 +19,18 @@ pub fn least_within(
     inner: impl Fn(u32) -> bool,
 ) -> Vec<Time> {
     let open = || map.roads.iter().zip(live).filter(|(_, &live)| live != CLOSED);
-    let mut totals = vec![u64::MAX; map.n()];
+    let mut totals = vec![NONE; map.n()];
     for (road, &live) in open().filter(|(road, _)| road.tail == start) {
         let total = &mut totals[road.head as usize];
-        *total = u64::from(live).min(*total);
+        *total = live.min(*total);
     }
     for _ in 1..map.n() {
         for (road, &live) in open().filter(|(road, _)| inner(road.tail)) {
-            let longer = totals[road.tail as usize].saturating_add(live.into());
+            // From where no chain leads, none leads on.
+            let longer = totals[road.tail as usize].saturating_add(live);
             let total = &mut totals[road.head as usize];
             *total = longer.min(*total);
         }
     }
-    totals.into_iter().map(|total| Time::try_from(total).unwrap_or(NONE)).collect()
+    totals
 }

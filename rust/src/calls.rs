@@ -1,6 +1,6 @@
 //! The calls of the unit and what they answer, in the terms of documents 01 and 02.
 
-use crate::time::Time;
+use crate::time::{add, Time};
 use std::ops::Deref;
 
 /// A list of stops has so many, and a leg less.
@@ -93,7 +93,7 @@ impl Refusal {
 /// Go's answer. The roads themselves and the log stand in the lent areas.
 #[derive(Clone, Copy, Debug, PartialEq, Eq)]
 pub struct Trip {
-    pub total: u64,
+    pub total: Time,
     /// The number of logged junctions.
     pub count: u32,
     /// The number of roads.
@@ -104,20 +104,16 @@ pub struct Trip {
 /// the present one.
 #[derive(Clone, Copy, Debug, PartialEq, Eq)]
 pub struct Previewed {
-    pub present: Option<u64>,
-    pub new: Option<u64>,
+    pub present: Option<Time>,
+    pub new: Option<Time>,
     pub change: Option<i64>,
 }
 
 impl Previewed {
     /// Two totals and their change.
     pub fn of(present: Option<Time>, new: Option<Time>) -> Previewed {
-        let change = |(new, present): (Time, Time)| i64::from(new) - i64::from(present);
-        Previewed {
-            present: present.map(u64::from),
-            new: new.map(u64::from),
-            change: new.zip(present).map(change),
-        }
+        let change = |(new, present): (Time, Time)| new as i64 - present as i64;
+        Previewed { present, new, change: new.zip(present).map(change) }
     }
 }
 
@@ -127,19 +123,20 @@ impl Previewed {
 pub struct Stopped {
     /// How many legs there are.
     pub legs: u32,
-    pub whole: u64,
-    pub totals: [u64; MOST_LEGS],
+    pub whole: Time,
+    pub totals: [Time; MOST_LEGS],
     pub roads: [u32; MOST_LEGS],
 }
 
 impl Stopped {
     /// Legs, each a total and a number of roads.
-    pub fn of(legs: &[(u64, u32)]) -> Stopped {
+    pub fn of(legs: &[(Time, u32)]) -> Stopped {
         let (mut totals, mut roads) = ([0; MOST_LEGS], [0; MOST_LEGS]);
         for (i, &(total, number)) in legs.iter().enumerate() {
             (totals[i], roads[i]) = (total, number);
         }
-        Stopped { legs: legs.len() as u32, whole: totals.iter().sum(), totals, roads }
+        let whole = totals.iter().copied().fold(0, add);
+        Stopped { legs: legs.len() as u32, whole, totals, roads }
     }
 }
 
@@ -211,7 +208,7 @@ pub enum Call {
 pub struct Lent<'a> {
     pub route: &'a mut [u32],
     pub log: &'a mut [u32],
-    pub work: &'a mut [u32],
+    pub work: &'a mut [Time],
 }
 
 /// What an accepted call answers.
@@ -246,7 +243,7 @@ pub trait Calls {
         road: u32,
         time: Time,
         start: u32,
-        work: &mut [u32],
+        work: &mut [Time],
     ) -> Result<Previewed, Refusal>;
     fn stops(
         &mut self,

@@ -1,14 +1,15 @@
-//! The card: a second reader and writer, from the description of the format and nothing else (document 01, and A6 of
-//! document 02).
+//! The card: a second reader and writer, from the description of the format and nothing else (document 01, and A6 and A7
+//! of document 02).
 
 use crate::calls::Refusal;
+use crate::time::Time;
 
 /// Most junctions of a map.
 pub const MOST_JUNCTIONS: usize = 4_096;
 /// Most roads of a map.
 pub const MOST_ROADS: usize = 16_384;
-/// Longest base time, in seconds.
-pub const LONGEST: u32 = 1_000_000;
+/// Longest base time, in tenths of a second (document 02, A7).
+pub const LONGEST: Time = 10_000_000;
 /// The byte of a road that lets every class in, as all do where a card has no such bytes.
 pub const EVERY_CLASS: u8 = 255;
 
@@ -169,7 +170,7 @@ fn in_range(n: usize, m: usize) -> bool {
 /// Question 5.
 fn check_roads(mut roads: impl Iterator<Item = [u32; 3]>, n: u32) -> Result<(), Refusal> {
     let fails = |[tail, head, base]: [u32; 3]| {
-        tail >= n || head >= n || tail == head || !(1..=LONGEST).contains(&base)
+        tail >= n || head >= n || tail == head || !(1..=LONGEST).contains(&base.into())
     };
     match roads.position(fails) {
         Some(road) => Err(Refusal::Road(road as u32)),

@@ -189,7 +189,10 @@ impl MapDamage {
 fn other(random: &mut Random, old: u32, n: usize) -> u32 {
     let n = n as u32;
     let ends = [0, 1, 2, 3, 4, 27, 28, 29, 39, 40, 41, n.wrapping_sub(1), n];
-    let ends = [&ends[..], &[LONGEST, LONGEST + 1, u32::MAX]].concat();
+    // Where the range of base times ends, and where it ended before document 02's A7.
+    let longest = LONGEST as u32;
+    let times = [1_000_000, 1_000_001, longest, longest + 1, u32::MAX];
+    let ends = [&ends[..], &times].concat();
     match random.below(7) {
         0 => random.word(),
         1 => random.below(n as usize + 1) as u32,

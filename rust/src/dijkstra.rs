@@ -109,7 +109,7 @@ impl Queue<'_> {
         let arcs = self.arcs;
         for arc in arcs.of(junction) {
             let time = self.live[arc.road as usize];
-            // No sum passes 4,096,000,000: `total` is that of a chain that meets no junction twice.
+            // No sum passes 40,960,000,000: `total` is that of a chain that meets no junction twice.
             if time != CLOSED {
                 self.offer(arc.end, total + time);
             }
@@ -171,7 +171,7 @@ mod tests {
     fn the_largest_least_total() {
         let n = card::MOST_JUNCTIONS;
         let (line, ring) = (maps::line(n), maps::ring(n));
-        let largest = (4_095_000_000, n);
+        let largest = (40_950_000_000, n);
         assert_eq!(between(&Graph::new(&line), &line.base(), 0, n as u32 - 1), largest);
         assert_eq!(between(&Graph::new(&ring), &ring.base(), 1, 0), largest);
     }

@@ -5,6 +5,9 @@
 use crate::maps::{Map, Road};
 use crate::time::{add, Time, NONE, UNASKED};
 
+/// A kept pair: rank of low, rank of high, up time, down time.
+pub type Record = (u32, u32, Time, Time);
+
 /// A junction of higher rank, with the least base totals from the low one to it and back over
 /// junctions that rank below both.
 #[derive(Clone, Copy, Debug)]
@@ -46,10 +49,10 @@ impl Hierarchy {
         self.rows.pairs.len()
     }
 
-    /// The kept pairs, ascending: rank of low, rank of high, up time, down time.
-    pub fn records(&self) -> Vec<[u32; 4]> {
+    /// The kept pairs, ascending.
+    pub fn records(&self) -> Vec<Record> {
         let records = |low: usize| {
-            self.rows.of(low).iter().map(move |pair| [low as u32, pair.high, pair.up, pair.down])
+            self.rows.of(low).iter().map(move |pair| (low as u32, pair.high, pair.up, pair.down))
         };
         (0..self.order.len()).flat_map(records).collect()
     }
@@ -241,7 +244,7 @@ mod tests {
     use crate::{brute, card, dijkstra, order};
 
     /// The pairs by their definition.
-    fn pairs(map: &Map) -> Vec<[u32; 4]> {
+    fn pairs(map: &Map) -> Vec<Record> {
         let ranks = Hierarchy::new(map).ranks;
         let base = map.base();
         let mut records = Vec::new();
@@ -253,7 +256,7 @@ mod tests {
                 let up = ups[map.order[high] as usize];
                 let down = least(map.order[high])[map.order[low] as usize];
                 if up != NONE || down != NONE {
-                    records.push([low as u32, high as u32, up, down]);
+                    records.push((low as u32, high as u32, up, down));
                 }
             }
         }
@@ -338,7 +341,7 @@ mod tests {
                 reached[hierarchy.ranks[junction as usize] as usize] = true;
             }
             // Records ascend, so one pass follows each chain upwards.
-            for [low, high, up, _] in hierarchy.records() {
+            for (low, high, up, _) in hierarchy.records() {
                 reached[high as usize] |= reached[low as usize] && up != NONE;
             }
             for (&rank, (&estimate, &all)) in hierarchy.ranks.iter().zip(estimates.iter().zip(&all))
@@ -355,11 +358,11 @@ mod tests {
     fn map_p() {
         let hierarchy = Hierarchy::new(&maps::map_p());
         let records = [
-            [0, 2, NONE, 10],
-            [0, 3, 10, NONE],
-            [1, 2, NONE, 15],
-            [1, 3, 10, NONE],
-            [2, 3, 20, 20],
+            (0, 2, NONE, 10),
+            (0, 3, 10, NONE),
+            (1, 2, NONE, 15),
+            (1, 3, 10, NONE),
+            (2, 3, 20, 20),
         ];
         assert_eq!(hierarchy.records(), records);
         assert_eq!(hierarchy.estimates(&hierarchy.down_totals(3)), [20, 10, 10, 0]);

@@ -22,7 +22,7 @@ pub struct Literal {
 #[derive(Clone, Debug, PartialEq, Eq)]
 pub struct Searched {
     /// The least total, if there is a chain.
-    pub total: Option<u64>,
+    pub total: Option<Time>,
     /// The route's roads, if there is one.
     pub route: Vec<u32>,
     pub log: Vec<u32>,
@@ -74,27 +74,26 @@ impl Literal {
 
     /// Each junction's least total over chains of down times, descending in rank to the target.
     pub fn down_totals(&self, target: u32) -> Vec<Time> {
-        let mut totals: Vec<Option<u64>> = vec![None; self.map.n()];
+        let mut totals: Vec<Option<Time>> = vec![None; self.map.n()];
         totals[target as usize] = Some(0);
         // Ascending, so that each junction comes after those that it descends to.
         for &junction in &self.map.order {
             for &(low, time) in &self.down[junction as usize] {
                 let Some(below) = totals[low as usize] else { continue };
-                let total = u64::from(time) + below;
+                let total = time + below;
                 let old = &mut totals[junction as usize];
                 *old = Some(old.map_or(total, |old| old.min(total)));
             }
         }
-        let time = |total: u64| Time::try_from(total).expect("a down total of 32 bits");
-        totals.into_iter().map(|total| total.map_or(NONE, time)).collect()
+        totals.into_iter().map(|total| total.unwrap_or(NONE)).collect()
     }
 
     /// The roads, with their numbers and live times, that are open.
-    fn open<'a>(&'a self, live: &'a [Time]) -> impl Iterator<Item = (u32, &'a Road, u64)> {
+    fn open<'a>(&'a self, live: &'a [Time]) -> impl Iterator<Item = (u32, &'a Road, Time)> {
         let roads = (0..).zip(&self.map.roads).zip(live);
         roads
             .filter(|(_, &live)| live != CLOSED)
-            .map(|((number, road), &live)| (number, road, live.into()))
+            .map(|((number, road), &live)| (number, road, live))
     }
 
     /// "A road barred to it counts as closed for that call": bit c is what is left of the byte without the c lowest.
@@ -109,7 +108,7 @@ impl Literal {
         let live = &self.for_that_call(class, live)[..];
         let n = self.map.n();
         let estimates = self.estimates(target);
-        let mut times: Vec<Option<u64>> = vec![None; n];
+        let mut times: Vec<Option<Time>> = vec![None; n];
         let mut log = Vec::new();
         while times[target as usize].is_none() {
             let first = log.is_empty().then_some((start, 0));
@@ -119,9 +118,9 @@ impl Literal {
                 waits.then_some((road.head, from + live))
             });
             let candidates = first.into_iter().chain(others);
-            let has_estimate = |&(junction, _): &(u32, u64)| estimates[junction as usize] != NONE;
-            let key = |&(junction, time): &(u32, u64)| {
-                (time + u64::from(estimates[junction as usize]), time, junction)
+            let has_estimate = |&(junction, _): &(u32, Time)| estimates[junction as usize] != NONE;
+            let key = |&(junction, time): &(u32, Time)| {
+                (time + estimates[junction as usize], time, junction)
             };
             let Some((junction, time)) = candidates.filter(has_estimate).min_by_key(key) else {
                 break;
@@ -142,22 +141,21 @@ impl Literal {
             ..300 => brute::least(&self.map, live, start)[target as usize],
             _ => dijkstra::from(&self.graph, live, start)[target as usize],
         };
-        let total = (least != NONE).then_some(u64::from(least));
+        let total = (least != NONE).then_some(least);
         assert_eq!(times[target as usize], total, "the log's total (left), the least (right)");
         let route = total.map_or(Vec::new(), |_| self.route(live, &log, &times));
-        let time = |total: u64| Time::try_from(total).expect("a time of 32 bits");
-        let elapsed = times.into_iter().map(|total| total.map_or(NONE, time)).collect();
+        let elapsed = times.into_iter().map(|total| total.unwrap_or(NONE)).collect();
         Searched { total, route, log, elapsed, fills }
     }
 
     /// Back from the log's end: into each junction, the smallest-numbered open road from an earlier logged one
     /// that gives its time.
-    fn route(&self, live: &[Time], log: &[u32], times: &[Option<u64>]) -> Vec<u32> {
+    fn route(&self, live: &[Time], log: &[u32], times: &[Option<Time>]) -> Vec<u32> {
         let mut route = Vec::new();
         let mut place = log.len() - 1;
         while place > 0 {
             let (earlier, junction) = (&log[..place], log[place]);
-            let leads = |&(_, road, live): &(u32, &Road, u64)| {
+            let leads = |&(_, road, live): &(u32, &Road, Time)| {
                 road.head == junction
                     && earlier.contains(&road.tail)
                     && times[road.tail as usize].map(|time| time + live) == times[junction as usize]

@@ -1,7 +1,8 @@
 //! The plain machine that document 01 compares the unit with: a live time of its own for each road, and
 //! a target. It is fed the map, each call's arguments and the lengths of what is lent with it. Of equal keys
 //! the smaller time is logged first, then the smaller number (document 02, A5). It is fed a class, too, and
-//! takes a road barred to it as closed for that call (A6).
+//! takes a road barred to it as closed for that call (A6). Times are tenths of a second, and have no
+//! width but that of [`Time`] (A7).
 
 use crate::calls::{
     Accepted, Answer, Call, Previewed, Refusal, Stopped, Trip, CLASSES, FEWEST_STOPS, MOST_STOPS,
@@ -208,7 +209,7 @@ impl Machine<'_> {
     }
 
     /// The search log, and the time of each entry.
-    fn log(&self, live: &[Time], start: u32, target: u32) -> (Vec<u32>, Vec<u64>) {
+    fn log(&self, live: &[Time], start: u32, target: u32) -> (Vec<u32>, Vec<Time>) {
         let estimates = self.estimates(target);
         // Candidates' times, by junction; those of logged ones are taken away.
         let mut candidates = vec![None; self.map.n()];
@@ -218,9 +219,9 @@ impl Machine<'_> {
             candidates[start as usize] = Some(0);
         }
         while log.last() != Some(&target) {
-            let key = |((junction, time), &estimate): ((u32, &Option<u64>), &Time)| {
+            let key = |((junction, time), &estimate): ((u32, &Option<Time>), &Time)| {
                 let time = (*time)?;
-                Some((time + u64::from(estimate), time, junction))
+                Some((time + estimate, time, junction))
             };
             let keys = (0..).zip(&candidates).zip(&estimates).filter_map(key);
             let Some((_, time, junction)) = keys.min() else { break };
@@ -231,7 +232,7 @@ impl Machine<'_> {
             for arc in self.graph.out.of(junction) {
                 let (live, head) = (live[arc.road as usize], arc.end as usize);
                 if live != CLOSED && !logged[head] && estimates[head] != NONE {
-                    let time = time + u64::from(live);
+                    let time = time + live;
                     candidates[head] = Some(candidates[head].map_or(time, |old| time.min(old)));
                 }
             }
@@ -241,7 +242,7 @@ impl Machine<'_> {
 
     /// Back from the log's last entry: into each junction, the smallest-numbered open road from an
     /// earlier logged one that gives its time.
-    fn route(&self, live: &[Time], log: &[u32], times: &[u64]) -> Vec<u32> {
+    fn route(&self, live: &[Time], log: &[u32], times: &[Time]) -> Vec<u32> {
         let mut places = vec![None; self.map.n()];
         for (place, &junction) in log.iter().enumerate() {
             places[junction as usize] = Some(place);
@@ -254,7 +255,7 @@ impl Machine<'_> {
                 let gives = live[road] != CLOSED
                     && self.map.roads[road].head == log[place]
                     && tail < place
-                    && times[tail] + u64::from(live[road]) == times[place];
+                    && times[tail] + live[road] == times[place];
                 gives.then_some((road, tail))
             };
             let (road, tail) = (0..self.map.m()).find_map(earlier).expect("a road gives the time");
@@ -304,7 +305,7 @@ mod tests {
         assert_eq!(run(&[aim(3), go(3)]), trip(0, &[], &[3]));
         assert_eq!(run(&[set(0, 9)]).answer, Err(Refusal::NotAllowed));
         assert_eq!(run(&[set(0, 10)]).answer, Ok(Accepted::Done));
-        assert_eq!(run(&[set(0, 1_000_001)]).answer, Err(Refusal::NotAllowed));
+        assert_eq!(run(&[set(0, 10_000_001)]).answer, Err(Refusal::NotAllowed));
         let lost = run(&[aim(3), set(1, CLOSED), set(2, CLOSED), go(0)]);
         assert_eq!((lost.answer, &lost.log[..]), (Err(Refusal::NoPath(2)), &[0, 1][..]));
     }
@@ -344,7 +345,7 @@ mod tests {
             route: 4 * stops.len(),
             log: 4,
         };
-        let found = |legs: &[(u64, u32)], route: &[u32], log: &[u32]| {
+        let found = |legs: &[(Time, u32)], route: &[u32], log: &[u32]| {
             let answer = Ok(Accepted::Stopped(Stopped::of(legs)));
             Reply { answer, route: route.to_vec(), log: log.to_vec() }
         };

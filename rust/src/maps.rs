@@ -6,10 +6,14 @@ use crate::order;
 use crate::random::Random;
 use crate::time::{Time, CLOSED};
 
+/// A second is ten tenths.
+pub const SECOND: Time = 10;
+
 #[derive(Clone, Copy, Debug, PartialEq, Eq)]
 pub struct Road {
     pub tail: u32,
     pub head: u32,
+    /// In tenths of a second.
     pub base: Time,
     /// Bit c, from the lowest, lets class c in.
     pub access: u8,
@@ -66,15 +70,17 @@ impl Map {
 
     /// The map as two rows of words, as the writer of cards is lent it.
     pub fn rows(&self) -> (Vec<u32>, Vec<u32>) {
-        let words = |road: &Road| [road.tail, road.head, road.base];
+        let words = |road: &Road| [road.tail, road.head, road.base.try_into().expect("a word")];
         (self.roads.iter().flat_map(words).collect(), self.order.clone())
     }
 
     /// The map that a card holds.
     pub fn of_card(card: &[u8]) -> Result<Map, Refusal> {
         let (roads, order, access) = card::map(card)?;
-        let road =
-            |(&[tail, head, base], &access): (&[u32; 3], &u8)| Road { tail, head, base, access };
+        let road = |(&[tail, head, base], &access): (&[u32; 3], &u8)| {
+            let base = base.into();
+            Road { tail, head, base, access }
+        };
         Ok(Map { roads: roads.as_chunks().0.iter().zip(&access).map(road).collect(), order })
     }
 
@@ -185,10 +191,10 @@ pub fn town(random: &mut Random, width: usize, height: usize, streets: Streets) 
             continue;
         }
         let [tail, head] = if line.is_multiple_of(2) { [a, b] } else { [b, a] };
-        let base = random.within(10..=40) / if main { 3 } else { 1 };
+        let base = SECOND * (random.within(10..=40) / if main { 3 } else { 1 });
         roads.push(Road::new(tail, head, base));
         if main || !random.chance(streets.one_way) {
-            roads.push(Road::new(head, tail, base + random.within(0..=5)));
+            roads.push(Road::new(head, tail, base + SECOND * random.within(0..=5)));
         }
     }
     random.shuffle(&mut roads);
@@ -200,7 +206,7 @@ pub fn largest_town(random: &mut Random) -> Map {
     let mut map = town(random, 64, 64, Streets::DENSE);
     while map.m() < MOST_ROADS {
         let road = random.pick(&map.roads);
-        map.roads.push(Road { base: random.within(1..=60), ..road });
+        map.roads.push(Road { base: SECOND * random.within(1..=60), ..road });
     }
     map
 }
@@ -251,7 +257,7 @@ pub fn ring(n: usize) -> Map {
 }
 
 /// The same with a road past junction 0, from n - 1 to 1. The search from 2 to 0 has two candidates at
-/// last: 1 with a key of 2n - 3 roads, in the largest map the largest key of all, 8,189,000,000, and 0
+/// last: 1 with a key of 2n - 3 roads, in the largest map the largest key of all, 81,890,000,000, and 0
 /// with one of n - 2 roads, which would be the larger one if keys had 32 bits.
 pub fn ring_with_bypass(n: usize) -> Map {
     let mut map = ring(n);
@@ -261,7 +267,7 @@ pub fn ring_with_bypass(n: usize) -> Map {
 
 /// A one-way line 0, 1 .. n - 2 with the longest base times; and from n - 3 roads back to 0 and, by
 /// way of n - 1, on to n - 2. With road n - 3, the line's last, closed, the search from 1 to n - 2 has
-/// two candidates at last: 0 with a key of 2n - 5 roads, 8,187,000,000 in the largest map, and n - 1
+/// two candidates at last: 0 with a key of 2n - 5 roads, 81,870,000,000 in the largest map, and n - 1
 /// with one of n - 2 roads, which would be the larger one if keys had 32 bits.
 pub fn wide_keys(n: usize) -> Map {
     let mut roads: Vec<Road> = (0..n - 2).map(|i| long(i, i + 1)).collect();
@@ -271,7 +277,7 @@ pub fn wide_keys(n: usize) -> Map {
 
 /// Three maps alike but for the order: a one-way line 0, 1 .. n - 4 with the longest base times, roads
 /// from a = n - 3 and x = n - 2 to its first junction, and from its last to x and b = n - 1. The chain
-/// from a to b has n - 2 roads, and that by way of x 2(n - 2), in the largest map 8,188,000,000: the
+/// from a to b has n - 2 roads, and that by way of x 2(n - 2), in the largest map 81,880,000,000: the
 /// smaller one if it had 32 bits. The two are compared by contraction with the first order, by the down
 /// totals for b with the second, by the estimate of a for b with the third.
 pub fn wide_sums(n: usize) -> [Map; 3] {
@@ -282,6 +288,22 @@ pub fn wide_sums(n: usize) -> [Map; 3] {
         let order = (0..n - 3).chain(last).map(|junction| junction as u32).collect();
         Map { roads: roads.clone(), order }
     })
+}
+
+/// A slow road: a two-way line of junctions, some of which a road passes over on its way, with base times up to `less`
+/// below the longest. With a thousand junctions there are least totals past 2^32, each with chains to choose from.
+pub fn slow_road(random: &mut Random, n: usize, less: Time) -> Map {
+    let mut roads: Vec<Road> = (1..n).flat_map(|i| both_ways(i - 1, i)).collect();
+    for ends in (2..n).flat_map(|i| [[i - 2, i], [i, i - 2]]) {
+        if random.chance(40) {
+            roads.push(long(ends[0], ends[1]));
+        }
+    }
+    for road in &mut roads {
+        road.base -= random.within(0..=less);
+    }
+    random.shuffle(&mut roads);
+    Map { roads, order: (0..n as u32).collect() }
 }
 
 fn both_ways(a: usize, b: usize) -> [Road; 2] {
@@ -296,6 +318,8 @@ fn long(tail: usize, head: usize) -> Road {
 mod tests {
     use super::*;
     use crate::card::MOST_JUNCTIONS;
+    use crate::dijkstra;
+    use crate::graph::Graph;
     use crate::order::{pairs, MOST_PAIRS};
 
     #[test]
@@ -314,11 +338,24 @@ mod tests {
             ring_with_bypass(MOST_JUNCTIONS),
             wide_keys(MOST_JUNCTIONS),
             wide_sums(MOST_JUNCTIONS)[0].clone(),
+            slow_road(&mut r, MOST_JUNCTIONS, LONGEST - 1),
         ] {
             let card = map.card().unwrap();
             let (roads, order) = map.rows();
             assert_eq!(card::map(&card), Ok((roads, order, vec![EVERY_CLASS; map.m()])));
             assert_eq!(Map::of_card(&card), Ok(map));
+        }
+    }
+
+    /// Least totals from end to end have more than 32 bits, and most junctions have several roads to choose from.
+    #[test]
+    fn slow_roads() {
+        for (n, less) in [(1_000, 0), (1_000, 1_000), (MOST_JUNCTIONS, LONGEST / 2)] {
+            let map = slow_road(&mut Random::new(3), n, less);
+            assert!(map.roads.iter().all(|road| (LONGEST - less..=LONGEST).contains(&road.base)));
+            assert!(map.m() > 5 * n / 2 && map.m() <= MOST_ROADS && pairs(&map) < 2 * n);
+            let total = dijkstra::between(&Graph::new(&map), &map.base(), 0, n as u32 - 1).0;
+            assert!(total > 1 << 32 && total < n as Time * LONGEST, "{n}, {less}: {total}");
         }
     }
 

@@ -1,5 +1,6 @@
 //! Random numbers by xorshift64*: a fixed seed gives a fixed run.
 
+use crate::time::Time;
 use std::env;
 use std::ops::RangeInclusive;
 
@@ -26,8 +27,9 @@ impl Random {
         (((self.bits() >> 32) * n as u64) >> 32) as usize
     }
 
-    pub fn within(&mut self, range: RangeInclusive<u32>) -> u32 {
-        range.start() + self.below((range.end() - range.start()) as usize + 1) as u32
+    /// A time of a range, which has at most 2^32.
+    pub fn within(&mut self, range: RangeInclusive<Time>) -> Time {
+        range.start() + self.below((range.end() - range.start()) as usize + 1) as Time
     }
 
     /// True `percent` times in a hundred.

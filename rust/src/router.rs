@@ -132,7 +132,7 @@ impl Calls for Router {
         let count = search.log.len() as u32;
         let (total, roads) = search.found.ok_or(Refusal::NoPath(count))?;
         route[..roads.len()].copy_from_slice(&roads);
-        Ok(Trip { total: total.into(), count, roads: roads.len() as u32 })
+        Ok(Trip { total, count, roads: roads.len() as u32 })
     }
 
     /// It needs no work area, and asks for its length alone.
@@ -142,7 +142,7 @@ impl Calls for Router {
         road: u32,
         time: Time,
         start: u32,
-        work: &mut [u32],
+        work: &mut [Time],
     ) -> Result<Previewed, Refusal> {
         if work.len() != 2 * self.graph.n() {
             return Err(Refusal::Lengths);

@@ -57,9 +57,8 @@ fn logged(
     // Times of candidates. One is queued again whenever its time falls; the first to come up counts.
     let mut times = vec![NONE; graph.n()];
     let mut queue = BinaryHeap::new();
-    let entry = |time: Time, estimate: Time, junction: u32| {
-        Reverse((u64::from(time) + u64::from(estimate), time, junction))
-    };
+    let entry =
+        |time: Time, estimate: Time, junction: u32| Reverse((time + estimate, time, junction));
 
     let ahead = estimate(start);
     if ahead != NONE {
@@ -187,7 +186,7 @@ mod tests {
                 }
                 candidates.retain(|&(junction, _)| estimates[junction as usize] != NONE);
                 let key = |&(junction, time): &(u32, Time)| {
-                    (u64::from(time) + u64::from(estimates[junction as usize]), time, junction)
+                    (time + estimates[junction as usize], time, junction)
                 };
                 let Some((junction, time)) = candidates.into_iter().min_by_key(key) else {
                     break;
@@ -232,7 +231,7 @@ mod tests {
                 filled[rank(road.head)] |= road.tail != self.target && log.contains(&road.tail);
             }
             // Records ascend, so one pass follows each chain upwards.
-            for [low, high, up, _] in hierarchy.records() {
+            for (low, high, up, _) in hierarchy.records() {
                 filled[high as usize] |= filled[low as usize] && up != NONE;
             }
             (0..self.map.n() as u32).map(|junction| filled[rank(junction)]).collect()
@@ -292,12 +291,12 @@ mod tests {
             let trip = Trip::random(&mut random, map);
             let times = brute::least(&trip.map, &trip.live, trip.start);
             let (search, _) = trip.go();
-            let mut due: Vec<(u64, Time, u32)> = (0..)
+            let mut due: Vec<(Time, Time, u32)> = (0..)
                 .zip(times.iter().zip(trip.estimates()))
                 .filter(|&(_, (&time, estimate))| time != NONE && estimate != NONE)
-                .map(|(at, (&time, estimate))| (u64::from(time) + u64::from(estimate), time, at))
+                .map(|(at, (&time, estimate))| (time + estimate, time, at))
                 .collect();
-            let most = search.found.as_ref().map_or(u64::MAX, |found| found.0.into());
+            let most = search.found.as_ref().map_or(NONE, |found| found.0);
             due.retain(|&(key, ..)| key <= most);
             due.sort();
             assert!(due.iter().map(|&(_, _, at)| at).eq(search.log.iter().copied()));
@@ -362,7 +361,7 @@ mod tests {
         let (search, _) = Trip { map, live, start: 1, target: n - 2 }.go();
         assert_eq!(search.elapsed[0], NONE, "the junction with the larger key is not logged");
         assert_eq!(search.log.len() as u32, n - 1);
-        assert_eq!(search.found.unwrap().0, (n - 2) * card::LONGEST);
+        assert_eq!(search.found.unwrap().0, Time::from(n - 2) * card::LONGEST);
     }
 
     #[test]

@@ -1,10 +1,10 @@
 //! A map as lines of text.
 //!
-//! A road is a line `road TAIL HEAD SECONDS`; roads are numbered from 0 as they come. Where it lets only some
-//! vehicle classes in, `classes LIST` follows: numbers from 0 to 7 and rows of them, as `0,2-5`, or `none`. Lines
-//! `order J J ..` have the junctions from lowest rank to highest, each once; without one, a good order is computed, for
-//! as many junctions as the largest number in a road asks for. Empty lines and lines that begin with `#`
-//! say nothing.
+//! A road is a line `road TAIL HEAD TENTHS`, with its base time in tenths of a second; roads are numbered from 0 as
+//! they come. Where it lets only some vehicle classes in, `classes LIST` follows: numbers from 0 to 7 and rows of
+//! them, as `0,2-5`, or `none`. Lines `order J J ..` have the junctions from lowest rank to highest, each once; without
+//! one, a good order is computed, for as many junctions as the largest number in a road asks for. Empty lines and lines
+//! that begin with `#` say nothing.
 
 use crate::calls::CLASSES;
 use crate::card::{EVERY_CLASS, LONGEST, MOST_JUNCTIONS, MOST_ROADS};
@@ -111,15 +111,15 @@ impl Reader {
 
     fn road(&mut self, words: &[&str]) -> Result<(), String> {
         let &[tail, head, base, ref rest @ ..] = words else {
-            return Err(format!("a road has 3 numbers: TAIL HEAD SECONDS, not {}", words.len()));
+            return Err(format!("a road has 3 numbers: TAIL HEAD TENTHS, not {}", words.len()));
         };
-        let (tail, head, base) = (junction(tail)?, junction(head)?, number(base)?);
+        let (tail, head, base) = (junction(tail)?, junction(head)?, number(base)?.into());
         let access = access(rest)?;
         if tail == head {
             return Err(format!("the road leads from junction {tail} to itself"));
         }
         if !(1..=LONGEST).contains(&base) {
-            return Err(format!("{base} seconds are not from 1 to {LONGEST}"));
+            return Err(format!("{base} tenths of a second are not from 1 to {LONGEST}"));
         }
         if self.roads.len() == MOST_ROADS {
             return Err(format!("a map has no more than {MOST_ROADS} roads"));
@@ -178,7 +178,7 @@ impl Reader {
     }
 }
 
-/// The byte of what stands behind a road's seconds.
+/// The byte of what stands behind a road's time.
 fn access(words: &[&str]) -> Result<u8, String> {
     match words {
         [] => Ok(EVERY_CLASS),
@@ -187,7 +187,7 @@ fn access(words: &[&str]) -> Result<u8, String> {
         ["classes", list, more, ..] => {
             Err(format!("a list of classes is one word, such as 0,2-5: `{more}` follows `{list}`"))
         }
-        [word, ..] => Err(format!("`{word}` behind the seconds; only `classes` may stand there")),
+        [word, ..] => Err(format!("`{word}` behind the time; only `classes` may stand there")),
     }
 }
 
@@ -297,18 +297,15 @@ mod tests {
             ("order\n", "no road and no order, so no junction"),
             ("road 0 1 5\nroads 1 0 5", "line 2: `roads` begins no line; `road` and `order` do"),
             ("Road 0 1 5", "line 1: `Road` begins no line; `road` and `order` do"),
-            ("road 0 1", "line 1: a road has 3 numbers: TAIL HEAD SECONDS, not 2"),
-            ("road 0 1 5 6", "line 1: `6` behind the seconds; only `classes` may stand there"),
+            ("road 0 1", "line 1: a road has 3 numbers: TAIL HEAD TENTHS, not 2"),
+            ("road 0 1 5 6", "line 1: `6` behind the time; only `classes` may stand there"),
             (
                 "road 0 1 5 Classes 6",
-                "line 1: `Classes` behind the seconds; only `classes` may stand there",
+                "line 1: `Classes` behind the time; only `classes` may stand there",
             ),
             ("road 0 classes 1", "line 1: `classes` is no number"),
             ("road 0 1 classes 1", "line 1: `classes` is no number"),
-            (
-                "road 0 1\nroad 0 1 classes",
-                "line 1: a road has 3 numbers: TAIL HEAD SECONDS, not 2",
-            ),
+            ("road 0 1\nroad 0 1 classes", "line 1: a road has 3 numbers: TAIL HEAD TENTHS, not 2"),
             (
                 "road 0 1 5\nroad 0 1 5 classes",
                 "line 2: `classes` without a list, such as 0,2-5 or none",
@@ -339,8 +336,8 @@ mod tests {
             ("road 0 1 5000000000", "line 1: 5000000000 is too large"),
             ("road 4096 1 5", "line 1: junction 4096 is not below 4096"),
             ("road 3 3 5", "line 1: the road leads from junction 3 to itself"),
-            ("road 0 1 0", "line 1: 0 seconds are not from 1 to 1000000"),
-            ("road 0 1 1000001", "line 1: 1000001 seconds are not from 1 to 1000000"),
+            ("road 0 1 0", "line 1: 0 tenths of a second are not from 1 to 10000000"),
+            ("road 0 1 10000001", "line 1: 10000001 tenths of a second are not from 1 to 10000000"),
             ("order 0 1\norder 2 1", "line 2: junction 1 stands in the order already, in line 1"),
             ("order 0\norder 2", "line 2: junction 2 stands in the order, but not 1"),
             ("road 0 2 5\norder 1 0", "line 1: junction 2 does not stand in the order"),
@@ -353,6 +350,16 @@ mod tests {
         assert!(parse(most.as_bytes()).is_ok());
         let fault = parse((most + "road 0 1 5").as_bytes()).unwrap_err();
         assert_eq!(fault.to_string(), "line 16385: a map has no more than 16384 roads");
+    }
+
+    /// A number is the time in tenths, whatever was the longest before document 02's A7.
+    #[test]
+    fn tenths() {
+        let text =
+            "road 0 1 1\nroad 0 1 10\nroad 0 1 1000000\nroad 0 1 1000001\nroad 0 1 10000000\n";
+        let map = parse(text.as_bytes()).unwrap();
+        assert_eq!(map.base(), [1, 10, 1_000_000, 1_000_001, 10_000_000]);
+        assert!(print(&map).starts_with(text));
     }
 
     #[test]

@@ -4,7 +4,9 @@
 //! assertions on layout; `tests/c.rs` compares that one with `unit_c`.
 
 use crate::calls::{Call, Calls, Lent, Previewed, Refusal, Stopped, Trip, MOST_LEGS};
-use crate::time::{Time, NONE};
+use crate::hierarchy::Record;
+use crate::time::{self, Time, NONE};
+use std::fmt::{Debug, Display};
 use std::mem::offset_of;
 use std::ops::{Deref, DerefMut};
 
@@ -34,10 +36,10 @@ pub(crate) struct Returned {
     /// 1 if a preview has a change.
     pub compared: u32,
     /// A go's total, an estimate, or a preview's present total.
-    pub total: u64,
+    pub total: Time,
     pub count: u32,
     pub roads: u32,
-    pub then: u64,
+    pub then: Time,
     pub change: i64,
 }
 
@@ -50,8 +52,8 @@ pub(crate) struct ReturnedStops {
     pub question: u32,
     pub leg: u32,
     pub legs: u32,
-    pub whole: u64,
-    pub totals: [u64; MOST_LEGS],
+    pub whole: Time,
+    pub totals: [Time; MOST_LEGS],
     pub roads: [u32; MOST_LEGS],
 }
 
@@ -97,7 +99,7 @@ extern "C" {
 macro_rules! exports {
     ($(
         fn $export:ident(
-            $($header:ident)?; $($slice:ident: $access:tt $word:ty),+; $($last:ident),*
+            $($header:ident)?; $($slice:ident: $access:tt $word:ty),+; $($last:ident: $kind:ty),*
             $(; $list:ident: $item:ty)?
         ) -> $returned:ident;
     )+) => {
@@ -106,7 +108,7 @@ macro_rules! exports {
                 fn $export(
                     $($header: Header,)?
                     $($slice: *$access $word, _: usize,)+
-                    $($last: u32,)*
+                    $($last: $kind,)*
                     $($list: *const $item, _: usize,)?
                 ) -> $returned;
             )+
@@ -120,6 +122,7 @@ exports! {
         card: const u8,
         ranks: mut u32,
         pairs: mut u32,
+        times: mut Time,
         live: mut Time,
         down: mut Time,
         estimates: mut Time,
@@ -132,46 +135,50 @@ exports! {
         card: const u8,
         ranks: const u32,
         pairs: const u32,
+        times: const Time,
         live: mut Time,
         down: const Time,
         estimates: const Time,
         elapsed: const Time,
         leaving: const u32,
         groups: const u32;
-        road,
-        time
+        road: u32,
+        time: Time
     ) -> Returned;
     fn unit_aim(
         header;
         card: const u8,
         ranks: const u32,
         pairs: const u32,
+        times: const Time,
         live: const Time,
         down: mut Time,
         estimates: mut Time,
         elapsed: const Time,
         leaving: const u32,
         groups: const u32;
-        junction
+        junction: u32
     ) -> Returned;
     fn unit_estimate(
         header;
         card: const u8,
         ranks: const u32,
         pairs: const u32,
+        times: const Time,
         live: const Time,
         down: const Time,
         estimates: mut Time,
         elapsed: const Time,
         leaving: const u32,
         groups: const u32;
-        junction
+        junction: u32
     ) -> Returned;
     fn unit_go(
         header;
         card: const u8,
         ranks: const u32,
         pairs: const u32,
+        times: const Time,
         live: const Time,
         down: const Time,
         estimates: mut Time,
@@ -180,14 +187,15 @@ exports! {
         groups: const u32,
         route: mut u32,
         log: mut u32;
-        class,
-        start
+        class: u32,
+        start: u32
     ) -> Returned;
     fn unit_preview(
         header;
         card: const u8,
         ranks: const u32,
         pairs: const u32,
+        times: const Time,
         live: const Time,
         down: const Time,
         estimates: mut Time,
@@ -195,16 +203,17 @@ exports! {
         leaving: const u32,
         groups: const u32,
         work: mut Time;
-        class,
-        road,
-        time,
-        start
+        class: u32,
+        road: u32,
+        time: Time,
+        start: u32
     ) -> Returned;
     fn unit_stops(
         header;
         card: const u8,
         ranks: const u32,
         pairs: const u32,
+        times: const Time,
         live: const Time,
         down: mut Time,
         estimates: mut Time,
@@ -213,7 +222,7 @@ exports! {
         groups: const u32,
         route: mut u32,
         log: mut u32;
-        class;
+        class: u32;
         stops: u32
     ) -> ReturnedStops;
     fn unit_replay(
@@ -221,6 +230,7 @@ exports! {
         card: const u8,
         ranks: mut u32,
         pairs: mut u32,
+        times: mut Time,
         live: mut Time,
         down: mut Time,
         estimates: mut Time,
@@ -238,8 +248,26 @@ exports! {
 /// How many words of a script's answers there are for each call.
 pub const ANSWER_WORDS: usize = 4 + 2 * MOST_LEGS;
 
-/// What a word holds before a call that is to write it.
-pub const UNWRITTEN: u32 = 0xa5a5_a5a5;
+/// A word of an area: of 32 bits, or a time.
+pub trait Word: Copy + Debug + Display + Eq {
+    /// What it holds before a call that is to write it.
+    const UNWRITTEN: Self;
+    /// What stands before an area and behind it.
+    const GUARD: Self;
+}
+
+impl Word for u32 {
+    const UNWRITTEN: u32 = 0xa5a5_a5a5;
+    const GUARD: u32 = 0x6a7d_6a7d;
+}
+
+impl Word for Time {
+    const UNWRITTEN: Time = 0xa5a5_a5a5_a5a5_a5a5;
+    const GUARD: Time = 0x6a7d_6a7d_6a7d_6a7d;
+}
+
+/// No road or junction, so what was written to an area of these can be told from what was not.
+pub const UNWRITTEN: u32 = <u32 as Word>::UNWRITTEN;
 
 /// Questions 1 to 6: the numbers of junctions and of roads, or the first refusal.
 pub fn read(card: &[u8]) -> Result<(u32, u32), Refusal> {
@@ -302,32 +330,132 @@ fn refusal(number: u32, place: u32, count: u32) -> Refusal {
 
 /// An area of words, with guard words before and behind it.
 #[derive(Clone, Debug, PartialEq, Eq)]
-pub struct Area {
-    words: Vec<u32>,
+pub struct Area<W: Word = u32> {
+    words: Vec<W>,
 }
 
-impl Area {
-    const GUARDS: [u32; 16] = [0x6a7d_6a7d; 16];
+impl<W: Word> Area<W> {
+    const GUARDS: [W; 16] = [W::GUARD; 16];
 
     /// An area that nothing was written to.
-    pub fn new(len: usize) -> Area {
-        Area::of(&vec![UNWRITTEN; len])
+    pub fn new(len: usize) -> Area<W> {
+        Area::of(&vec![W::UNWRITTEN; len])
     }
 
-    pub fn of(words: &[u32]) -> Area {
-        Area { words: [&Area::GUARDS, words, &Area::GUARDS].concat() }
+    pub fn of(words: &[W]) -> Area<W> {
+        Area { words: [&Self::GUARDS, words, &Self::GUARDS].concat() }
     }
 
     /// Words that nothing was written to are added at the end, or words there taken off.
     pub fn resize(&mut self, len: usize) {
         let mut words = self.to_vec();
-        words.resize(len, UNWRITTEN);
+        words.resize(len, W::UNWRITTEN);
         *self = Area::of(&words);
     }
 
     /// Are the guard words as they were?
     pub fn guarded(&self) -> bool {
-        self.words.starts_with(&Area::GUARDS) && self.words.ends_with(&Area::GUARDS)
+        self.words.starts_with(&Self::GUARDS) && self.words.ends_with(&Self::GUARDS)
+    }
+}
+
+impl<W: Word> Deref for Area<W> {
+    type Target = [W];
+
+    fn deref(&self) -> &[W] {
+        &self.words[Self::GUARDS.len()..self.words.len() - Self::GUARDS.len()]
+    }
+}
+
+impl<W: Word> DerefMut for Area<W> {
+    fn deref_mut(&mut self) -> &mut [W] {
+        let end = self.words.len() - Self::GUARDS.len();
+        &mut self.words[Self::GUARDS.len()..end]
+    }
+}
+
+/// One of a unit's areas.
+#[derive(Clone, Copy, Debug, PartialEq, Eq)]
+pub enum Held<'a> {
+    Words(&'a Area),
+    Times(&'a Area<Time>),
+}
+
+impl Held<'_> {
+    #[allow(clippy::len_without_is_empty)]
+    pub fn len(self) -> usize {
+        match self {
+            Held::Words(area) => area.len(),
+            Held::Times(area) => area.len(),
+        }
+    }
+
+    /// Bytes of a word.
+    pub fn width(self) -> usize {
+        match self {
+            Held::Words(_) => size_of::<u32>(),
+            Held::Times(_) => size_of::<Time>(),
+        }
+    }
+
+    /// Is every word 0?
+    pub fn zero(self) -> bool {
+        match self {
+            Held::Words(area) => area.iter().all(|&word| word == 0),
+            Held::Times(area) => area.iter().all(|&word| word == 0),
+        }
+    }
+
+    /// Are the guard words as they were?
+    pub fn guarded(self) -> bool {
+        match self {
+            Held::Words(area) => area.guarded(),
+            Held::Times(area) => area.guarded(),
+        }
+    }
+
+    /// Two areas are the same, word by word.
+    pub fn same(self, name: &str, want: Held) {
+        match (self, want) {
+            (Held::Words(area), Held::Words(want)) => same(name, area, want),
+            (Held::Times(area), Held::Times(want)) => same(name, area, want),
+            _ => panic!("{name}: words beside times"),
+        }
+    }
+}
+
+/// Two rows of words are the same, word by word.
+pub fn same<W: Word>(name: &str, area: &[W], want: &[W]) {
+    if area != want {
+        assert_eq!(area.len(), want.len(), "{name}: the lengths differ");
+        let place = area.iter().zip(want).position(|(word, want)| word != want);
+        let place = place.expect("a word that differs");
+        panic!("{name}: {} in place {place}, not {}", area[place], want[place]);
+    }
+}
+
+/// One of a unit's areas, to be altered.
+#[derive(Debug)]
+pub enum HeldMut<'a> {
+    Words(&'a mut Area),
+    Times(&'a mut Area<Time>),
+}
+
+impl HeldMut<'_> {
+    #[allow(clippy::len_without_is_empty)]
+    pub fn len(&self) -> usize {
+        match self {
+            HeldMut::Words(area) => area.len(),
+            HeldMut::Times(area) => area.len(),
+        }
+    }
+
+    /// Words that nothing was written to are added at the end, or words there taken off.
+    pub fn resize(&mut self, len: usize) {
+        match self {
+            HeldMut::Words(area) => area.resize(len),
+            HeldMut::Times(area) => area.resize(len),
+        }
     }
 }
 
@@ -336,7 +464,7 @@ impl Area {
 pub struct LentAreas {
     pub route: Area,
     pub log: Area,
-    pub work: Area,
+    pub work: Area<Time>,
 }
 
 impl LentAreas {
@@ -357,25 +485,29 @@ impl LentAreas {
 
     /// Are the guard words as they were?
     pub fn guarded(&self) -> bool {
-        [&self.route, &self.log, &self.work].iter().all(|area| area.guarded())
+        self.route.guarded() && self.log.guarded() && self.work.guarded()
     }
 }
 
-/// A script of calls: of each its kind, and as many words as that call has. The lengths of a go and of a list
-/// of stops are those that it asks for; a preview has none.
+/// A script of calls: of each its kind, and as many words as that call has, a time two. The lengths of a go and of a
+/// list of stops are those that it asks for; a preview has none.
 pub fn spelled(calls: &[Call]) -> Vec<u32> {
     let entries = |len: usize| u32::try_from(len).expect("a length of 32 bits");
     let mut words = Vec::new();
     for &call in calls {
         match call {
-            Call::Set { road, time } => words.extend([0, road, time]),
+            Call::Set { road, time } => {
+                let [low, high] = time::words(time);
+                words.extend([0, road, low, high]);
+            }
             Call::Aim { junction } => words.extend([1, junction]),
             Call::Estimate { junction } => words.extend([2, junction]),
             Call::Go { class, start, route, log } => {
                 words.extend([3, class, start, entries(route), entries(log)]);
             }
             Call::Preview { class, road, time, start, .. } => {
-                words.extend([4, class, road, time, start]);
+                let [low, high] = time::words(time);
+                words.extend([4, class, road, low, high, start]);
             }
             Call::Stops { class, stops, route, log } => {
                 words.extend([5, class, entries(stops.len()), entries(route), entries(log)]);
@@ -386,20 +518,11 @@ pub fn spelled(calls: &[Call]) -> Vec<u32> {
     words
 }
 
-impl Deref for Area {
-    type Target = [u32];
+/// A unit has so many areas.
+pub const AREAS: usize = 9;
 
-    fn deref(&self) -> &[u32] {
-        &self.words[Area::GUARDS.len()..self.words.len() - Area::GUARDS.len()]
-    }
-}
-
-impl DerefMut for Area {
-    fn deref_mut(&mut self) -> &mut [u32] {
-        let end = self.words.len() - Area::GUARDS.len();
-        &mut self.words[Area::GUARDS.len()..end]
-    }
-}
+/// Words of a pair, in the one area and in the other.
+pub const RECORD: usize = 2;
 
 /// A unit: its card, its header and its areas.
 #[derive(Clone, Debug, PartialEq, Eq)]
@@ -407,11 +530,14 @@ pub struct Unit {
     pub card: Vec<u8>,
     pub header: Header,
     pub ranks: Area,
+    /// Of each pair its two ranks, low and high,
     pub pairs: Area,
-    pub live: Area,
-    pub down: Area,
-    pub estimates: Area,
-    pub elapsed: Area,
+    /// and its two times, up and down.
+    pub times: Area<Time>,
+    pub live: Area<Time>,
+    pub down: Area<Time>,
+    pub estimates: Area<Time>,
+    pub elapsed: Area<Time>,
     /// Road numbers by tail.
     pub leaving: Area,
     /// Where each tail's group starts.
@@ -443,7 +569,8 @@ impl Unit {
             card: card.to_vec(),
             header: Header::default(),
             ranks: Area::new(n),
-            pairs: Area::new(4 * room),
+            pairs: Area::new(RECORD * room),
+            times: Area::new(RECORD * room),
             live: Area::new(m),
             down: Area::new(n),
             estimates: Area::new(n),
@@ -453,31 +580,40 @@ impl Unit {
         }
     }
 
-    /// The eight areas and their names.
-    pub fn areas(&self) -> [(&'static str, &Area); 8] {
+    /// The areas and their names.
+    pub fn areas(&self) -> [(&'static str, Held<'_>); AREAS] {
         [
-            ("ranks", &self.ranks),
-            ("pairs", &self.pairs),
-            ("live times", &self.live),
-            ("down totals", &self.down),
-            ("estimates", &self.estimates),
-            ("elapsed", &self.elapsed),
-            ("leaving", &self.leaving),
-            ("groups", &self.groups),
+            ("ranks", Held::Words(&self.ranks)),
+            ("pairs", Held::Words(&self.pairs)),
+            ("pair times", Held::Times(&self.times)),
+            ("live times", Held::Times(&self.live)),
+            ("down totals", Held::Times(&self.down)),
+            ("estimates", Held::Times(&self.estimates)),
+            ("elapsed", Held::Times(&self.elapsed)),
+            ("leaving", Held::Words(&self.leaving)),
+            ("groups", Held::Words(&self.groups)),
         ]
     }
 
-    pub fn areas_mut(&mut self) -> [&mut Area; 8] {
+    pub fn areas_mut(&mut self) -> [HeldMut<'_>; AREAS] {
         [
-            &mut self.ranks,
-            &mut self.pairs,
-            &mut self.live,
-            &mut self.down,
-            &mut self.estimates,
-            &mut self.elapsed,
-            &mut self.leaving,
-            &mut self.groups,
+            HeldMut::Words(&mut self.ranks),
+            HeldMut::Words(&mut self.pairs),
+            HeldMut::Times(&mut self.times),
+            HeldMut::Times(&mut self.live),
+            HeldMut::Times(&mut self.down),
+            HeldMut::Times(&mut self.estimates),
+            HeldMut::Times(&mut self.elapsed),
+            HeldMut::Words(&mut self.leaving),
+            HeldMut::Words(&mut self.groups),
         ]
+    }
+
+    /// The records of all pairs that there is room for: rank of low, rank of high, up time, down time.
+    pub fn records(&self) -> Vec<Record> {
+        let (ranks, times) = (self.pairs.as_chunks().0, self.times.as_chunks().0);
+        let record = |(&[low, high], &[up, down]): (&[u32; 2], &[Time; 2])| (low, high, up, down);
+        ranks.iter().zip(times).map(record).collect()
     }
 
     /// Are the guard words of all areas as they were?
@@ -491,6 +627,7 @@ impl Unit {
             self.card => as_ptr,
             self.ranks => as_mut_ptr,
             self.pairs => as_mut_ptr,
+            self.times => as_mut_ptr,
             self.live => as_mut_ptr,
             self.down => as_mut_ptr,
             self.estimates => as_mut_ptr,
@@ -515,6 +652,7 @@ impl Unit {
             self.card => as_ptr,
             self.ranks => as_mut_ptr,
             self.pairs => as_mut_ptr,
+            self.times => as_mut_ptr,
             self.live => as_mut_ptr,
             self.down => as_mut_ptr,
             self.estimates => as_mut_ptr,
@@ -556,7 +694,7 @@ impl Returned {
     pub(crate) fn estimate(self) -> Result<Time, Refusal> {
         let total = self.total;
         self.says(Returned { total, ..Returned::default() });
-        Ok(Time::try_from(total).expect("an estimate of 32 bits"))
+        Ok(total)
     }
 
     fn trip(self) -> Result<Trip, Refusal> {
@@ -567,7 +705,7 @@ impl Returned {
 
     pub(crate) fn previewed(self) -> Result<Previewed, Refusal> {
         let Returned { compared, total, then, change, .. } = self;
-        let [present, new] = [total, then].map(|total| (total != NONE.into()).then_some(total));
+        let [present, new] = [total, then].map(|total| (total != NONE).then_some(total));
         let both = present.is_some() && new.is_some();
         let change = if both { change } else { 0 };
         assert_eq!(compared, both.into(), "compared where both totals exist: {self:?}");
@@ -599,6 +737,7 @@ impl Calls for Unit {
             self.card => as_ptr,
             self.ranks => as_ptr,
             self.pairs => as_ptr,
+            self.times => as_ptr,
             self.live => as_mut_ptr,
             self.down => as_ptr,
             self.estimates => as_ptr,
@@ -617,6 +756,7 @@ impl Calls for Unit {
             self.card => as_ptr,
             self.ranks => as_ptr,
             self.pairs => as_ptr,
+            self.times => as_ptr,
             self.live => as_ptr,
             self.down => as_mut_ptr,
             self.estimates => as_mut_ptr,
@@ -634,6 +774,7 @@ impl Calls for Unit {
             self.card => as_ptr,
             self.ranks => as_ptr,
             self.pairs => as_ptr,
+            self.times => as_ptr,
             self.live => as_ptr,
             self.down => as_ptr,
             self.estimates => as_mut_ptr,
@@ -657,6 +798,7 @@ impl Calls for Unit {
             self.card => as_ptr,
             self.ranks => as_ptr,
             self.pairs => as_ptr,
+            self.times => as_ptr,
             self.live => as_ptr,
             self.down => as_ptr,
             self.estimates => as_mut_ptr,
@@ -677,13 +819,14 @@ impl Calls for Unit {
         road: u32,
         time: Time,
         start: u32,
-        work: &mut [u32],
+        work: &mut [Time],
     ) -> Result<Previewed, Refusal> {
         let returned = lend!(unit_preview(
             self.header;
             self.card => as_ptr,
             self.ranks => as_ptr,
             self.pairs => as_ptr,
+            self.times => as_ptr,
             self.live => as_ptr,
             self.down => as_ptr,
             self.estimates => as_mut_ptr,
@@ -711,6 +854,7 @@ impl Calls for Unit {
             self.card => as_ptr,
             self.ranks => as_ptr,
             self.pairs => as_ptr,
+            self.times => as_ptr,
             self.live => as_ptr,
             self.down => as_mut_ptr,
             self.estimates => as_mut_ptr,

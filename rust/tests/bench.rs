@@ -41,7 +41,7 @@ fn bad_files() {
     let [good, bad, lost] = ["good.map", "bad.map", "lost.map"].map(path);
     fs::write(&good, "road 0 1 5\nroad 1 0 5\n").unwrap();
     for (text, what) in [
-        ("road 0 1 5\nroad 1 0\n", "line 2: a road has 3 numbers: TAIL HEAD SECONDS, not 2"),
+        ("road 0 1 5\nroad 1 0\n", "line 2: a road has 3 numbers: TAIL HEAD TENTHS, not 2"),
         ("road 0 4096 5\n", "line 1: junction 4096 is not below 4096"),
         ("order 0 1\n", "no road, so none to set"),
     ] {

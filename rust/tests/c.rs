@@ -171,13 +171,13 @@ fn map_p() {
     let output = run("right", &read("c/map_p.c"));
     let said = told(&output.stdout);
     assert_eq!(output.status.code(), Some(0), "{said}");
-    assert_eq!((said.matches(" ok\n").count(), said.lines().count()), (27, 27), "{said}");
+    assert_eq!((said.matches(" ok\n").count(), said.lines().count()), (30, 30), "{said}");
     for case in 1..=10 {
         assert!(said.contains(&format!("P{case} ")), "{said}");
     }
-    let requests = ["A1 ", "A2 ", "A3 ", "A5 ", "A6 "];
+    let requests = ["A1 ", "A2 ", "A3 ", "A5 ", "A6 ", "A7 "];
     let requests = requests.map(|request| said.matches(request).count());
-    assert_eq!(requests, [1, 6, 4, 1, 3], "{said}");
+    assert_eq!(requests, [1, 6, 4, 1, 3, 3], "{said}");
 }
 
 /// The C program sees an answer that is not the one it waits for, in each case.
@@ -186,7 +186,9 @@ fn map_p_with_another_answer() {
     let program = read("c/map_p.c");
     for (i, (case, old, new)) in [
         ("card", "2, 1, 28, 60,", "2, 1, 28, 61,"),
-        ("P1 ", "2, 3, 20, 20,", "2, 3, 20, 21,"),
+        ("P1 ", "1, 3, 2, 3};", "1, 3, 3, 2};"),
+        ("P1 ", "UNIT_NONE, 20, 20};", "UNIT_NONE, 20, 21};"),
+        ("P1 ", "{UNIT_NONE, 10, 10, UNIT_NONE,", "{10, UNIT_NONE, UNIT_NONE, 10,"),
         ("P2 ", "header.pairs == PAIRS && header.card == CARD", "header.pairs == M - 1"),
         (
             "P2 ",
@@ -199,7 +201,7 @@ fn map_p_with_another_answer() {
         ("P6 ", "gone(0, 0, 25, 2, roads_23,", "gone(0, 0, 24, 2, roads_23,"),
         ("P7 ", "gone(0, 0, 25, 2, roads_01,", "gone(0, 0, 25, 2, roads_23,"),
         ("P8 ", "log_of_3[] = {3}", "log_of_3[] = {0}"),
-        ("P9 ", "set(0, 1000001) == 11", "set(0, 1000001) == 0"),
+        ("P9 ", "set(0, 10000001) == 11", "set(0, 10000001) == 0"),
         ("P10 ", "gone(0, 15,", "gone(0, 0,"),
         ("A1 ", "{0, 2, 1, 3, 4}", "{0, 1, 2, 3, 4}"),
         ("A1 ", "{0, 2, 3, 4, 5}", "{0, 2, 3, 4, 4}"),
@@ -218,6 +220,7 @@ fn map_p_with_another_answer() {
         ("A3  refused", "called(far, 3, 0, 0, &no_junction)", "called(far, 3, 0, 0, &too_short)"),
         ("replay", "{0, 25, 4, 2}", "{0, 26, 4, 2}"),
         ("replay", "(uint64_t)-5", "5"),
+        ("replay", "4, 2, 1, TIME(10), 0,", "4, 2, 1, UNIT_HIGH(10), UNIT_LOW(10), 0,"),
         ("replay", "{0, 45, 0, 2}", "{0, 45, 2, 0}"),
         ("replay", "{25, 2, 20, 1}", "{25, 20, 2, 1}"),
         ("replay", "{17, 1, 0, 0}", "{17, 0, 1, 0}"),
@@ -258,6 +261,16 @@ fn map_p_with_another_answer() {
             "called_as(8, ends, 1, 0, 0, &lengths)",
             "!called_as(8, ends, 1, 0, 0, &lengths)",
         ),
+        ("A7  times", "set(1, 10000000) == 0", "set(1, 10000000) == 11"),
+        ("A7  times", "refused[] = {0, 9,", "refused[] = {0, 10,"),
+        ("A7  times", "UNIT_CLOSED >> 1, UNIT_CLOSED << 32}", "UNIT_CLOSED >> 1, UNIT_CLOSED}"),
+        ("A7  times", "(UINT64_C(1) << 32) + 10) == 11", "(UINT64_C(1) << 32) + 10) == 0"),
+        ("A7  pairs", "groups, N + 1, 0, 11)) == 9", "groups, N + 1, 0, 11)) == 0"),
+        ("A7  pairs", "groups, N + 1)) == 7", "groups, N + 1)) == 9"),
+        ("A7  pairs", "{{2 * PAIRS, 2 * PAIRS - 2},", "{{2 * PAIRS, 2 * PAIRS},"),
+        ("A7  430", "told_of.total == whole", "told_of.total == (uint32_t)whole"),
+        ("A7  430", "trip.total == whole", "trip.total == (uint32_t)whole"),
+        ("A7  430", "foretold.then == UNIT_NONE", "foretold.then == UINT32_MAX"),
         ("A5 ", "gone(0, 0, 3, 3, roads, 4, log)", "gone(0, 0, 3, 2, roads, 4, log)"),
         ("A5 ", "log[] = {0, 2, 1, 3}, ends", "log[] = {0, 1, 2, 3}, ends"),
         ("A5 ", "{2, 0, 3}, 4, {0, 2, 1, 3}, 3}", "{2, 0, 3}, 4, {0, 1, 2, 3}, 3}"),

@@ -17,7 +17,7 @@ use harness::maps::{self, Map, Streets};
 use harness::order::{self, MOST_PAIRS};
 use harness::random::{setting, Random};
 use harness::time::{Time, CLOSED, NONE, UNASKED};
-use harness::unit::{spelled, Area, Header, LentAreas, Unit, ANSWER_WORDS};
+use harness::unit::{spelled, Area, Header, LentAreas, Unit, ANSWER_WORDS, AREAS, RECORD};
 use std::thread;
 
 /// How often each call was answered with each number, 0 for accepted, and estimates with none.
@@ -32,8 +32,10 @@ struct Tally {
     none: usize,
     previews: Previews,
     classes: Classes,
-    /// How often each area had a wrong length, and at last the card.
-    lengths: [usize; 9],
+    /// How often each area had a wrong length, both of the pairs' areas the same one, and at last the card.
+    lengths: [usize; AREAS + 2],
+    /// Estimates, goes, previews and lists of stops that are answered with a total of 2^32 and more.
+    past_32_bits: [usize; 4],
     /// The roads by tail, which are compared after every call.
     listed: Listed,
 }
@@ -51,6 +53,18 @@ impl Tally {
         met[answer.map_or_else(|refusal| refusal.number() as usize, |_| 0)] += 1;
         self.none += (answer == Ok(Accepted::Estimate(NONE))) as usize;
         self.previews.count(answer);
+        let past = |total: Time| total >> 32 > 0 && total != NONE;
+        match answer {
+            Ok(Accepted::Estimate(time)) => self.past_32_bits[0] += past(time) as usize,
+            Ok(Accepted::Trip(trip)) => self.past_32_bits[1] += past(trip.total) as usize,
+            Ok(Accepted::Previewed(Previewed { present, new, .. })) => {
+                self.past_32_bits[2] += [present, new].into_iter().flatten().any(past) as usize;
+            }
+            Ok(Accepted::Stopped(stopped)) => {
+                self.past_32_bits[3] += stopped.totals.into_iter().any(past) as usize;
+            }
+            _ => (),
+        }
     }
 
     fn calls(&self) -> usize {
@@ -172,9 +186,11 @@ fn time(random: &mut Random, base: Time) -> Time {
     match random.below(20) {
         0 => base - 1,
         1 => random.pick(&[0, 1, LONGEST + 1, UNASKED, CLOSED - 2, 1 << 31]),
-        2 => random.word(),
-        3 => LONGEST,
-        4..9 => CLOSED,
+        // With an allowed time, or with the lower half of closed, in its lowest 32 bits.
+        2 => random.pick(&[(1 << 32) - 1, (1 << 32) + base, CLOSED - (1 << 32), CLOSED << 32]),
+        3 => random.bits(),
+        4 => LONGEST,
+        5..9 => CLOSED,
         9..13 => base,
         _ => LONGEST.min(base + random.within(0..=base)),
     }
@@ -251,24 +267,34 @@ fn random_call(random: &mut Random, map: &Map) -> Call {
     }
 }
 
-/// Another length for one of the unit's areas, or for the card. Which of them, the card last.
+/// Another length for one of the unit's areas, for both of the pairs' areas, or for the card. Which of them.
 fn wrong_length(random: &mut Random, unit: &mut Unit) -> usize {
-    let which = random.below(9);
-    if which == 8 {
-        let len = unit.card.len();
-        let other = random.pick(&[0, 28, len - 4, len - 1, len + 1, len + 4, 2 * len]);
-        unit.card.resize(if other == len { len + 12 } else { other }, 0);
-        return which;
+    let which = random.below(AREAS + 2);
+    match which {
+        ..AREAS => {
+            let area = &mut unit.areas_mut()[which];
+            let len = area.len();
+            area.resize(match len > 0 && random.chance(50) {
+                true => random.pick(&[0, len / 2, len - 1]),
+                false => random.pick(&[len + 1, len + 2, len + 4, 2 * len + 1]),
+            });
+        }
+        AREAS => {
+            let (len, most) = (unit.pairs.len(), RECORD * MOST_PAIRS);
+            let least = RECORD * unit.header.pairs as usize;
+            let other = match least > 0 && random.chance(50) {
+                true => random.pick(&[0, least - 2, least - 1]),
+                false => random.pick(&[len + 1, len + 3, most + 1, most + 2]),
+            };
+            unit.pairs.resize(other);
+            unit.times.resize(other);
+        }
+        _ => {
+            let len = unit.card.len();
+            let other = random.pick(&[0, 28, len - 4, len - 1, len + 1, len + 4, 2 * len]);
+            unit.card.resize(if other == len { len + 12 } else { other }, 0);
+        }
     }
-    let least = 4 * unit.header.pairs as usize;
-    let area = &mut unit.areas_mut()[which];
-    let len = area.len();
-    area.resize(match which {
-        1 if least > 0 && random.chance(50) => random.pick(&[0, least - 4, least - 1]),
-        1 => random.pick(&[len + 1, len + 2, len + 3, 4 * MOST_PAIRS + 4, 4 * MOST_PAIRS + 1]),
-        _ if len > 0 && random.chance(50) => random.pick(&[0, len / 2, len - 1]),
-        _ => random.pick(&[len + 1, len + 4, 2 * len + 1]),
-    });
     which
 }
 
@@ -351,6 +377,17 @@ fn random_map(random: &mut Random, most: usize) -> Map {
     }
 }
 
+/// A map with totals past 2^32; a few roads bar classes.
+fn slow_road(random: &mut Random) -> Map {
+    let (n, less) = (1_500 + random.below(1_000), random.pick(&[0, 2, 1_000]));
+    let mut map = maps::slow_road(random, n, less);
+    for _ in 0..random.below(4) {
+        let road = random.below(map.m());
+        map.roads[road].access = random.word() as u8;
+    }
+    map
+}
+
 /// Most of the calls on maps of a few junctions, the rest on larger ones, up to the largest.
 #[test]
 fn lists() {
@@ -366,13 +403,17 @@ fn lists() {
                 5..30 => (200, 200),
                 _ => (12, 60),
             };
-            let map = random_map(&mut random, most);
+            let map = match random.below(40) {
+                0 => slow_road(&mut random),
+                _ => random_map(&mut random, most),
+            };
             run_list(&mut random, &map, calls, &mut tally);
         }
         // The rarest answer comes about once in 1,000 calls; other seeds meet this count too.
         tally.at_least(length / 1_500);
         assert!(tally.previews.all().iter().all(|&met| met > length / 1_000), "{tally:?}");
         assert!(tally.classes.all().iter().all(|&met| met > length / 1_000), "{tally:?}");
+        assert!(tally.past_32_bits.iter().all(|&met| met > length / 5_000), "{tally:?}");
         let Listed { empty, several, moved, not_by_head, .. } = tally.listed;
         assert!(
             empty.iter().all(|&met| met > length / 2_000)
@@ -399,6 +440,7 @@ fn lists_on_the_largest_maps() {
             (maps::star(n), 300),
             (maps::ring(n), 50),
             (maps::ring_with_bypass(n), 50),
+            (maps::slow_road(&mut random, n, 7), 100),
             (maps::random(&mut random, n, 0, 1), 100),
             (maps::random(&mut random, 2, MOST_ROADS, LONGEST), 500),
             (maps::random(&mut random, 1, 0, 1), 500),
@@ -409,6 +451,7 @@ fn lists_on_the_largest_maps() {
             run_list(&mut random, &barred, calls, &mut tally);
         }
         tally.at_least(5);
+        assert!(tally.past_32_bits.iter().all(|&met| met >= 3), "{:?}", tally.past_32_bits);
     });
 }
 
@@ -436,10 +479,10 @@ fn answer_words(answer: Answer) -> [u64; ANSWER_WORDS] {
     let mut words = [0; ANSWER_WORDS];
     words[..4].copy_from_slice(&match answer {
         Ok(Accepted::Done) => [0; 4],
-        Ok(Accepted::Estimate(estimate)) => [0, estimate.into(), 0, 0],
+        Ok(Accepted::Estimate(estimate)) => [0, estimate, 0, 0],
         Ok(Accepted::Trip(trip)) => [0, trip.total, trip.count.into(), trip.roads.into()],
         Ok(Accepted::Previewed(Previewed { present, new, change })) => {
-            let [present, new] = [present, new].map(|total| total.unwrap_or(NONE.into()));
+            let [present, new] = [present, new].map(|total| total.unwrap_or(NONE));
             [0, present, new, change.unwrap_or(0) as u64]
         }
         Ok(Accepted::Stopped(Stopped { legs, whole, .. })) => [0, whole, 0, legs.into()],
@@ -459,6 +502,11 @@ fn answer_words(answer: Answer) -> [u64; ANSWER_WORDS] {
 /// An area of any words.
 fn any_area(random: &mut Random, len: usize) -> Area {
     Area::of(&(0..len).map(|_| random.word()).collect::<Vec<u32>>())
+}
+
+/// A work area of any words.
+fn any_work(random: &mut Random, len: usize) -> Area<Time> {
+    Area::of(&(0..len).map(|_| random.bits()).collect::<Vec<Time>>())
 }
 
 /// How the gos of scripts were answered, and how many scripts have gos of both kinds.
@@ -605,7 +653,7 @@ fn scripts() {
                 any_area(&mut random, len)
             });
             let len_of_work = work(&mut random, n);
-            let lent = LentAreas { route, log, work: any_area(&mut random, len_of_work) };
+            let lent = LentAreas { route, log, work: any_work(&mut random, len_of_work) };
             let calls: Vec<Call> = (0..len)
                 .map(|_| match random_call(&mut random, &map) {
                     Call::Go { class, start, .. } => {
@@ -773,7 +821,7 @@ fn scripts_that_end_early() {
         Call::Aim { junction: 2 },
     ];
     let script = spelled(&calls);
-    assert_eq!(script.len(), 2 * 3 + 5 * 2 + 4 * 5 + 2 * 5 + 4 * 5 + 8);
+    assert_eq!(script.len(), 2 * 4 + 5 * 2 + 4 * 5 + 2 * 6 + 4 * 5 + 8);
     let lent = || LentAreas { route: Area::new(16), log: Area::new(5), work: Area::new(8) };
     let room = ANSWER_WORDS * (calls.len() + 1);
     let (mut cuts, mut kinds, mut lists, mut made) = (0, 0, 0, 0);
@@ -798,7 +846,56 @@ fn scripts_that_end_early() {
         }
     }
     assert_eq!((cuts, kinds, lists), (script.len() + 1, 18 * 5, 18 * 4));
-    assert_eq!(made, 9 * 153 + 691);
+    assert_eq!(made, 9 * 153 + 719);
+}
+
+/// A time of a script is two words, the lower first, in a set and in a preview: all 64 bits count.
+#[test]
+fn times_in_scripts() {
+    const MAX: u32 = u32::MAX;
+    let map = maps::map_p();
+    // Road 1 of map P, from 10 to 10,000,000 or closed; the trip takes 20 with it at 10 and 25 round it.
+    for ([low, high], taken, total) in [
+        ([10, 0], true, 20),
+        ([12, 0], true, 22),
+        ([60, 0], true, 25),
+        ([10_000_000, 0], true, 25),
+        ([MAX, MAX], true, 25),
+        ([9, 0], false, 0),
+        ([10_000_001, 0], false, 0),
+        ([10, 1], false, 0),
+        ([12, MAX], false, 0),
+        ([0, 10], false, 0),
+        ([MAX, 0], false, 0),
+        ([MAX - 1, 0], false, 0),
+        ([0, MAX], false, 0),
+        ([MAX - 1, MAX], false, 0),
+        ([MAX, MAX - 1], false, 0),
+    ] {
+        let mut unit = Unit::new(&map.card().unwrap(), 4, 5, 5);
+        let go = [3, 0, 0, 4, 4];
+        let aim = [1, 3];
+        let script = [&aim[..], &[4, 0, 1, low, high, 0], &[0, 1, low, high], &go].concat();
+        let mut out = [7; 4 * ANSWER_WORDS];
+        let work = Area::new(8);
+        let mut lent = LentAreas { route: Area::new(4), log: Area::new(4), work };
+        unit.replay(lent.lend(), &script, &mut out).unwrap();
+        let first = |call: usize| &out[ANSWER_WORDS * call..][..4];
+        assert_eq!(first(0), [0; 4]);
+        let time = Time::from(low) + (Time::from(high) << 32);
+        if taken {
+            let change = total - 20;
+            assert_eq!(first(1), [0, 20, total, change], "a preview with {time}");
+            assert_eq!(first(2), [0; 4], "a set to {time}");
+            assert_eq!(first(3)[1], total, "a go after {time}");
+            assert_eq!(unit.live[1], time);
+        } else {
+            assert_eq!(first(1), [11, 0, 0, 0], "a preview with {time}");
+            assert_eq!(first(2), [11, 0, 0, 0], "a set to {time}");
+            assert_eq!(first(3)[1], 20, "a go after {time}");
+            assert_eq!(unit.live[1], 10);
+        }
+    }
 }
 
 /// Changes to lengths, each of which question 9 refuses, by the call's header.
@@ -810,19 +907,22 @@ fn wrong_lengths(unit: &Unit) -> Vec<(&'static str, Unit)> {
         unit.card.resize(other, 0);
         units.push(("card", unit));
     }
-    let pairs = 4 * unit.header.pairs as usize;
-    let most = 4 * MOST_PAIRS;
+    // Of the pairs' two areas, one alone has another length,
     for (which, (name, area)) in unit.areas().into_iter().enumerate() {
         let len = area.len();
-        let others = match which {
-            1 => [0, pairs - 4, pairs - 1, pairs + 1, pairs + 2, pairs + 3, most - 1, most + 4],
-            _ => [0, len / 2, len - 1, len + 1, len + 2, len + 4, 2 * len, len + 65_536],
-        };
-        for other in others {
+        for other in [0, len / 2, len - 1, len + 1, len + 2, len + 4, 2 * len, len + 65_536] {
             let mut unit = unit.clone();
             unit.areas_mut()[which].resize(other);
             units.push((name, unit));
         }
+    }
+    // or both the same one, which is odd, too little or too much.
+    let (pairs, most) = (RECORD * unit.header.pairs as usize, RECORD * MOST_PAIRS);
+    for other in [0, pairs - 2, pairs - 1, pairs + 1, pairs + 3, pairs + 5, most - 1, most + 2] {
+        let mut unit = unit.clone();
+        unit.pairs.resize(other);
+        unit.times.resize(other);
+        units.push(("pairs", unit));
     }
     units
 }
@@ -866,7 +966,7 @@ fn wrong_lengths_are_refused_first() {
             both.call(Call::Aim { junction: 1 });
         }
     }
-    assert_eq!(refusals, 4 * 2 * (10 + 8 * 8) * 2 * 8);
+    assert_eq!(refusals, 4 * 2 * (10 + (AREAS + 1) * 8) * 2 * 8);
 }
 
 /// The deepest map, a line in rank order, with no more stack than c/route_unit.h says.
@@ -884,7 +984,7 @@ fn on_a_small_stack() {
             let trip = unit.go(0, first, &mut route, &mut log).unwrap();
             assert_eq!((trip.count, trip.roads), (4_096, 4_095));
             unit.aim(last).unwrap();
-            assert_eq!(u64::from(unit.estimate(first).unwrap()), trip.total);
+            assert_eq!(unit.estimate(first).unwrap(), trip.total);
             unit.aim(last).unwrap();
             let mut work = vec![0; 2 * map.n()];
             let previewed = unit.preview(0, 0, CLOSED, first, &mut work).unwrap();
@@ -967,6 +1067,10 @@ fn allowed_times() {
             (LONGEST, true),
             (LONGEST + 1, false),
             (1 << 31, false),
+            ((1 << 32) - 2, false),
+            ((1 << 32) - 1, false),
+            ((1 << 32) + base, false),
+            (CLOSED - (1 << 32), false),
             (CLOSED - 2, false),
             (UNASKED, false),
             (CLOSED, true),

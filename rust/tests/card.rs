@@ -4,8 +4,10 @@ use harness::calls::Refusal;
 use harness::card::{self, EVERY_CLASS, LONGEST, MOST_JUNCTIONS, MOST_ROADS};
 use harness::damage::{CardDamage, Layout, Lent, MapDamage};
 use harness::maps::{self, Map, Streets};
+use harness::order;
 use harness::random::Random;
-use harness::unit;
+use harness::time::Time;
+use harness::unit::{self, Unit};
 
 type Reading = Result<(u32, u32), Refusal>;
 type Writing = Result<Vec<u8>, Refusal>;
@@ -440,7 +442,8 @@ fn every_byte_of_a_road() {
 /// `m` roads to and fro between two junctions, with the shortest and the longest base times, and an
 /// order of `n` junctions.
 fn to_and_fro(n: usize, m: usize) -> (Vec<u32>, Vec<u32>) {
-    let roads = [[0, 1, 1], [1, 0, LONGEST]].into_iter().cycle().take(m).flatten().collect();
+    let roads = [[0, 1, 1], [1, 0, LONGEST as u32]];
+    let roads = roads.into_iter().cycle().take(m).flatten().collect();
     (roads, (0..n as u32).rev().collect())
 }
 
@@ -498,10 +501,81 @@ const ROAD_FAULTS: &[Fault<[u32; 3]>] = &[
     ("ends equal", |road, _| road[1] = road[0]),
     ("ends equal, out of range", |road, n| (road[0], road[1]) = (n, n)),
     ("base 0", |road, _| road[2] = 0),
-    ("base 1,000,001", |road, _| road[2] = LONGEST + 1),
+    ("base 10,000,001", |road, _| road[2] = LONGEST as u32 + 1),
     ("base largest", |road, _| road[2] = u32::MAX),
     ("base highest byte first", |road, _| road[2] = 1 << 24),
 ];
+
+/// The longest base time before document 02's A7, in seconds.
+const LONGEST_BEFORE: u32 = 1_000_000;
+
+/// Old cards read as tenths: no number is scaled. Every card that was accepted, by a range of base times to 1,000,000,
+/// is so with the same numbers, on the card and in the live times that preparing leaves; those with times from there on
+/// to 10,000,000 are accepted too; 10,000,001 is refused by 5, with the first such road.
+#[test]
+fn base_times_of_old_cards_and_new() {
+    let mut random = Random::new(9);
+    let longest = LONGEST as u32;
+    let times = [
+        &[1, 2, 9, 10, 11, 65_535, 65_536, LONGEST_BEFORE - 1, LONGEST_BEFORE][..],
+        &[LONGEST_BEFORE + 1, LONGEST_BEFORE + 10, 9_999_999, longest, longest / 10 * 9],
+        &[longest + 1, longest + 10, 1 << 24, 10 * longest, 1 << 31, u32::MAX - 1, u32::MAX, 0],
+    ];
+    // Accepted before and now, now alone, and refused.
+    let mut met = [0; 3];
+    for i in 0..3_000 {
+        let most = random.pick(&[0, 0, 1, 1, 2]);
+        let mut map = maps::random(&mut random, 2 + i % 6, 1 + i % 17, LONGEST);
+        for road in &mut map.roads {
+            let old = random.within(1..=LONGEST_BEFORE.into());
+            let picked = random.pick(&times[..=most]);
+            road.base = if random.chance(50) { random.pick(picked).into() } else { old };
+        }
+        let (roads, order) = map.rows();
+        let bases: Vec<u32> = roads.iter().skip(2).step_by(3).copied().collect();
+        let answer = read_and_write(&roads, &order);
+        let outside = |longest| bases.iter().position(|&base| base < 1 || base > longest);
+        if let Some(road) = outside(longest) {
+            assert_eq!(answer, Err(Refusal::Road(road as u32)), "{bases:?}");
+            met[2] += 1;
+            continue;
+        }
+        assert_eq!(answer, Ok((map.n() as u32, map.m() as u32)), "{bases:?}");
+        met[outside(LONGEST_BEFORE).is_some() as usize] += 1;
+        let card = laid_out(&roads, &order);
+        assert_eq!(card::map(&card).map(|(words, ..)| words), Ok(roads), "other numbers");
+        let mut unit = Unit::new(&card, map.n(), map.m(), order::pairs(&map));
+        unit.prepare().expect("room for the pairs");
+        let live: Vec<Time> = bases.into_iter().map(Time::from).collect();
+        assert_eq!(unit.live[..], live);
+    }
+    assert!(met.iter().all(|&met| met > 300), "{met:?}");
+}
+
+/// Each end of the range, in each place of map P's roads.
+#[test]
+fn ends_of_the_base_times() {
+    let longest = LONGEST as u32;
+    assert_eq!(longest, 10_000_000);
+    for place in 0..5 {
+        for (base, taken) in [
+            (0, false),
+            (1, true),
+            (LONGEST_BEFORE, true),
+            (LONGEST_BEFORE + 1, true),
+            (longest - 1, true),
+            (longest, true),
+            (longest + 1, false),
+            (u32::MAX, false),
+        ] {
+            for mut parts in [Parts::of_map_p(), Parts::with_access()] {
+                parts.word(3 * place + 2, base);
+                let want = if taken { Ok((4, 5)) } else { Err(Refusal::Road(place as u32)) };
+                assert_eq!(read(&parts.card()), want, "road {place} with {base}");
+            }
+        }
+    }
+}
 
 /// Sizes of maps to look for the first failing entry in.
 const SIZES: [(usize, usize); 6] =

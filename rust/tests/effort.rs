@@ -5,7 +5,7 @@
 //! the two part.
 
 use harness::areas;
-use harness::both::{same, with_stack, Both};
+use harness::both::{with_stack, Both};
 use harness::brute;
 use harness::calls::{
     Accepted, Answer, Call, Calls, Previewed, Refusal, StopList, Stopped, Trip, CLASSES,
@@ -19,7 +19,7 @@ use harness::random::Random;
 use harness::search::search;
 use harness::time::{Time, CLOSED, NONE, UNASKED};
 use harness::traffic;
-use harness::unit::{LentAreas, Unit};
+use harness::unit::{same, LentAreas, Unit};
 
 /// A map, and what searches on it are to find, log and fill.
 struct Chart {
@@ -59,9 +59,11 @@ impl Chart {
         let total = times[target as usize];
         let mut due = Vec::new();
         for ((junction, &time), estimate) in (0..).zip(&times).zip(self.estimates(target)) {
-            let key = u64::from(time) + u64::from(estimate);
-            let both = time != NONE && estimate != NONE;
-            if both && (total == NONE || key <= u64::from(total)) {
+            if time == NONE || estimate == NONE {
+                continue;
+            }
+            let key = time + estimate;
+            if total == NONE || key <= total {
                 due.push((key, time, junction));
             }
         }
@@ -88,9 +90,7 @@ impl Chart {
                 .into_iter()
                 .chain(others)
                 .filter(|&(junction, _)| estimates[junction as usize] != NONE)
-                .min_by_key(|&(junction, time)| {
-                    (u64::from(time) + u64::from(estimates[junction as usize]), junction)
-                });
+                .min_by_key(|&(junction, time)| (time + estimates[junction as usize], junction));
             let Some((junction, time)) = choice else { break };
             times[junction as usize] = time;
             log.push((junction, time));
@@ -112,7 +112,7 @@ impl Chart {
         for (place, &(junction, time)) in log.iter().enumerate() {
             (elapsed[junction as usize], places[junction as usize]) = (time, Some(place));
         }
-        let total = places[target as usize].map(|place: usize| u64::from(log[place].1));
+        let total = places[target as usize].map(|place: usize| log[place].1);
         // Back from the target: into each junction, the smallest-numbered open road from an earlier one that gives
         // its time.
         let mut route = Vec::new();
@@ -197,6 +197,7 @@ impl Trial {
                 met.bars.count(&self.chart, &self.live, class, start, self.target, &new);
                 met.go.other_fills += self.shown(&new.fills, &old.fills) as usize;
                 met.changed += (self.live != self.chart.map().base()) as usize;
+                met.past_32_bits += new.total.is_some_and(|total| total >> 32 > 0) as usize;
                 met.closed += self.live.contains(&CLOSED) as usize;
                 met.asked += self.estimates.iter().any(|&estimate| estimate != UNASKED) as usize;
                 self.made(&new, lent, 0);
@@ -295,6 +296,8 @@ struct Met {
     changed: usize,
     closed: usize,
     asked: usize,
+    /// Goes whose total is 2^32 or more.
+    past_32_bits: usize,
     /// Of lists of stops, the last leg or the failing one.
     last_leg: Searches,
     previews: usize,
@@ -389,8 +392,7 @@ impl Searches {
     fn count(&mut self, chart: &Chart, live: &[Time], target: u32, new: &Searched, old: &Searched) {
         let estimates = chart.estimates(target);
         let time = |junction: u32| new.elapsed[junction as usize];
-        let key =
-            |junction: u32| u64::from(time(junction)) + u64::from(estimates[junction as usize]);
+        let key = |junction: u32| time(junction) + estimates[junction as usize];
         for two in new.log.windows(2).filter(|two| key(two[0]) == key(two[1])) {
             self.by_time += (time(two[0]) < time(two[1])) as usize;
             self.by_number += (time(two[0]) == time(two[1])) as usize;
@@ -654,6 +656,30 @@ fn grids() {
             ..Searches::default()
         };
         assert!(met.go.at_least(least), "{met:?}");
+    });
+}
+
+/// On slow roads: totals and keys have more than 32 bits, and with all times the same nearly all of them tie.
+#[test]
+fn totals_past_32_bits() {
+    with_stack(|| {
+        let mut random = Random::new(4);
+        let mut met = Met::default();
+        for less in [0, 0, 3] {
+            let map = maps::slow_road(&mut random, 900, less);
+            let live = map.base();
+            let mut trial = at_times(map, live, 0, &mut met);
+            for _ in 0..6 {
+                let [junction, start] =
+                    [random.below(60), 840 + random.below(60)].map(|at| at as u32);
+                let ends = random.pick(&[[junction, start], [start, junction]]);
+                trial.call(Call::Aim { junction: ends[0] }, &mut met);
+                trial.call(Call::Go { class: 0, start: ends[1], route: 900, log: 900 }, &mut met);
+            }
+        }
+        let Searches { found, by_time, by_number, at_the_total, .. } = met.go;
+        assert!(met.past_32_bits > 12 && found > 15 && by_time > 1_000, "{met:?}");
+        assert!(by_number > 100 && at_the_total > 8, "{met:?}");
     });
 }
 

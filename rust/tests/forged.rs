@@ -4,7 +4,9 @@
 //! its target. A preview's change is right wherever both totals are answered, and its questions are asked of
 //! whatever words there are. A list of stops asks its questions so, and is then an aim and a go for each leg, up to
 //! one whose go answers no route. A header out of range is refused, by 9, whatever the lengths; so is a card whose
-//! table does not name bodies for the header's numbers inside the card (document 02, A6).
+//! table does not name bodies for the header's numbers inside the card (document 02, A6). Entries of 64 bits, which a
+//! sum of two may pass, wrap in none (A7): where only times are forged, down totals and estimates are those that sums of
+//! 128 bits give, with none where one does not fit below the marks, and a go's times and total are sums of live times.
 
 use harness::both::with_stack;
 use harness::calls::{
@@ -15,9 +17,11 @@ use harness::damage::{CardDamage, Layout};
 use harness::maps::{self, Streets};
 use harness::order::{self, MOST_PAIRS};
 use harness::random::{setting, Random};
-use harness::time::{CLOSED, NONE, UNASKED};
+use harness::time::{Time, CLOSED, NONE, UNASKED};
 use harness::traffic;
-use harness::unit::{Header, LentAreas, Unit};
+use harness::unit::{same, Header, HeldMut, LentAreas, Unit, AREAS, RECORD};
+use std::fs;
+use std::path::Path;
 
 /// What the words of an area are taken from.
 #[derive(Clone, Copy, Debug)]
@@ -37,34 +41,72 @@ impl Words {
     const ALL: [Words; 6] =
         [Words::Any, Words::Small, Words::Times, Words::Ascending, Words::Zero, Words::Unasked];
 
+    /// A word of 32 bits.
     fn word(self, random: &mut Random, place: usize, n: usize) -> u32 {
-        let times = [0, 1, LONGEST, 1 << 31, UNASKED - LONGEST, UNASKED - 1, UNASKED, NONE];
         match self {
             Words::Any => random.word(),
             Words::Small => random.below(n + 1) as u32,
-            Words::Times => random.pick(&times),
+            Words::Times => random.pick(&[0, 1, LONGEST as u32, 1 << 31, u32::MAX - 1, u32::MAX]),
             Words::Ascending => place as u32,
             Words::Zero => 0,
+            Words::Unasked => UNASKED as u32,
+        }
+    }
+
+    /// A time. Any is of any number of bits.
+    fn time(self, random: &mut Random, place: usize, n: usize) -> Time {
+        match self {
+            Words::Any => random.bits() >> random.below(64),
+            Words::Times => forged_time(random),
             Words::Unasked => UNASKED,
+            Words::Small | Words::Ascending | Words::Zero => self.word(random, place, n).into(),
         }
     }
 }
 
-fn noise(random: &mut Random, area: &mut [u32], n: usize) {
+/// A time that may be near or past what its word, or a word that holds more beside it, has room for: at 2^64 and the
+/// marks, 2^63, 2^50, 2^38 and 2^32; or an allowed one.
+fn forged_time(random: &mut Random) -> Time {
+    let near = random.below(40) as Time;
+    match random.below(9) {
+        0 => random.pick(&[UNASKED, NONE]),
+        1 => UNASKED - 1 - near,
+        2 => UNASKED - LONGEST + near,
+        3 => (1 << 63) - 20 + near,
+        4 => (1 << 50) - 20 + near,
+        5 => (1 << 38) - 20 + near,
+        6 => (1 << 32) - 20 + near,
+        7 => random.pick(&[0, 1, LONGEST - 1, LONGEST]),
+        _ => random.bits() >> random.below(64),
+    }
+}
+
+fn noise(random: &mut Random, area: HeldMut, n: usize) {
     let words = random.pick(&Words::ALL);
-    for (place, word) in area.iter_mut().enumerate() {
-        *word = words.word(random, place, n);
+    match area {
+        HeldMut::Words(area) => {
+            for (place, word) in area.iter_mut().enumerate() {
+                *word = words.word(random, place, n);
+            }
+        }
+        HeldMut::Times(area) => {
+            for (place, word) in area.iter_mut().enumerate() {
+                *word = words.time(random, place, n);
+            }
+        }
     }
 }
 
 /// Records that mostly lead upwards, with any times: long walks.
-fn records(random: &mut Random, area: &mut [u32], n: usize) {
-    let count = area.len() / 4;
-    for (i, record) in area.as_chunks_mut().0.iter_mut().enumerate() {
+fn records(random: &mut Random, unit: &mut Unit, n: usize) {
+    let count = unit.pairs.len() / RECORD;
+    for (i, ranks) in unit.pairs.as_chunks_mut().0.iter_mut().enumerate() {
         let low = i * n / count;
         let high = low + 1 + random.below(3);
-        let times = [0, 1, LONGEST, UNASKED - 1, UNASKED, NONE];
-        *record = [low as u32, high as u32, random.pick(&times), random.pick(&times)];
+        *ranks = [low as u32, high as u32];
+    }
+    for time in unit.times.iter_mut() {
+        *time = forged_time(random);
     }
 }
 
@@ -169,7 +211,7 @@ fn forge_on(random: &mut Random, card: &[u8], [n, m]: [usize; 2], room: usize) -
         noise(random, area, n);
     }
     if random.chance(50) {
-        records(random, &mut unit.pairs, n);
+        records(random, &mut unit, n);
     }
     if random.chance(50) {
         ascending_groups(random, &mut unit, m);
@@ -227,21 +269,27 @@ fn damage(random: &mut Random) -> Unit {
     let mut unit = used(random);
     let (n, layout) = (unit.header.n as usize, layout(&unit));
     for _ in 0..=random.below(6) {
-        match random.below(12) {
+        match random.below(4 + AREAS) {
             0 => CardDamage::RoadWord.apply(random, &mut unit.card, layout),
             1 => CardDamage::OrderWord.apply(random, &mut unit.card, layout),
-            11 => CardDamage::AccessByte.apply(random, &mut unit.card, layout),
-            2 => unit.header = Header { target: number(random, n), ..unit.header },
-            which => {
-                let area = &mut unit.areas_mut()[which - 3];
-                if !area.is_empty() {
-                    let place = random.below(area.len());
-                    area[place] = random.pick(&Words::ALL).word(random, place, n);
-                }
-            }
+            2 => CardDamage::AccessByte.apply(random, &mut unit.card, layout),
+            3 => unit.header = Header { target: number(random, n), ..unit.header },
+            which => damage_word(random, &mut unit.areas_mut()[which - 4], n),
         }
     }
     unit
+}
+
+/// Another word of an area, if it has one.
+fn damage_word(random: &mut Random, area: &mut HeldMut, n: usize) {
+    if area.len() == 0 {
+        return;
+    }
+    let (words, place) = (random.pick(&Words::ALL), random.below(area.len()));
+    match area {
+        HeldMut::Words(area) => area[place] = words.word(random, place, n),
+        HeldMut::Times(area) => area[place] = words.time(random, place, n),
+    }
 }
 
 /// Where the words of its card stand.
@@ -338,15 +386,17 @@ fn call(random: &mut Random, unit: &Unit) -> Call {
     let n = unit.header.n as usize;
     match random.below(12) {
         0 => {
-            let time = [LONGEST, CLOSED, random.word()];
+            let time = [LONGEST, CLOSED, CLOSED, random.bits(), forged_time(random)];
             Call::Set { road: number(random, unit.header.m as usize), time: random.pick(&time) }
         }
         1 => Call::Aim { junction: number(random, n) },
         2..4 => Call::Estimate { junction: number(random, n) },
         4..6 => {
             let (road, any) = (number(random, unit.header.m as usize), number(random, n));
-            let [tail, _, base] = road_on(unit, road).unwrap_or([any, any, LONGEST]);
-            let times = [base, base, CLOSED, CLOSED, random.within(1..=LONGEST), random.word()];
+            let [tail, _, base] = road_on(unit, road).unwrap_or([any, any, LONGEST as u32]);
+            let base = Time::from(base);
+            let others = [random.within(1..=LONGEST), forged_time(random)];
+            let times = [base, base, CLOSED, CLOSED, others[0], others[1]];
             let (time, start) = (random.pick(&times), random.pick(&[tail, any]));
             let work = 2 * n + random.pick(&[0, 0, 0, 0, 0, 0, 0, 1, n]);
             Call::Preview { class: class(random), road, time, start, work }
@@ -469,7 +519,8 @@ impl Previews {
     fn refusal(unit: &Unit, call: Call) -> Option<Refusal> {
         let Call::Preview { class, road, time, start, work } = call else { panic!("no preview") };
         let Header { n, m, aimed, target, .. } = unit.header;
-        let allowed = |[_, _, base]: [u32; 3]| (base..=LONGEST).contains(&time) || time == CLOSED;
+        let allowed =
+            |[_, _, base]: [u32; 3]| (Time::from(base)..=LONGEST).contains(&time) || time == CLOSED;
         if work != 2 * n as usize {
             Some(Refusal::Lengths)
         } else if class > 7 {
@@ -498,6 +549,10 @@ impl Previews {
         };
         match (present, new) {
             (Some(present), Some(new)) => {
+                assert!(
+                    present.max(new) < 1 << 63,
+                    "{call:?}: a total that no change has room for"
+                );
                 let difference = i128::from(new) - i128::from(present);
                 assert_eq!(change.map(i128::from), Some(difference), "{present}, {new}");
                 self.changes[(1 + difference.signum()) as usize] += 1;
@@ -575,7 +630,7 @@ fn refusal(unit: &Unit, call: Call) -> Option<Refusal> {
     let questions = match call {
         Call::Set { road, time } => {
             let base = road_on(unit, road).map(|[_, _, base]| base);
-            let allowed = |base: u32| time == CLOSED || (base <= time && time <= LONGEST);
+            let allowed = |base: u32| time == CLOSED || (base.into()..=LONGEST).contains(&time);
             vec![(base.is_some(), Refusal::NoRoad), (base.is_none_or(allowed), Refusal::NotAllowed)]
         }
         Call::Aim { junction } => vec![below(junction)],
@@ -600,8 +655,14 @@ fn count_of(answer: Answer) -> usize {
     }
 }
 
+/// What a call answers, and the areas that it was lent.
+struct Made {
+    answer: Answer,
+    lent: LentAreas,
+}
+
 /// Makes a call, and looks at what it may not alter.
-fn free_call(unit: &mut Unit, call: Call, met: &mut Met) {
+fn free_call(unit: &mut Unit, call: Call, met: &mut Met) -> Made {
     let before = unit.clone();
     let mut lent = LentAreas::of(call);
     let answer = unit.call(call, lent.lend());
@@ -617,7 +678,7 @@ fn free_call(unit: &mut Unit, call: Call, met: &mut Met) {
         assert!(lent == LentAreas::of(call), "{call:?} alters a lent area");
         met.refusals[9] += 1;
         met.unnamed[which(call)] += 1;
-        return;
+        return Made { answer, lent };
     }
     if let Some(refusal) = refusal(&before, call) {
         assert_eq!(answer.err(), Some(refusal), "{call:?}, {old:?}");
@@ -669,10 +730,11 @@ fn free_call(unit: &mut Unit, call: Call, met: &mut Met) {
             _ => (),
         }
     }
+    Made { answer, lent }
 }
 
 /// No filled estimate is altered. How many there are.
-fn kept(before: &[u32], after: &[u32], call: Call) -> usize {
+fn kept(before: &[Time], after: &[Time], call: Call) -> usize {
     let mut filled = 0;
     for (junction, (&old, &new)) in before.iter().zip(after).enumerate() {
         if old != UNASKED {
@@ -681,6 +743,264 @@ fn kept(before: &[u32], after: &[u32], call: Call) -> usize {
         }
     }
     filled
+}
+
+/// A prepared and used unit with all as it is to be but for times: of each area of them some words, or all.
+fn forge_times(random: &mut Random) -> Unit {
+    let mut unit = used(random);
+    for area in unit.areas_mut() {
+        if let HeldMut::Times(area) = area {
+            let percent = random.pick(&[0, 5, 30, 100]);
+            for word in area.iter_mut() {
+                if random.chance(percent) {
+                    *word = forged_time(random);
+                }
+            }
+        }
+    }
+    if random.chance(60) {
+        unit.estimates.fill(UNASKED);
+    }
+    unit
+}
+
+/// What stood in the areas of times, and what was added up.
+#[derive(Debug, Default)]
+struct Forged {
+    /// Words: marks, and those near 2^64, 2^63, 2^50, 2^38 and 2^32.
+    words: [usize; 6],
+    /// Of down totals, of estimates, of a candidate's times and of keys.
+    sums: [Sums; 4],
+    /// The end of a candidate's keys, and those that are not below it, and below.
+    most: Time,
+    keys: [usize; 2],
+    /// Trips whose roads are summed up, and previews beside two goes, with a total and without.
+    trips: usize,
+    previews: [usize; 2],
+}
+
+/// Sums of two words below the marks.
+#[derive(Clone, Copy, Debug, Default)]
+struct Sums {
+    /// Of 2^64 and more, which would wrap.
+    wrapping: usize,
+    /// The marks' words themselves.
+    at_a_mark: usize,
+    /// Those that fit, of 2^63, of 2^50, of 2^38 and of 2^32 and more, and the rest.
+    fitting: [usize; 5],
+}
+
+impl Sums {
+    /// The sum of two words as it is to be: none where it does not fit below the marks.
+    fn sum(&mut self, a: Time, b: Time) -> Time {
+        let sum = u128::from(a) + u128::from(b);
+        let fits = sum < u128::from(UNASKED);
+        if a < UNASKED && b < UNASKED {
+            match sum >> 64 {
+                0 if fits => {
+                    let place = [63, 50, 38, 32, 0].iter().position(|&bits| sum >> bits > 0);
+                    self.fitting[place.unwrap_or(4)] += 1;
+                }
+                0 => self.at_a_mark += 1,
+                _ => self.wrapping += 1,
+            }
+        }
+        if fits {
+            sum as Time
+        } else {
+            NONE
+        }
+    }
+
+    fn all(&self) -> Vec<usize> {
+        [&[self.wrapping, self.at_a_mark][..], &self.fitting].concat()
+    }
+}
+
+impl Forged {
+    fn new() -> Forged {
+        let source =
+            Path::new(env!("CARGO_MANIFEST_DIR")).join("../crates/search_queue/src/lib.rt");
+        let source = fs::read_to_string(source).expect("the queue's source");
+        let (_, rest) = source.split_once("pub const SETTLED: u64 = ").expect("the end of keys");
+        let (most, _) = rest.split_once(';').expect("a number");
+        Forged { most: most.parse().expect("a number"), ..Forged::default() }
+    }
+
+    fn count_words(&mut self, unit: &Unit) {
+        let near = |word: Time, bits: u32| word.abs_diff(1 << bits) < 100;
+        for &word in [&unit.times, &unit.live, &unit.down, &unit.estimates]
+            .into_iter()
+            .flat_map(|area| area.iter())
+        {
+            self.words[0] += (word >= UNASKED) as usize;
+            self.words[1] += (word < UNASKED && NONE - word < 100) as usize;
+            for (met, bits) in self.words[2..].iter_mut().zip([63, 50, 38, 32]) {
+                *met += near(word, bits) as usize;
+            }
+        }
+    }
+
+    /// The down totals of a target: each record in turn hands its lower junction's total on to its higher one.
+    fn down_totals(&mut self, unit: &Unit, target: u32) -> Vec<Time> {
+        let order = order_of(unit);
+        let mut totals = vec![NONE; order.len()];
+        totals[target as usize] = 0;
+        for &(low, high, _, down) in &unit.records()[..unit.header.pairs as usize] {
+            let rest = totals[order[low as usize]];
+            if rest != NONE {
+                let total = self.sums[0].sum(down, rest);
+                let old = &mut totals[order[high as usize]];
+                *old = total.min(*old);
+            }
+        }
+        totals
+    }
+
+    /// The estimate of a junction, filled with those that it asks for: unasked, as a forged down total may be, is none.
+    fn estimate(
+        &mut self,
+        unit: &Unit,
+        order: &[usize],
+        estimates: &mut [Time],
+        at: usize,
+    ) -> Time {
+        if estimates[at] != UNASKED {
+            return estimates[at];
+        }
+        let mut least = unit.down[at];
+        for (low, high, up, _) in unit.records() {
+            if low == unit.ranks[at] && high > low && up != NONE {
+                let above = self.estimate(unit, order, estimates, order[high as usize]);
+                least = self.sums[1].sum(up, above).min(least);
+            }
+        }
+        estimates[at] = if least == UNASKED { NONE } else { least };
+        estimates[at]
+    }
+
+    /// The log of a go, the times and the estimates that it leaves: by key, time and number, as ever, where a key that
+    /// the queue has no room for is no candidate's.
+    fn search(&mut self, unit: &Unit, class: u32, start: u32) -> (Vec<u32>, Vec<Time>, Vec<Time>) {
+        let (n, order) = (unit.ranks.len(), order_of(unit));
+        let (mut log, mut elapsed) = (Vec::new(), vec![NONE; n]);
+        let mut estimates = unit.estimates.to_vec();
+        let mut candidates: Vec<Option<(Time, Time)>> = vec![None; n];
+        let mut offers = vec![(start as usize, 0)];
+        loop {
+            for (head, time) in offers.drain(..) {
+                let ahead = self.estimate(unit, &order, &mut estimates, head);
+                let key = self.sums[3].sum(time, ahead);
+                let sooner = candidates[head].is_none_or(|(_, old)| time < old);
+                if time != NONE && elapsed[head] == NONE && sooner {
+                    self.keys[(key < self.most) as usize] += 1;
+                    candidates[head] = (key < self.most).then_some((key, time));
+                }
+            }
+            let waiting = (0..).zip(&candidates).filter_map(|(at, &keyed)| Some((keyed?, at)));
+            let Some(((_, time), junction)) = waiting.min() else { break };
+            (elapsed[junction as usize], candidates[junction as usize]) = (time, None);
+            log.push(junction);
+            if junction == unit.header.target {
+                break;
+            }
+            for road in open_from(unit, class, junction) {
+                let head = road_on(unit, road).expect("a road of the map")[1] as usize;
+                offers.push((head, self.sums[2].sum(time, unit.live[road as usize])));
+            }
+        }
+        (log, elapsed, estimates)
+    }
+
+    /// A go logs what it is to, its times are sums that fit, and its roads take its total.
+    fn check_go(
+        &mut self,
+        before: &Unit,
+        after: &Unit,
+        call: Call,
+        lent: &LentAreas,
+        answer: Answer,
+    ) {
+        let Call::Go { class, start, .. } = call else { panic!("no go") };
+        let (log, elapsed, estimates) = self.search(before, class, start);
+        assert_eq!(lent.log[..count_of(answer)], log, "{call:?}");
+        same("elapsed", &after.elapsed, &elapsed);
+        same("estimates", &after.estimates, &estimates);
+        let total = elapsed[before.header.target as usize];
+        let Ok(Accepted::Trip(trip)) = answer else {
+            assert_eq!(total, NONE, "{call:?}: {answer:?}");
+            return;
+        };
+        let (mut at, mut sum) = (start, 0);
+        for &road in &lent.route[..trip.roads as usize] {
+            let mut roads = open_from(before, class, at);
+            assert!(roads.any(|other| other == road), "{call:?}: road {road} from {at}");
+            sum += u128::from(before.live[road as usize]);
+            at = road_on(before, road).expect("a road of the map")[1];
+        }
+        assert_eq!((at, sum), (before.header.target, trip.total.into()), "{call:?}");
+        assert_eq!(trip.total, total, "{call:?}");
+        self.trips += 1;
+    }
+
+    /// A preview beside two goes, the second at that time.
+    fn check_preview(&mut self, before: &Unit, after: &Unit, call: Call, answer: Answer) {
+        let Call::Preview { class, road, time, start, .. } = call else { panic!("no preview") };
+        let Ok(Accepted::Previewed(Previewed { present, new, .. })) = answer else { return };
+        let mut unit = before.clone();
+        let n = unit.header.n as usize;
+        let total = |unit: &mut Unit| {
+            let trip = unit.go(class, start, &mut vec![0; n], &mut vec![0; n]).ok()?;
+            Some(trip.total).filter(|&total| total < 1 << 63)
+        };
+        let now = total(&mut unit);
+        unit.live[road as usize] = time;
+        let then = total(&mut unit);
+        assert_eq!((present, new), (now, then), "{call:?}: a preview (left), two goes (right)");
+        assert!(unit.estimates == after.estimates, "{call:?}: other estimates than by two goes");
+        self.previews[now.is_none() as usize] += 1;
+    }
+
+    /// Makes a call, and compares what it answers and leaves.
+    fn call(&mut self, unit: &mut Unit, call: Call, met: &mut Met) {
+        let before = unit.clone();
+        let Made { answer, lent } = free_call(unit, call, met);
+        match (call, answer) {
+            (Call::Aim { junction }, Ok(_)) => {
+                let totals = self.down_totals(&before, junction);
+                same("down totals", &unit.down, &totals);
+            }
+            (Call::Estimate { junction }, Ok(answer)) => {
+                let (order, mut estimates) = (order_of(&before), before.estimates.to_vec());
+                let want = self.estimate(&before, &order, &mut estimates, junction as usize);
+                assert_eq!(answer, Accepted::Estimate(want), "{call:?}");
+                same("estimates", &unit.estimates, &estimates);
+            }
+            (Call::Go { .. }, Ok(_) | Err(Refusal::NoPath(_))) => {
+                self.check_go(&before, unit, call, &lent, answer);
+            }
+            (Call::Preview { .. }, _) => self.check_preview(&before, unit, call, answer),
+            _ => (),
+        }
+    }
+}
+
+/// The roads of a junction's group that are open for a class.
+fn open_from(unit: &Unit, class: u32, junction: u32) -> impl Iterator<Item = u32> + '_ {
+    let [a, b] = [0, 1].map(|next| unit.groups[junction as usize + next] as usize);
+    unit.leaving[a..b].iter().copied().filter(move |&road| {
+        let access = body(&unit.card, 2).get(road as usize);
+        access.is_none_or(|byte| byte >> class & 1 == 1) && unit.live[road as usize] != CLOSED
+    })
+}
+
+/// The junctions by rank.
+fn order_of(unit: &Unit) -> Vec<usize> {
+    let mut order = vec![0; unit.ranks.len()];
+    for (junction, &rank) in unit.ranks.iter().enumerate() {
+        order[rank as usize] = junction;
+    }
+    order
 }
 
 /// Makes calls on one unit after another.
@@ -738,6 +1058,78 @@ fn damaged_states() {
         let Lists { refusals, lost, found } = met.lists;
         let met_each = found.iter().chain(&lost).all(|&met| met > calls / 200);
         assert!(refusals[0] > calls / 50 && met_each, "{met:?}");
+    });
+}
+
+/// All is as it is to be, but for times: no sum wraps, and none of a mark is a time.
+#[test]
+fn forged_times() {
+    with_stack(|| {
+        let calls = setting("CALLS_LENGTH", 60_000);
+        let mut random = Random::new((setting("CALLS_SEED", 0) + 5) as u64);
+        let (mut met, mut forged) = (Met::default(), Forged::new());
+        while met.refusals.iter().sum::<usize>() < calls {
+            let mut unit = forge_times(&mut random);
+            forged.count_words(&unit);
+            for _ in 0..=random.below(6) {
+                let call = call(&mut random, &unit);
+                forged.call(&mut unit, call, &mut met);
+            }
+        }
+        assert!(met.refusals[0] > calls / 3 && met.refusals[15] > calls / 50, "{met:?}");
+        assert!(forged.words.iter().all(|&met| met > calls), "{forged:?}");
+        let Forged { sums, keys, trips, previews, .. } = &forged;
+        let enough = |sums: &Sums, least| sums.all().iter().all(|&met| met > least);
+        assert!(sums.iter().all(|sums| enough(sums, calls / 5_000)), "{forged:?}");
+        let wrapping = sums.map(|sums| sums.wrapping);
+        assert!(wrapping.iter().all(|&met| met > calls / 60), "{forged:?}");
+        assert!(keys.iter().all(|&met| met > calls / 10), "{forged:?}");
+        assert!(
+            *trips > calls / 100 && previews.iter().all(|&met| met > calls / 200),
+            "{forged:?}"
+        );
+    });
+}
+
+/// A whole map's times just below what a search's words have room for, and just past it: with times of 2^38 and more no
+/// junction but the start is logged, or what is logged has its sums.
+#[test]
+fn times_at_the_end_of_a_word() {
+    with_stack(|| {
+        let map = maps::line(40);
+        let (n, m) = (map.n(), map.m());
+        let mut prepared =
+            Unit::new(&map.card().expect("a map in range"), n, m, order::pairs(&map));
+        prepared.prepare().expect("room for the pairs");
+        prepared.aim(n as u32 - 1).expect("a junction");
+        let (mut met, mut forged) = (Met::default(), Forged::new());
+        for bits in [31, 32, 36, 37, 38, 39, 49, 50, 51, 62, 63] {
+            for by in [-2_i64, -1, 0, 1, 2] {
+                let time = (1_u64 << bits).wrapping_add_signed(by);
+                for (live, estimates) in [(time, 0), (time, time), (time / 40, 7), (LONGEST, time)]
+                {
+                    let mut unit = prepared.clone();
+                    unit.live.fill(live);
+                    unit.estimates.fill(estimates);
+                    for call in [
+                        Call::Go { class: 0, start: 0, route: n, log: n },
+                        Call::Preview { class: 0, road: 3, time: CLOSED, start: 0, work: 2 * n },
+                        Call::Stops {
+                            class: 0,
+                            stops: StopList::of(&[0, 39, 0]),
+                            route: 3 * n,
+                            log: n,
+                        },
+                    ] {
+                        forged.call(&mut unit, call, &mut met);
+                    }
+                }
+            }
+        }
+        assert!(
+            met.refusals[0] > 100 && met.refusals[15] > 50 && forged.trips > 50,
+            "{met:?}, {forged:?}"
+        );
     });
 }
 
@@ -814,7 +1206,8 @@ fn each_word_of_the_smallest_tables() {
             &[3, 8 + 12 * sections, 0][..if sections == 3 { 3 } else { 0 }],
             &[0][..],
         ];
-        let card: Vec<u8> = card.concat().iter().flat_map(|word: &u32| word.to_le_bytes()).collect();
+        let card: Vec<u8> =
+            card.concat().iter().flat_map(|word: &u32| word.to_le_bytes()).collect();
         let mut prepared = Unit::new(&card, 1, 0, 0);
         prepared.prepare().expect("no pairs");
         prepared.aim(0).expect("a junction");
@@ -838,7 +1231,10 @@ fn each_word_of_the_smallest_tables() {
             }
         }
     }
-    assert!(cards > 500 && unnamed > 150 && cards - unnamed > 100 && beyond > 5, "{cards}, {unnamed}, {beyond}");
+    assert!(
+        cards > 500 && unnamed > 150 && cards - unnamed > 100 && beyond > 5,
+        "{cards}, {unnamed}, {beyond}"
+    );
 }
 
 /// Every other junction's group is all roads, and those between end before they start. No road to the target is
@@ -886,9 +1282,10 @@ fn no_entry_is_asked_twice() {
         let mut unit = Unit::new(&map.card().expect("a map in range"), n, map.m(), 2 * n);
         unit.prepare().expect("room for the pairs");
         unit.aim(0).expect("a junction");
-        for (i, record) in unit.pairs.as_chunks_mut().0.iter_mut().enumerate() {
-            *record = [i as u32 / 2, i as u32 / 2 + 1 + i as u32 % 2, 0, NONE];
+        for (i, ranks) in unit.pairs.as_chunks_mut().0.iter_mut().enumerate() {
+            *ranks = [i as u32 / 2, i as u32 / 2 + 1 + i as u32 % 2];
         }
+        unit.times.as_chunks_mut().0.fill([0, NONE]);
         unit.header.pairs = 2 * n as u32;
         let mut met = Met::default();
         for estimate in [UNASKED, UNASKED - 1, NONE] {

@@ -1,21 +1,22 @@
 //! Preparing, aim and estimate of the proved unit, beside the plain router and Dijkstra searches.
 
-use harness::both::{same, with_stack, Both};
+use harness::both::{with_stack, Both};
 use harness::by_tail::Listed;
 use harness::calls::{Accepted, Call, Calls, Refusal};
 use harness::card::{self, LONGEST, MOST_JUNCTIONS};
 use harness::damage::{CardDamage, Layout};
 use harness::dijkstra;
 use harness::graph::Graph;
+use harness::hierarchy::Record;
 use harness::maps::{self, Map, Road, Streets};
 use harness::order::{self, MOST_PAIRS};
 use harness::random::Random;
 use harness::time::{Time, NONE, UNASKED};
-use harness::unit::{Header, Unit};
+use harness::unit::{same, Header, Unit, AREAS, RECORD};
 
 /// The records of a map, and for each target the down totals: by searches from and to each junction over
 /// junctions that rank below it.
-fn by_searches(map: &Map, targets: &[u32]) -> (Vec<[u32; 4]>, Vec<Vec<Time>>) {
+fn by_searches(map: &Map, targets: &[u32]) -> (Vec<Record>, Vec<Vec<Time>>) {
     let (graph, base) = (Graph::new(map), map.base());
     let mut ranks = vec![0; map.n()];
     for (rank, &junction) in map.order.iter().enumerate() {
@@ -30,7 +31,7 @@ fn by_searches(map: &Map, targets: &[u32]) -> (Vec<[u32; 4]>, Vec<Vec<Time>>) {
         for (high, &other) in map.order.iter().enumerate().skip(low + 1) {
             let (up, down) = (ups[other as usize], downs[other as usize]);
             if up != NONE || down != NONE {
-                records.push([low as u32, high as u32, up, down]);
+                records.push((low as u32, high as u32, up, down));
             }
         }
         for (&target, down) in targets.iter().zip(&mut down) {
@@ -44,13 +45,22 @@ fn by_searches(map: &Map, targets: &[u32]) -> (Vec<[u32; 4]>, Vec<Vec<Time>>) {
     (records, down)
 }
 
+/// How many times of pairs, down totals and estimates are 2^32 or more, and no mark.
+fn past_32_bits(unit: &Unit) -> [usize; 3] {
+    let past =
+        |area: &[Time]| area.iter().filter(|&&time| time >> 32 > 0 && time < UNASKED).count();
+    [past(&unit.times), past(&unit.down), past(&unit.estimates)]
+}
+
 /// Prepares a map with room for just its pairs, which are those that searches find. Then, for each
-/// target, aims and asks for all estimates, from the lowest rank first and then in any order.
-fn check_map(random: &mut Random, map: &Map, targets: &[u32]) {
+/// target, aims and asks for all estimates, from the lowest rank first and then in any order. How many of the times
+/// that it then holds pass 2^32.
+fn check_map(random: &mut Random, map: &Map, targets: &[u32]) -> [usize; 3] {
+    let mut past = [0; 3];
     let (records, down) = by_searches(map, targets);
     assert_eq!(records.len(), order::pairs(map));
     let mut both = Both::prepare(map, records.len()).unwrap();
-    same("pairs", &both.unit.pairs, &records.concat());
+    assert!(both.unit.records() == records, "other records than by searches");
     same("live times", &both.unit.live, &map.base());
     let graph = Graph::new(map);
     for (&target, down) in targets.iter().zip(&down) {
@@ -65,7 +75,11 @@ fn check_map(random: &mut Random, map: &Map, targets: &[u32]) {
         }
         same("estimates", &both.unit.estimates, &least);
         both.check();
+        for (sum, past) in past.iter_mut().zip(past_32_bits(&both.unit)) {
+            *sum += past;
+        }
     }
+    past
 }
 
 /// Targets of the lowest, of a middling and of the highest rank, and any other.
@@ -123,11 +137,19 @@ fn hostile_maps() {
             maps::ring(n),
             maps::ring_with_bypass(n),
             maps::wide_keys(n),
+            maps::slow_road(&mut random, n, 9),
+            maps::slow_road(&mut random, n - 1_000, LONGEST / 2),
         ];
         maps.extend(maps::wide_sums(n));
+        let mut past = [0; 3];
         for map in maps {
-            check_map(&mut random, &map, &[0, n as u32 - 2, n as u32 - 1]);
+            let n = map.n() as u32;
+            let met = check_map(&mut random, &map, &[0, n - 2, n - 1]);
+            for (sum, past) in past.iter_mut().zip(met) {
+                *sum += past;
+            }
         }
+        assert!(past[0] > 50_000 && past[1] > 5_000 && past[2] > 50_000, "{past:?} past 2^32");
     });
 }
 
@@ -136,7 +158,7 @@ fn hostile_maps() {
 fn the_largest_least_total() {
     with_stack(|| {
         let n = MOST_JUNCTIONS as u32;
-        let largest = (n - 1) * LONGEST;
+        let largest = Time::from(n - 1) * LONGEST;
         for (map, target, lowest) in [
             (maps::line(MOST_JUNCTIONS), n - 1, 0),
             (maps::line(MOST_JUNCTIONS), 0, n - 1),
@@ -146,7 +168,7 @@ fn the_largest_least_total() {
             both.call(Call::Aim { junction: target });
             let reply = both.call(Call::Estimate { junction: lowest });
             assert_eq!(reply.answer, Ok(Accepted::Estimate(largest)));
-            assert_eq!(both.unit.estimates[lowest as usize], 4_095_000_000);
+            assert_eq!(both.unit.estimates[lowest as usize], 40_950_000_000);
         }
     });
 }
@@ -158,7 +180,7 @@ fn sums_past_32_bits() {
     with_stack(|| {
         let n = MOST_JUNCTIONS as u32;
         let (a, b) = (n - 3, n - 1);
-        let least = (n - 2) * LONGEST;
+        let least = Time::from(n - 2) * LONGEST;
         let both = maps::wide_sums(MOST_JUNCTIONS).map(|map| {
             let mut both = Both::prepare(&map, order::pairs(&map)).unwrap();
             both.call(Call::Aim { junction: b });
@@ -166,7 +188,7 @@ fn sums_past_32_bits() {
             assert_eq!(reply.answer, Ok(Accepted::Estimate(least)));
             both.unit
         });
-        assert_eq!(both[0].pairs.as_chunks().0.last(), Some(&[n - 2, n - 1, least, NONE]));
+        assert_eq!(both[0].records().last(), Some(&(n - 2, n - 1, least, NONE)));
         assert_eq!(both[1].down[a as usize], least);
         assert_eq!(both[2].down[a as usize], NONE, "the third's is left to the estimate");
     });
@@ -178,9 +200,8 @@ fn map_p() {
     let map = maps::map_p();
     assert_eq!(Both::prepare(&map, 4).err(), Some(Refusal::Room));
     let mut both = Both::prepare(&map, 5).unwrap();
-    let records =
-        [[0, 2, NONE, 10], [0, 3, 10, NONE], [1, 2, NONE, 15], [1, 3, 10, NONE], [2, 3, 20, 20]];
-    assert_eq!(both.unit.pairs.as_chunks().0, records);
+    assert_eq!(both.unit.pairs[..], [0, 2, 0, 3, 1, 2, 1, 3, 2, 3]);
+    assert_eq!(both.unit.times[..], [NONE, 10, 10, NONE, NONE, 15, 10, NONE, 20, 20]);
     assert_eq!(both.unit.leaving[..], [0, 2, 1, 3, 4]);
     assert_eq!(both.unit.groups[..], [0, 2, 3, 4, 5]);
     assert_eq!(both.unit.header, Header { n: 4, m: 5, pairs: 5, card: 104, aimed: 0, target: 0 });
@@ -228,7 +249,7 @@ fn classes_change_no_estimate() {
             }
             for ((name, area), (_, want)) in with.unit.areas().into_iter().zip(without.unit.areas())
             {
-                same(name, area, want);
+                area.same(name, want);
             }
         }
     }
@@ -258,7 +279,7 @@ fn which_entries_an_estimate_fills() {
             // Records ascend, so one pass follows each chain upwards.
             let rank = both.unit.ranks[junction as usize] as usize;
             reached[rank] = true;
-            for &[low, high, up, _] in both.unit.pairs.as_chunks().0 {
+            for (low, high, up, _) in both.unit.records() {
                 reached[high as usize] |= reached[low as usize] && up != NONE;
             }
             let word = |junction: usize| match reached[both.unit.ranks[junction] as usize] {
@@ -384,11 +405,11 @@ fn refused(mut unit: Unit) -> Refusal {
     refusal
 }
 
-/// Question 7, by each area in turn.
+/// Question 7, by each area in turn. Those of the pairs have one length.
 #[test]
 fn areas_of_another_length() {
     let mut random = Random::new(8);
-    let mut refusals = [0; 8];
+    let mut refusals = [0; AREAS];
     for map in [
         maps::map_p(),
         maps::random(&mut random, 1, 0, 1),
@@ -401,13 +422,9 @@ fn areas_of_another_length() {
             let len = unit.areas()[area].1.len();
             let all =
                 [len.wrapping_sub(4), len.wrapping_sub(1), len + 1, len + 2, len + 3, len + 4];
-            let most = 4 * MOST_PAIRS;
-            for other in all.into_iter().chain([0, most - 1, most, most + 1, most + 4]) {
-                let fits = match area {
-                    1 => other.is_multiple_of(4) && other <= most,
-                    _ => other == len,
-                };
-                if fits || other > 1 << 30 {
+            let most = RECORD * MOST_PAIRS;
+            for other in all.into_iter().chain([0, most - 1, most, most + 1, most + 2]) {
+                if other == len || other > 1 << 30 {
                     continue;
                 }
                 let mut unit = unit.clone();
@@ -418,6 +435,40 @@ fn areas_of_another_length() {
         }
     }
     assert!(refusals.iter().all(|&met| met > 25), "{refusals:?} refusals");
+}
+
+/// Question 7 by the areas of the pairs: they have room for the same whole number of pairs, up to 65,536. Where they
+/// have, all is as it is to be, or there is too little room.
+#[test]
+fn room_of_the_two_areas_of_pairs() {
+    let (mut fit, mut odd, mut unlike, mut over) = (0, 0, 0, 0);
+    for map in [maps::map_p(), maps::random(&mut Random::new(13), 9, 20, 7)] {
+        let (card, pairs, most) = (map.card().unwrap(), order::pairs(&map), RECORD * MOST_PAIRS);
+        let least = RECORD * pairs;
+        let near = [least - 2, least - 1, least, least + 1, least + 2, 2 * least];
+        let lengths = [&near[..], &[0, 1, 2, 3, 4, most - 2, most - 1, most, most + 1, most + 2]];
+        let lengths = lengths.concat();
+        for &ranks in &lengths {
+            // Most of the wrong ones beside each other, and all beside the right ones and the same.
+            for &times in lengths.iter().filter(|&&times| times == ranks || times.min(ranks) < 100)
+            {
+                let mut unit = Unit::new(&card, map.n(), map.m(), 0);
+                unit.pairs.resize(ranks);
+                unit.times.resize(times);
+                if ranks == times && ranks % RECORD == 0 && ranks <= most {
+                    let answer = Both::prepare_on(unit);
+                    assert_eq!(answer.err(), (ranks < least).then_some(Refusal::Room));
+                    fit += 1;
+                } else {
+                    assert_eq!(refused(unit), Refusal::AreaLengths, "{ranks} and {times}");
+                    unlike += (ranks != times) as usize;
+                    odd += (ranks == times && ranks % RECORD != 0) as usize;
+                    over += (ranks == times && ranks > most) as usize;
+                }
+            }
+        }
+    }
+    assert!(fit > 15 && odd > 8 && unlike > 200 && over > 3, "{fit}, {odd}, {unlike}, {over}");
 }
 
 /// Questions 7 and 9, where the roads by tail and the starts of their groups have each other's lengths.
@@ -450,7 +501,7 @@ fn damaged_cards() {
         let mut unit = Unit::new(&card, map.n(), map.m(), 20);
         let also = random.chance(20);
         if also {
-            let area = &mut unit.areas_mut()[random.below(8)];
+            let area = &mut unit.areas_mut()[random.below(AREAS)];
             area.resize(area.len() + 1);
         }
         let number = match card::read(&card) {

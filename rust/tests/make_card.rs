@@ -175,13 +175,13 @@ fn faults() {
     let folder = Folder::new("faults");
     fs::write(folder.path("CARD"), "old").unwrap();
     for (text, message) in [
-        (&b"road 0 1 10\nroad 0 1\n"[..], "line 2: a road has 3 numbers: TAIL HEAD SECONDS, not 2"),
-        (b"road 0 1 0\n", "line 1: 0 seconds are not from 1 to 1000000"),
+        (&b"road 0 1 10\nroad 0 1\n"[..], "line 2: a road has 3 numbers: TAIL HEAD TENTHS, not 2"),
+        (b"road 0 1 0\n", "line 1: 0 tenths of a second are not from 1 to 10000000"),
         (b"", "no road and no order, so no junction"),
         (b"road 0 1 10\n\xff\n", "line 2: this is no text in UTF-8"),
         (b"road 0 1 10\nroad 1 0 10 classes 0,8\n", "line 2: class 8 is not below 8"),
         (b"road 0 1 10 classes\n", "line 1: `classes` without a list, such as 0,2-5 or none"),
-        (b"road 0 1 10 0,2\n", "line 1: `0,2` behind the seconds; only `classes` may stand there"),
+        (b"road 0 1 10 0,2\n", "line 1: `0,2` behind the time; only `classes` may stand there"),
     ] {
         let output = folder.make(text);
         let want = format!("make-card: {}: {message}\n", folder.path("text").display());

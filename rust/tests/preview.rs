@@ -1,7 +1,7 @@
 //! Preview of the proved unit (document 02, A2, with A6's classes) beside one that is written from the documents alone, with the
 //! searches of `literal`.
 
-use harness::both::{same, with_stack, Both};
+use harness::both::{with_stack, Both};
 use harness::brute;
 use harness::calls::{Accepted, Call, Calls, Previewed, Refusal, CLASSES};
 use harness::card::{LONGEST, MOST_JUNCTIONS};
@@ -11,7 +11,7 @@ use harness::order;
 use harness::random::Random;
 use harness::time::{Time, CLOSED, NONE, UNASKED};
 use harness::traffic;
-use harness::unit::{Area, LentAreas, Unit};
+use harness::unit::{same, Area, LentAreas, Unit};
 
 /// A preview's arguments.
 #[derive(Clone, Copy, Debug)]
@@ -73,7 +73,7 @@ impl Trial {
     /// Makes a preview on a work area of any words, and looks at all that it answers and leaves.
     fn preview(&mut self, random: &mut Random, asked: Asked, met: &mut Met) -> Option<Previewed> {
         let Asked { class, road, time, start, work } = asked;
-        let mut words = Area::of(&(0..work).map(|_| random.word()).collect::<Vec<u32>>());
+        let mut words = Area::of(&(0..work).map(|_| random.bits()).collect::<Vec<Time>>());
         let (before, words_before) = (self.unit.clone(), words.clone());
         let answer = self.unit.preview(class, road, time, start, &mut words);
         assert!(words.guarded(), "{asked:?} alters words beside its work area");
@@ -166,6 +166,8 @@ struct Met {
     beside_barred: usize,
     /// Where a road bars the class, another outcome than if none did.
     otherwise: usize,
+    /// Totals of 2^32 and more: now, and with the time set; and a change by as much.
+    past_32_bits: [usize; 3],
 }
 
 impl Met {
@@ -203,6 +205,11 @@ impl Met {
                 self.absent[if new.is_some() { 0 } else { 1 + present.is_none() as usize }] += 1
             }
         }
+        let far = |total: Option<Time>| total.is_some_and(|total| total >> 32 > 0) as usize;
+        let by = change.map(|change| change.unsigned_abs());
+        for (met, far) in self.past_32_bits.iter_mut().zip([far(present), far(new), far(by)]) {
+            *met += far;
+        }
         let map = &trial.literal.map;
         if !map.roads[road as usize].admits(class) {
             assert_eq!(present, new, "a road that bars the class");
@@ -214,7 +221,7 @@ impl Met {
         if map.n() < 300 && !map.admits_all() {
             let target = trial.target.expect("a target, by 13");
             let open = brute::least(map, &trial.live, start)[target as usize];
-            self.otherwise += (present != (open != NONE).then_some(open.into())) as usize;
+            self.otherwise += (present != (open != NONE).then_some(open)) as usize;
         }
         let live = trial.live[road as usize];
         self.again[present.is_none() as usize] += (time == live) as usize;
@@ -271,7 +278,7 @@ impl Met {
 fn time(random: &mut Random, base: Time) -> Time {
     match random.below(12) {
         0 => base - 1,
-        1 => random.pick(&[0, LONGEST + 1, UNASKED, 1 << 31]),
+        1 => random.pick(&[0, LONGEST + 1, UNASKED, 1 << 31, (1 << 32) - 1, (1 << 32) + base]),
         2..5 => CLOSED,
         5..8 => base,
         8 => LONGEST,
@@ -365,6 +372,46 @@ fn towns() {
         }
         met.outcomes_at_least(3);
         met.refusals_at_least(3);
+    });
+}
+
+/// On slow roads of about a thousand junctions, whose least totals pass 2^32; some with a short road from one end to the
+/// other, without which a trip takes as much longer.
+#[test]
+fn totals_past_32_bits() {
+    with_stack(|| {
+        let mut random = Random::new(5);
+        let mut met = Met::default();
+        for i in 0..8 {
+            let n = 900 + random.below(300);
+            let mut map = match i % 4 {
+                0 => maps::ring(n),
+                1 => maps::line(n),
+                _ => maps::slow_road(&mut random, n, 20),
+            };
+            if i % 2 == 1 {
+                map.roads.push(Road::new(0, n as u32 - 1, 1));
+            }
+            let mut trial = Trial::new(map);
+            for _ in 0..50 {
+                let [start, target] = [random.below(n / 10), n - 1 - random.below(n / 10)];
+                trial.aim(target as u32);
+                let roads = &trial.literal.map.roads;
+                let road = match random.chance(40) {
+                    true => roads.len() - 1,
+                    false => random.below(roads.len()),
+                };
+                let base = roads[road].base;
+                let time = time(&mut random, base);
+                let (road, start) = (road as u32, start as u32);
+                let asked = Asked { class: 0, road, time, start, work: 2 * n };
+                trial.preview(&mut random, asked, &mut met);
+                // Open for the most part, so that there are chains.
+                let time = if random.chance(70) { base } else { time };
+                trial.set(road, time);
+            }
+        }
+        assert!(met.past_32_bits.iter().all(|&met| met > 10), "{met:?}");
     });
 }
 
@@ -464,17 +511,17 @@ fn previews_of_classes() {
     }
 }
 
-/// The largest totals: 4,095,000,000 now or then, and none or the least one the other way round.
+/// The largest totals: 40,950,000,000 now or then, and none or the least one the other way round.
 #[test]
 fn the_largest_changes() {
     with_stack(|| {
         let n = MOST_JUNCTIONS as u32;
-        // A ring, and a road of 1 second from 1, where it starts, to 0, where it ends.
+        // A ring, and a road of a tenth of a second from 1, where it starts, to 0, where it ends.
         let mut map = maps::ring(MOST_JUNCTIONS);
         map.roads.push(Road::new(1, 0, 1));
         let mut both = Both::prepare(&map, order::pairs(&map)).unwrap();
         both.call(Call::Aim { junction: 0 });
-        let longest = 4_095_000_000;
+        let longest = 40_950_000_000;
         let mut ask = |road, time, present, new, change| {
             let call = Call::Preview { class: 0, road, time, start: 1, work: 2 * MOST_JUNCTIONS };
             let answer = both.call(call).answer;

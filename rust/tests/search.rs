@@ -1,7 +1,7 @@
 //! Go of the proved unit, beside the plain router, A* with least base totals from Dijkstra's algorithm,
 //! and Dijkstra's algorithm itself.
 
-use harness::both::{same, with_stack, Both};
+use harness::both::{with_stack, Both};
 use harness::by_tail::ByTail;
 use harness::calls::{Accepted, Call, Refusal, Trip, CLASSES};
 use harness::card::{LONGEST, MOST_JUNCTIONS};
@@ -14,6 +14,7 @@ use harness::random::Random;
 use harness::search::{search, Search};
 use harness::time::{Time, CLOSED, NONE, UNASKED};
 use harness::traffic;
+use harness::unit::same;
 
 /// A prepared unit that is aimed and has heard live times.
 struct Journey {
@@ -76,7 +77,7 @@ impl Journey {
         match &want.found {
             Some((total, route)) => {
                 assert_eq!(reply.route, *route);
-                let trip = Trip { total: (*total).into(), count, roads: route.len() as u32 };
+                let trip = Trip { total: *total, count, roads: route.len() as u32 };
                 assert_eq!(reply.answer, Ok(Accepted::Trip(trip)));
             }
             None => assert_eq!(reply.answer, Err(Refusal::NoPath(count))),
@@ -96,7 +97,7 @@ impl Journey {
             }
         }
         // Records ascend, so one pass follows each chain upwards.
-        for &[low, high, up, _] in unit.pairs.as_chunks().0 {
+        for (low, high, up, _) in unit.records() {
             filled[high as usize] |= filled[low as usize] && up != NONE;
         }
         filled
@@ -122,6 +123,8 @@ struct Tally {
     falling: usize,
     /// Roads of a route that stand first, or last, among several that leave their tail.
     ends_of_groups: [usize; 2],
+    /// Totals of 2^32 and more, and keys of logged junctions.
+    past_32_bits: [usize; 2],
 }
 
 impl Tally {
@@ -143,6 +146,7 @@ impl Tally {
             match &search.found {
                 Some((total, route)) => {
                     self.found += 1;
+                    self.past_32_bits[0] += (total >> 32 > 0) as usize;
                     self.delayed += (*total > base[start as usize]) as usize;
                     for road in route {
                         let group = by_tail.group(journey.map.roads[*road as usize].tail);
@@ -156,8 +160,8 @@ impl Tally {
             }
             self.empty += search.log.is_empty() as usize;
             let time = |junction: u32| search.elapsed[junction as usize];
-            let key =
-                |junction: u32| u64::from(time(junction)) + u64::from(base[junction as usize]);
+            let key = |junction: u32| time(junction) + base[junction as usize];
+            self.past_32_bits[1] += search.log.iter().filter(|&&at| key(at) >> 32 > 0).count();
             for two in search.log.windows(2).filter(|two| key(two[0]) == key(two[1])) {
                 let later = time(two[0]) < time(two[1]);
                 assert!(later || time(two[0]) == time(two[1]) && two[0] < two[1], "{two:?}");
@@ -244,6 +248,32 @@ fn towns() {
     );
 }
 
+/// Slow roads, whose totals and keys pass 2^32, with delays and closures.
+#[test]
+fn totals_past_32_bits() {
+    with_stack(|| {
+        let mut random = Random::new(5);
+        let mut tally = Tally::default();
+        for i in 0..24 {
+            let n = 1_000 + random.below(if i == 0 { MOST_JUNCTIONS - 1_000 } else { 500 });
+            let mut map = maps::slow_road(&mut random, n, [0, 3, 500][i % 3]);
+            // A closed road may leave no way on; a few are closed, more are delayed.
+            let mut live = map.base();
+            for _ in 0..random.below(4) {
+                live[random.below(map.m())] = random.pick(&[CLOSED, LONGEST, LONGEST]);
+            }
+            if i % 4 == 0 {
+                map.roads[random.below(n)].access = random.word() as u8;
+            }
+            tally.trips(&mut random, map, live);
+        }
+        assert!(
+            tally.past_32_bits[0] > 15 && tally.past_32_bits[1] > 5_000 && tally.found > 30,
+            "{tally:?}"
+        );
+    });
+}
+
 /// Map P with road 1 barred to class 0 (document 02, A6). The class of a go holds for that go alone.
 #[test]
 fn classes_of_map_p() {
@@ -271,14 +301,14 @@ fn classes_of_map_p() {
 #[test]
 fn a_road_for_each_class() {
     let mut roads: Vec<Road> = (0..CLASSES)
-        .map(|class| Road { access: 1 << class, ..Road::new(0, 1, 10 * (class + 1)) })
+        .map(|class| Road { access: 1 << class, ..Road::new(0, 1, 10 * Time::from(class + 1)) })
         .collect();
     roads.push(Road { access: 0, ..Road::new(0, 1, 1) });
     let map = Map { roads, order: vec![0, 1] };
     let mut journey = Journey::new(map.clone(), map.base(), 1);
     for class in (0..CLASSES).rev().chain(0..CLASSES) {
         let search = journey.go_as(class, 0, 0);
-        assert_eq!(search.found, Some((10 * (class + 1), vec![class])));
+        assert_eq!(search.found, Some((10 * Time::from(class + 1), vec![class])));
     }
     let reply = journey.both.call(Call::Estimate { junction: 0 });
     assert_eq!(reply.answer, Ok(Accepted::Estimate(1)), "by the road that no class may use");
@@ -344,19 +374,18 @@ fn the_largest_key() {
         let map = maps::ring_with_bypass(MOST_JUNCTIONS);
         let mut journey = Journey::new(map.clone(), map.base(), 0);
         let search = journey.go(2, 3);
-        assert_eq!(search.found.map(|found| found.0), Some((n - 2) * LONGEST));
+        assert_eq!(search.found.map(|found| found.0), Some(Time::from(n - 2) * LONGEST));
         assert_eq!(search.log.len() as u32, n - 1);
         assert_eq!(search.elapsed[1], NONE, "the junction with the largest key is not logged");
 
-        // With the target's only road closed, it is: time 4,094,000,000 and estimate 4,095,000,000.
+        // With the target's only road closed, it is: time 40,940,000,000 and estimate 40,950,000,000.
         let mut live = map.base();
         live[n as usize - 1] = CLOSED;
         let mut journey = Journey::new(map, live, 0);
         let search = journey.go(2, 3);
         assert_eq!((search.found, search.log.last()), (None, Some(&1)));
         let unit = &journey.both.unit;
-        let key = u64::from(unit.elapsed[1]) + u64::from(unit.estimates[1]);
-        assert_eq!(key, 8_189_000_000);
+        assert_eq!(unit.elapsed[1] + unit.estimates[1], 81_890_000_000);
     });
 }
 
@@ -369,7 +398,7 @@ fn keys_past_32_bits_before_a_detour() {
         live[n as usize - 3] = CLOSED;
         let search = Journey::new(map, live, n - 2).go(1, 0);
         assert_eq!(search.elapsed[0], NONE, "the junction with the larger key is not logged");
-        assert_eq!(search.found.map(|found| found.0), Some((n - 2) * LONGEST));
+        assert_eq!(search.found.map(|found| found.0), Some(Time::from(n - 2) * LONGEST));
     });
 }
 
@@ -385,7 +414,7 @@ fn the_longest_routes() {
         ] {
             let search = Journey::new(map.clone(), map.base(), target).go(start, 0);
             let (total, route) = search.found.unwrap();
-            assert_eq!((total, route.len() as u32), (4_095_000_000, n - 1));
+            assert_eq!((total, route.len() as u32), (40_950_000_000, n - 1));
             assert_eq!(search.log.len() as u32, n);
         }
     });

@@ -3,7 +3,7 @@
 //! same way, so that every word of every area, of what is lent and of the header is known after every call. The
 //! whole total is compared with every chain that meets the stops, on maps that are small enough for that.
 
-use harness::both::{same, with_stack, Both};
+use harness::both::{with_stack, Both};
 use harness::brute;
 use harness::calls::{
     Accepted, Answer, Call, Calls, Previewed, Refusal, StopList, Stopped, Trip, CLASSES, MOST_LEGS,
@@ -16,7 +16,7 @@ use harness::order;
 use harness::random::Random;
 use harness::time::{Time, CLOSED, NONE, UNASKED};
 use harness::traffic;
-use harness::unit::{Area, Header, LentAreas, Unit};
+use harness::unit::{same, Area, Header, LentAreas, Unit};
 
 /// The documents' unit: it has the areas and the header of a prepared one, and makes the calls on them by
 /// their sentences.
@@ -170,9 +170,10 @@ impl Trial {
     /// Makes a call on areas of any words by both, and compares all that it answers and leaves.
     fn call(&mut self, random: &mut Random, call: Call, met: &mut Met) -> Answer {
         let mut lent = LentAreas::of(call);
-        for area in [&mut lent.route, &mut lent.log, &mut lent.work] {
+        for area in [&mut lent.route, &mut lent.log] {
             area.iter_mut().for_each(|word| *word = random.word());
         }
+        lent.work.iter_mut().for_each(|word| *word = random.bits());
         let mut want = lent.clone();
         let before = self.paper.unit.clone();
         let answer = self.unit.call(call, lent.lend());
@@ -188,7 +189,7 @@ impl Trial {
         }
         for ((name, area), (_, want)) in self.unit.areas().into_iter().zip(self.paper.unit.areas())
         {
-            same(name, area, want);
+            area.same(name, want);
         }
         assert_eq!(self.unit.header, self.paper.unit.header, "{call:?}");
         assert!(self.unit == self.paper.unit, "{call:?}: card or guard words");
@@ -236,6 +237,8 @@ struct Met {
     by_one: [usize; 2],
     /// Where a later question would refuse too: 16 and 12, 12 and 14, 16 and 18, 18 and 12, 18 and 14.
     both: [usize; 5],
+    /// Found, with a leg's total of 2^32 and more, and with such a whole of smaller ones.
+    past_32_bits: [usize; 2],
     /// Made with a class that some road bars: found otherwise than if none did, and 17 where there would be a chain.
     round_barred: usize,
     lost_to_bars: usize,
@@ -285,6 +288,10 @@ impl Met {
         self.again += again as usize;
         self.distinct += (!equal && !again && stops.len() > 2) as usize;
         self.roads += (stopped.roads.iter().filter(|&&roads| roads > 0).count() > 1) as usize;
+        let far = |total: Time| total >> 32 > 0;
+        let leg = stopped.totals.iter().any(|&total| far(total));
+        self.past_32_bits[0] += leg as usize;
+        self.past_32_bits[1] += (!leg && far(stopped.whole)) as usize;
         let filled = before.estimates.iter().any(|&estimate| estimate != UNASKED);
         match (before.header.aimed, before.header.target == stops[1]) {
             (0, _) => self.targets[0] += 1,
@@ -314,9 +321,9 @@ impl Met {
             return;
         }
         let least = |ends: &[u32]| brute::least(map, &before.live, ends[0])[ends[1] as usize];
-        let whole: u64 = stops.windows(2).map(|ends| u64::from(least(ends))).sum();
         match answer {
             Ok(Accepted::Stopped(stopped)) => {
+                let whole: Time = stops.windows(2).map(least).sum();
                 assert!(whole <= stopped.whole);
                 self.round_barred += (whole < stopped.whole) as usize;
             }
@@ -475,7 +482,7 @@ fn class(random: &mut Random) -> u32 {
 fn time(random: &mut Random, base: Time) -> Time {
     match random.below(12) {
         0 => base - 1,
-        1 => random.pick(&[0, LONGEST + 1, UNASKED]),
+        1 => random.pick(&[0, LONGEST + 1, UNASKED, (1 << 32) - 1, (1 << 32) + base]),
         2..4 => CLOSED,
         4..9 => base,
         _ => LONGEST.min(base + random.within(1..=4)),
@@ -547,6 +554,32 @@ fn towns() {
         }
         met.outcomes_at_least(3);
         met.refusals_at_least(2);
+    });
+}
+
+/// Slow roads, on which a leg, or all of them together, take 2^32 tenths and more.
+#[test]
+fn totals_past_32_bits() {
+    with_stack(|| {
+        let mut random = Random::new(7);
+        let mut met = Met::default();
+        for i in 0..12 {
+            let n = if i % 2 == 0 { 900 + random.below(100) } else { 100 + random.below(100) };
+            let map = match i % 3 {
+                0 => maps::line(n),
+                1 => maps::ring(n),
+                _ => maps::slow_road(&mut random, n, 30),
+            };
+            let mut trial = Trial::new(map);
+            for _ in 0..12 {
+                let count = if i % 2 == 0 { 2 + random.below(3) } else { MOST_STOPS };
+                let stops = stops(&mut random, n, count, 0);
+                let stops = StopList::of(&stops);
+                let call = Call::Stops { class: 0, stops, route: count * n, log: n };
+                trial.call(&mut random, call, &mut met).ok();
+            }
+        }
+        assert!(met.past_32_bits.iter().all(|&met| met > 10), "{met:?}");
     });
 }
 
@@ -690,7 +723,7 @@ fn stops_of_classes() {
         let stops = StopList::of(stops);
         Call::Stops { class, stops, route: 4 * stops.len(), log: 4 }
     };
-    let found = |legs: &[(u64, u32)]| Ok(Accepted::Stopped(Stopped::of(legs)));
+    let found = |legs: &[(Time, u32)]| Ok(Accepted::Stopped(Stopped::of(legs)));
     let mut both = Both::prepare(&maps::map_p_with_classes(), 5).unwrap();
     for _ in 0..2 {
         let reply = both.call(call(0, &[0, 3, 0]));
@@ -728,7 +761,7 @@ struct Chains<'a> {
 
 impl Chains<'_> {
     /// Tells of each chain that goes on from these junctions, itself first, its junctions and its total.
-    fn each(&self, met: &mut Vec<u32>, total: u64, told: &mut impl FnMut(&[u32], u64)) {
+    fn each(&self, met: &mut Vec<u32>, total: Time, told: &mut impl FnMut(&[u32], Time)) {
         told(met, total);
         if met.len() > self.longest {
             return;
@@ -736,7 +769,7 @@ impl Chains<'_> {
         for (road, &live) in self.roads.iter().zip(self.live) {
             if live != CLOSED && met.last() == Some(&road.tail) {
                 met.push(road.head);
-                self.each(met, total + u64::from(live), told);
+                self.each(met, total + live, told);
                 met.pop();
             }
         }
@@ -781,7 +814,7 @@ fn at_most_every_chain_that_meets_the_stops() {
 
         // Each leg of the answer has at most n - 1 roads; a chain of more may meet the stops too.
         let all = Chains { roads: &map.roads, live: &live, longest: (count - 1) * (n - 1) + 1 };
-        let (mut least, mut legs) = (None::<u64>, vec![false; count - 1]);
+        let (mut least, mut legs) = (None::<Time>, vec![false; count - 1]);
         for start in 0..n as u32 {
             all.each(&mut vec![start], 0, &mut |met, total| {
                 chains += 1;
@@ -814,7 +847,7 @@ fn at_most_every_chain_that_meets_the_stops() {
     );
 }
 
-/// The largest whole: 31 legs of 4,095,000,000, each once round the largest ring but for one road.
+/// The largest whole: 31 legs of 40,950,000,000, each once round the largest ring but for one road.
 #[test]
 fn the_largest_whole() {
     with_stack(|| {
@@ -825,9 +858,9 @@ fn the_largest_whole() {
         let call =
             Call::Stops { class: 0, stops: StopList::of(&stops), route: MOST_STOPS * n, log: n };
         let reply = both.call(call);
-        let want = Stopped::of(&[(4_095_000_000, 4_095); MOST_LEGS]);
+        let want = Stopped::of(&[(40_950_000_000, 4_095); MOST_LEGS]);
         assert_eq!(reply.answer, Ok(Accepted::Stopped(want)));
-        assert_eq!(want.whole, 126_945_000_000);
+        assert_eq!(want.whole, 1_269_450_000_000);
         let roads: Vec<u32> = stops
             .windows(2)
             .flat_map(|ends| (0..n as u32 - 1).map(move |i| (ends[0] + i) % n as u32))

@@ -6,6 +6,7 @@ ghost use lib.Dec.{eqb, ltb};
 ghost use lib.ListN.{getD, length, set};
 ghost use Rattle.model.specs.Layout.{roadsKind, sections, sectionsFrom, tableSize};
 ghost use Rattle.model.specs.Card.{countOk, kindsOk, roadFits, sizesOk, startsOk};
+use network::TimeWord;
 
 // Question 2, of the number of sections.
 pub fn count_ok(count: u32) -> bool
@@ -66,8 +67,8 @@ pub fn sizes_ok(roads: usize, order: usize) -> bool
         & (order <= card_layout::PLACE_SIZE * (network::MOST_JUNCTIONS as usize))
 }
 
-// Question 5, of the words of one road.
-pub fn road_ok(n: u32, tail: u32, head: u32, base: u32) -> bool
+// Question 5, of the numbers of one road.
+pub fn road_ok(n: u32, tail: u32, head: u32, base: TimeWord) -> bool
     ensures { λ r. ⌜ r ≡ roadFits n tail head base ⌝ }
 {
     (tail < n) & (head < n) & (tail != head) & (1 <= base) & (base <= network::MOST_TIME)

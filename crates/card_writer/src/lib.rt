@@ -12,6 +12,7 @@ ghost use Rattle.network.specs.Refusals.{verdictIn};
 ghost use Rattle.card_writer.specs.Lent.{Short, rowsOf};
 use card_sections::Failing;
 use network::Refusal;
+use network::TimeWord;
 use network::Verdict;
 
 // Question 4, of two lengths in words; no product of a long row is taken.
@@ -27,6 +28,13 @@ fn sizes_ok(roads: usize, order: usize) -> bool
     card_checks::sizes_ok(4 * roads, 4 * order)
 }
 
+// A word of the row of roads as a time.
+fn time_of(w: u32) -> TimeWord
+    ensures { λ r. ⌜ r ≡ w ⌝ }
+{
+    w as TimeWord
+}
+
 // The first road that question 5 refuses.
 fn failing_road(roads: &[u32], order: &[u32]) -> Failing
     requires { ⌜ Short (now roads) (now order) ⌝ }
@@ -37,7 +45,7 @@ fn failing_road(roads: &[u32], order: &[u32]) -> Failing
     let mut i: u32 = 0;
     while i < m {
         let at = 3 * (i as usize);
-        if !card_checks::road_ok(n, roads[at], roads[at + 1], roads[at + 2]) {
+        if !card_checks::road_ok(n, roads[at], roads[at + 1], time_of(roads[at + 2])) {
             return Failing::At(i);
         }
         i += 1;

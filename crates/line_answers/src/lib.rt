@@ -20,7 +20,7 @@ fn put_estimate(t: Time, out: &mut [u8]) -> usize
     if t.is_none() {
         return line_texts::put(b"est none", out, 0);
     }
-    line_texts::put_named(b"est", t.word() as u64, out, 0)
+    line_texts::put_named(b"est", t.word(), out, 0)
 }
 
 // Whether a refusal of this number has a place.

@@ -10,7 +10,7 @@ use Rattle.line_fields.specs.declared.Number.{Number}
 use Rattle.line_fields.specs.declared.Number.the-variants.{Value}
 use Rattle.line_console.specs.declared.Line.{Line}
 use Rattle.line_console.specs.declared.Line.the-variants.{Call, Unreadable}
-use Rattle.line_console.specs.Lines.{callOf, lineOf, one, two}
+use Rattle.line_console.specs.Lines.{callOf, inRange, lineOf, one, two}
 use Rattle.line_texts.specs.Ascii.{ascii}
 
 -- ---- the call of one number
@@ -36,8 +36,9 @@ module _ (w : List ℕ) where
 
 -- ---- a set
 
-pub set-is : {m n : Number} {i t : ℕ} {x : Time} → m ≡ Value i → n ≡ Value t → x .0 ≡ t → Call (Set i x) ≡ two m n
-set-is {i = i} p q e = ap (λ (v : ℕ). Call (Set i (record { 0 = v }))) e ∙ sym (ap₂ two p q)
+pub set-is : {m n : Number} {i t road : ℕ} {x : Time} → m ≡ Value i → n ≡ Value t → road ≡ inRange i → x .0 ≡ t
+    → Call (Set road x) ≡ two m n
+set-is p q r e = ap₂ (λ (a v : ℕ). Call (Set a (record { 0 = v }))) r e ∙ sym (ap₂ two p q)
 
 -- ---- a line
 

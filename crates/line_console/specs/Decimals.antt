@@ -60,6 +60,6 @@ pub there-and-back : (n : ℕ) → n ≤ noneWord → numberOf (decimal n) ≡ V
 unfolding decimal numberOf isNumber
 there-and-back n h =
     let p = spells 19 n (omega arith) in
-    let few = digits-few 20 9 n (omega arith) in
+    let few = digits-few 20 19 n (omega arith) in
     let k = length (digitsIn 20 n) in
     rw (le-leb 1 k (p .some-digits), le-leb k 20 (omega (arith, few)), p .digits, p .value, le-leb n noneWord h)

@@ -19,15 +19,24 @@ use Rattle.line_fields.specs.declared.Number.the-variants.{NotOne, Value}
 use Rattle.line_console.specs.declared.Line.{Line}
 use Rattle.line_console.specs.declared.Line.the-variants.{Call, Unreadable}
 use Rattle.line_texts.specs.Ascii.{ascii}
-use Rattle.line_console.specs.Lines.{callOf, lineOf, one, programClass, two}
+use Rattle.line_console.specs.Lines.{callOf, inRange, lineOf, one, outOfRange, programClass, two}
 
 -- "a call's word and its numbers, one space before each"
 pub data Readable (line : List ℕ) : call.Call → Type 0 where
-  aims : (s : List ℕ) (v : ℕ) → line ≡ ascii "aim " ++ s → numberOf s ≡ Value v → Readable line (Aim (record { 0 = v }))
-  asks : (s : List ℕ) (v : ℕ) → line ≡ ascii "est " ++ s → numberOf s ≡ Value v → Readable line (Estimate (record { 0 = v }))
-  goes : (s : List ℕ) (v : ℕ) → line ≡ ascii "go " ++ s → numberOf s ≡ Value v → Readable line (Go programClass (record { 0 = v }))
+  aims : (s : List ℕ) (v : ℕ) → line ≡ ascii "aim " ++ s → numberOf s ≡ Value v → Readable line (Aim (record { 0 = inRange v }))
+  asks : (s : List ℕ) (v : ℕ) → line ≡ ascii "est " ++ s → numberOf s ≡ Value v → Readable line (Estimate (record { 0 = inRange v }))
+  goes : (s : List ℕ) (v : ℕ) → line ≡ ascii "go " ++ s → numberOf s ≡ Value v → Readable line (Go programClass (record { 0 = inRange v }))
   sets : (s t : List ℕ) (i v : ℕ) → line ≡ ascii "set " ++ (s ++ (ascii " " ++ t)) → numberOf s ≡ Value i → numberOf t ≡ Value v
-      → Readable line (Set i (record { 0 = v }))
+      → Readable line (Set (inRange i) (record { 0 = v }))
+
+-- ---- a number of a line is below a number of junctions or roads exactly if what stands for it in the call is, and then is the same
+
+module _ {v k : ℕ} (few : k ≤ outOfRange) where
+  pub below-same : v < k → inRange v ≡ v
+  below-same l = omega arith
+
+  pub above-same : k ≤ v → k ≤ inRange v
+  above-same l = omega arith
 
 -- ---- each of them says its call
 
@@ -58,7 +67,8 @@ said : (a c : call.Call) → Call a ≡ Call c → a ≡ c
 said a c e = ap (callOr a) e
 
 -- a line of the word w and the number r
-one-says : (line w r : List ℕ) (v : ℕ) (c : call.Call) → line ≡ w ++ 32 ∷ r → numberOf r ≡ Value v → callOf w v ≡ Call c → Readable line c
+one-says : (line w r : List ℕ) (v : ℕ) (c : call.Call) → line ≡ w ++ 32 ∷ r → numberOf r ≡ Value v → callOf w (inRange v) ≡ Call c
+    → Readable line c
 unfolding callOf
 one-says line w r v c e n h = first (decide (same w (ascii "aim")))
   where
@@ -68,15 +78,16 @@ one-says line w r v c e n h = first (decide (same w (ascii "aim")))
 
     third : same w (ascii "aim") ≡ false → same w (ascii "est") ≡ false → Tested (same w (ascii "go")) → Readable line c
     third p q (inl t) =
-        subst (Readable line) (said (Go programClass (record { 0 = v })) c (rw (p, q, t) at h)) (goes r v (begins (ascii "go") t) n)
+        subst (Readable line) (said (Go programClass (record { 0 = inRange v })) c (rw (p, q, t) at h)) (goes r v (begins (ascii "go") t) n)
     third p q (inr t) = absurd (not-readable c (rw (p, q, t) at h))
 
     second : same w (ascii "aim") ≡ false → Tested (same w (ascii "est")) → Readable line c
-    second p (inl t) = subst (Readable line) (said (Estimate (record { 0 = v })) c (rw (p, t) at h)) (asks r v (begins (ascii "est") t) n)
+    second p (inl t) =
+        subst (Readable line) (said (Estimate (record { 0 = inRange v })) c (rw (p, t) at h)) (asks r v (begins (ascii "est") t) n)
     second p (inr t) = third p t (decide (same w (ascii "go")))
 
     first : Tested (same w (ascii "aim")) → Readable line c
-    first (inl t) = subst (Readable line) (said (Aim (record { 0 = v })) c (rw t at h)) (aims r v (begins (ascii "aim") t) n)
+    first (inl t) = subst (Readable line) (said (Aim (record { 0 = inRange v })) c (rw t at h)) (aims r v (begins (ascii "aim") t) n)
     first (inr t) = second t (decide (same w (ascii "est")))
 
 says-one : (line : List ℕ) (n : Number) (c : call.Call) → numberOf (afterSpace line) ≡ n → one (callOf (beforeSpace line)) n ≡ Call c
@@ -100,7 +111,7 @@ says-two line (Value i) (Value v) c w p q e = go (split line) (split (afterSpace
 
     go : Split line → Split r → Readable line c
     go (spaces x) (spaces y) =
-        subst (Readable line) (said (Set i (record { 0 = v })) c e)
+        subst (Readable line) (said (Set (inRange i) (record { 0 = v })) c e)
         (sets (beforeSpace r) (afterSpace r) i v (x ∙ ap₂ (λ (a b : List ℕ). a ++ 32 ∷ b) w y) p q)
     go (spaces x) (nothing y) = absurd (no-number v (sym (ap numberOf y) ∙ q))
     go (nothing x) s = absurd (no-number v (sym (ap (λ (a : List ℕ). numberOf (afterSpace a)) x) ∙ q))

@@ -2,11 +2,12 @@
 ghost use mathlib.Core.Path.{_≡_};
 ghost use Rattle.unit_answers.specs.Shape.{answerIn};
 ghost use Rattle.line_texts.specs.Areas.{Written};
-ghost use Rattle.line_console.specs.Lines.{callOf, lineOf, one, two};
+ghost use Rattle.line_console.specs.Lines.{callOf, inRange, lineOf, one, two};
 ghost use Rattle.line_console.specs.Texts.{answerText, unreadableText};
 use line_fields::Number;
 use network::Junction;
 use network::Time;
+use network::TimeWord;
 use unit_answers::Answer;
 use unit_answers::Call;
 
@@ -20,6 +21,19 @@ pub enum Line {
 
 // The class of the program's go (document 02, A6).
 const PROGRAM_CLASS: u32 = 0;
+
+// The largest number of 32 bits: no map has a junction or a road of that number.
+const OUT_OF_RANGE: u32 = 4294967295;
+
+// A number of a line as one of a junction or a road: where it does not fit 32 bits it is out of range, never its lowest bits.
+fn in_range(v: TimeWord) -> u32
+    ensures { λ r. ⌜ r ≡ inRange v ⌝ }
+{
+    if (OUT_OF_RANGE as TimeWord) < v {
+        return OUT_OF_RANGE;
+    }
+    v as u32
+}
 
 // The call of one number that a word names.
 fn call_of(word: &[u8], v: u32) -> Line
@@ -42,7 +56,7 @@ fn read_one(word: &[u8], n: Number) -> Line
     ensures { λ r. ⌜ r ≡ one (callOf (now (word .entry))) n ⌝ }
 {
     match n {
-        Number::Value(v) => call_of(word, v),
+        Number::Value(v) => call_of(word, in_range(v)),
         Number::NotOne => Line::Unreadable,
     }
 }
@@ -53,7 +67,7 @@ fn read_set(road: Number, time: Number) -> Line
 {
     match road {
         Number::Value(i) => match time {
-            Number::Value(t) => Line::Call(Call::Set(i, Time::of_word(t))),
+            Number::Value(t) => Line::Call(Call::Set(in_range(i), Time::of_word(t))),
             Number::NotOne => Line::Unreadable,
         },
         Number::NotOne => Line::Unreadable,

@@ -2,7 +2,7 @@
 use mathlib.Core.Path.{_∙_, _≡_, ap, refl}
 use mathlib.Core.Bool.{Bool, _&&_, false, true}
 use mathlib.Core.List.{List, [], _∷_}
-use Prim.Native.Nat.{_*_, _+_, _-_, _<_, _≤_, ℕ}
+use Prim.Native.Nat.{_*_, _+_, _-_, _/_, _<_, _≤_, ℕ}
 use borrow.Author.Tests.{le-leb, lt-leb}
 use lib.ListN.{drop, drop-of-length-le, getD, length}
 use lib.Seq.{drop-cons}
@@ -85,14 +85,14 @@ module _ {s : List ℕ} {i v b : ℕ} (next : Next s i v b) where
   unfolding isDigit
   above-digits l = not-digits s (digits-at ∙ simp (lt-leb b 57 l, and-false))
 
-  pub overflow : noneWord < v * 10 + (b - 48) → NotOne ≡ numberOf s
+  pub overflow : (noneWord - (b - 48)) / 10 < v → NotOne ≡ numberOf s
   overflow l = too-large s (omega (arith, value-next, value-grows (drop (i + 1) s) (v * 10 + (b - 48))))
 
-  pub passed-more : 48 ≤ b → b ≤ 57 → v * 10 + (b - 48) ≤ noneWord → Passed s (i + 1) (v * 10 + (b - 48))
+  pub passed-more : 48 ≤ b → b ≤ 57 → v ≤ (noneWord - (b - 48)) / 10 → Passed s (i + 1) (v * 10 + (b - 48))
   unfolding isDigit
-  passed-more l m small = record {
+  passed-more l m fits = record {
     inside = omega (arith, next .below);
-    small = small;
+    small = omega arith;
     value-left = value-next;
     digits-left = digits-at ∙ simp (le-leb 48 b l, le-leb b 57 m);
   }

@@ -5,21 +5,22 @@ ghost use lib.ListN.{length};
 ghost use Rattle.bytes.specs.Bytes.{indexOf};
 ghost use Rattle.line_fields.specs.Fields.{afterSpace, beforeSpace, numberOf, same};
 use network::Time;
+use network::TimeWord;
 
 // What a part of a line spells.
 pub enum Number {
-    Value(u32),
+    Value(TimeWord),
     NotOne,
 }
 
 // A byte as a number.
-fn wide(b: u8) -> u64
+fn wide(b: u8) -> TimeWord
     ensures { λ r. ⌜ r ≡ b ⌝ }
 {
-    b as u64
+    b as TimeWord
 }
 
-// The number that s spells: 1 to 20 decimal digits that fit the width of a time.
+// The number that s spells: 1 to 20 decimal digits that fit the width of a time. Whether one digit more fits is asked before it is taken.
 pub fn read_number(s: &[u8]) -> Number
     ensures { λ r. ⌜ r ≡ numberOf (now (s .entry)) ⌝ }
 {
@@ -29,7 +30,7 @@ pub fn read_number(s: &[u8]) -> Number
     if 20 < s.len() {
         return Number::NotOne;
     }
-    let mut v: u64 = 0;
+    let mut v: TimeWord = 0;
     let mut i = 0;
     while i < s.len() {
         let b = wide(s[i]);
@@ -39,13 +40,14 @@ pub fn read_number(s: &[u8]) -> Number
         if 57 < b {
             return Number::NotOne;
         }
-        v = v * 10 + (b - 48);
-        if (Time::NONE.0 as u64) < v {
+        let d = b - 48;
+        if (Time::NONE.0 - d) / 10 < v {
             return Number::NotOne;
         }
+        v = v * 10 + d;
         i += 1;
     }
-    Number::Value(v as u32)
+    Number::Value(v)
 }
 
 // Whether two rows of bytes are the same.

@@ -13,11 +13,12 @@ use Rattle.model.specs.Limits.{mostPairs}
 
 -- ---- "Areas of the unit", by who writes them; A stands for an area: its words, or how many they are
 
--- made at switch-on and never written again: ranks "by junction number", the records of the pairs, and (document 02, A1) "road numbers by
--- tail" and "where each tail's group starts"
+-- made at switch-on and never written again: ranks "by junction number"; of the pairs (document 02, A7) "its two ranks .. in one area and
+-- its two times in another"; and (A1) "road numbers by tail" and "where each tail's group starts"
 pub record Built (A : Type 0) : Type 0 where
   pub ranks : A
   pub pairs : A
+  pub times : A
   pub leaving : A
   pub groups : A
 
@@ -40,10 +41,10 @@ pub record Each (A : Type 0) : Type 0 where
 abbrev pub Areas : Type 0
 Areas = Each (List ℕ)
 
--- the areas in document 01's order, then those of document 02
-abbrev pub areasOf : {A : Type 0} → (ranks pairs live down estimates elapsed leaving groups : A) → Each A
-areasOf r p l d e t g h = record {
-  built = record { ranks = r; pairs = p; leaving = g; groups = h };
+-- the areas in document 01's order, the pairs' times behind their ranks, then those of document 02
+abbrev pub areasOf : {A : Type 0} → (ranks pairs times live down estimates elapsed leaving groups : A) → Each A
+areasOf r p q l d e t g h = record {
+  built = record { ranks = r; pairs = p; times = q; leaving = g; groups = h };
   live = l;
   aimed = record { down = d; estimates = e };
   trip = record { elapsed = t };
@@ -53,7 +54,7 @@ areasOf r p l d e t g h = record {
 abbrev pub each : {A B : Type 0} → (A → B) → Each A → Each B
 each f a =
     areasOf
-    (f (a .built .ranks)) (f (a .built .pairs))
+    (f (a .built .ranks)) (f (a .built .pairs)) (f (a .built .times))
     (f (a .live))
     (f (a .aimed .down)) (f (a .aimed .estimates))
     (f (a .trip .elapsed))
@@ -64,18 +65,19 @@ each f a =
 abbrev pub lengths : Areas → Each ℕ
 lengths = each length
 
--- "Its record is four words"
+-- A7: a record is two words, in the one area and in the other
 abbrev pub recordSize : ℕ
-recordSize = 4
+recordSize = 2
 
--- "a multiple of 4 words, at most 262,144", with room for p pairs
-abbrev pub roomFits : (p room : ℕ) → Bool
-roomFits p room = eqb (room % recordSize) 0 && leb (recordSize * p) room && leb room (recordSize * mostPairs)
+-- A7: "room for the same whole number of pairs in both", at most 65,536, with room for p pairs
+abbrev pub roomFits : (p pairs times : ℕ) → Bool
+roomFits p pairs times =
+    eqb times pairs && eqb (pairs % recordSize) 0 && leb (recordSize * p) pairs && leb pairs (recordSize * mostPairs)
 
--- n words, room for p pairs, m words, three times n words; m and n + 1 words
+-- n words, room for p pairs twice, m words, three times n words; m and n + 1 words
 unfoldable pub lengthsFit : (n m p : ℕ) → Each ℕ → Bool
 lengthsFit n m p l =
-    eqb (l .built .ranks) n && roomFits p (l .built .pairs)
+    eqb (l .built .ranks) n && roomFits p (l .built .pairs) (l .built .times)
     && eqb (l .live) m
     && eqb (l .aimed .down) n && eqb (l .aimed .estimates) n
     && eqb (l .trip .elapsed) n
@@ -83,14 +85,25 @@ lengthsFit n m p l =
 
 -- ---- what preparing leaves
 
--- "rank of low, rank of high, up, down"
-abbrev pub words : List Pair → List ℕ
-words [] = []
-words (p ∷ l) = p .low ∷ p .high ∷ word (p .upTime) ∷ word (p .downTime) ∷ words l
+-- "rank of low, rank of high"
+abbrev pub rankWords : List Pair → List ℕ
+rankWords [] = []
+rankWords (p ∷ l) = p .low ∷ p .high ∷ rankWords l
 
--- the pair area of k words: the records, "unused records" zero
+-- "up, down"
+abbrev pub timeWords : List Pair → List ℕ
+timeWords [] = []
+timeWords (p ∷ l) = word (p .upTime) ∷ word (p .downTime) ∷ timeWords l
+
+-- an area of k words: these first, "unused records" zero
+abbrev pub zerosAfter : List ℕ → (k : ℕ) → List ℕ
+zerosAfter l k = l ++ replicate (k - length l) 0
+
 abbrev pub recordsIn : Map → (k : ℕ) → List ℕ
-recordsIn M k = words (pairsOf M) ++ replicate (k - recordSize * length (pairsOf M)) 0
+recordsIn M k = zerosAfter (rankWords (pairsOf M)) k
+
+abbrev pub timesIn : Map → (k : ℕ) → List ℕ
+timesIn M k = zerosAfter (timeWords (pairsOf M)) k
 
 -- A1: "road numbers by tail, ascending within a tail"
 abbrev pub leavingOf : Map → List ℕ
@@ -107,6 +120,7 @@ freshAreas M room = record {
   built = record {
     ranks = listed (M .vertices) (rank M);
     pairs = recordsIn M room;
+    times = timesIn M room;
     leaving = leavingOf M;
     groups = groupsOf M;
   };

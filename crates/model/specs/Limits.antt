@@ -13,13 +13,13 @@ mostRoads = 16384
 abbrev pub mostPairs : ℕ
 mostPairs = 65536
 
--- "a base time 1 to 1,000,000"
+-- document 02, A7: tenths of a second, "from 1 to 10,000,000"
 abbrev pub mostTime : ℕ
-mostTime = 1000000
+mostTime = 10000000
 
--- "The largest least total is 4,095 × 1,000,000 = 4,095,000,000."
+-- the largest least total: 4,095 × 10,000,000 tenths
 abbrev pub mostTotal : ℕ
-mostTotal = 4095000000
+mostTotal = 40950000000
 
 -- document 02, A3: "at 2 to 32 junctions"
 abbrev pub fewestStops : ℕ

@@ -1,4 +1,4 @@
--- Set: "a road's live time, from its base time to 1,000,000, or closed". Definitions only.
+-- Set: "a road's live time, from its base time to 1,000,000, or closed"; since document 02, A7, to 10,000,000. Definitions only.
 use mathlib.Core.Path.{_≡_}
 use mathlib.Core.Bool.{Bool, _&&_, cond, false, true}
 use mathlib.Core.Option.{Option, none, some}

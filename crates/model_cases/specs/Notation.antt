@@ -38,10 +38,14 @@ use Rattle.model.specs.Calls.{step, steps, stopsCall}
 
 -- the marks: none and closed; unasked
 abbrev pub ∞ : ℕ
-∞ = 4294967295
+∞ = 18446744073709551615
 
 abbrev pub □ : ℕ
-□ = 4294967294
+□ = 18446744073709551614
+
+-- the largest word of a card, which is no mark of a time (document 02, A7)
+abbrev pub largest : ℕ
+largest = 4294967295
 
 -- a road as document 01 writes it: tail – head – base time
 infix 70 _–_–_
@@ -55,6 +59,13 @@ pair low high up down = low ∷ high ∷ up ∷ down ∷ []
 abbrev row : List (List ℕ) → List ℕ
 row [] = []
 row (l ∷ r) = l ++ row r
+
+-- what stands of the records in the one area and in the other, with room for so many pairs; unused records are 0
+abbrev ranksOf : List (List ℕ) → (room : ℕ) → List ℕ
+ranksOf l room = row (map (take 2) l) ++ replicate (2 * (room - length l)) 0
+
+abbrev timesOf : List (List ℕ) → (room : ℕ) → List ℕ
+timesOf l room = row (map (drop 2) l) ++ replicate (2 * (room - length l)) 0
 
 -- words as bytes, lowest byte first
 abbrev pub bytes : List ℕ → List ℕ
@@ -122,9 +133,11 @@ abbrev pub unwritten : (roads order : List ℕ) (bytes : ℕ) → Refusal → Ca
 unwritten roads order k q = writing roads order k ⇒ record { answer = Refused q; area = replicate k 7 }
 
 -- areas of these lengths, full of w
-abbrev full : (w ranks pairs live down estimates elapsed leaving groups : ℕ) → Areas
-full w r p l d e t g h =
-    areasOf (replicate r w) (replicate p w) (replicate l w) (replicate d w) (replicate e w) (replicate t w) (replicate g w) (replicate h w)
+abbrev full : (w ranks pairs times live down estimates elapsed leaving groups : ℕ) → Areas
+full w r p q l d e t g h =
+    areasOf
+    (replicate r w) (replicate p w) (replicate q w) (replicate l w) (replicate d w) (replicate e w) (replicate t w) (replicate g w)
+    (replicate h w)
 
 abbrev pub headerOf : (n m pairs card : ℕ) → Target → Header
 headerOf n m p c z = record { n = n; m = m; pairs = p; card = c; target = z }
@@ -141,11 +154,11 @@ unfolding prepare wordAt bodyAt measured up down
 prepares p = prepare (p .card) (p .areas)
 
 -- a refused preparing leaves w in each area, and a header of zeros
-abbrev pub unprepared : Refusal → (w : ℕ) → (card : List ℕ) (ranks pairs live down estimates elapsed leaving groups : ℕ)
+abbrev pub unprepared : Refusal → (w : ℕ) → (card : List ℕ) (ranks pairs times live down estimates elapsed leaving groups : ℕ)
     → Case Preparing Step
-unprepared q w c r p l d e t g h =
-    record { card = c; areas = full 7 r p l d e t g h }
-    ⇒ record { answer = Refused q; state = record { header = headerOf 0 0 0 0 Absent; areas = full w r p l d e t g h }; lent = nothing }
+unprepared why w c r p q l d e t g h =
+    record { card = c; areas = full 7 r p q l d e t g h }
+    ⇒ record { answer = Refused why; state = record { header = headerOf 0 0 0 0 Absent; areas = full w r p q l d e t g h }; lent = nothing }
 
 -- ---- calls
 
@@ -170,11 +183,11 @@ answers g = map (λ (c : Call). step (g .card) (g .state) c) (g .calls)
 
 -- Each is refused and leaves everything as it was: a card of so many bytes, a header of these numbers, areas of these lengths.
 abbrev pub refused : Refusal → List Call → (n m pairs card : ℕ) → Target
-    → (bytes ranks pairs live down estimates elapsed leaving groups : ℕ) → Case Calling (List Step)
-refused q calls n m k c z b r p l d e t g h =
-    let s : State = record { header = headerOf n m k c z; areas = full 7 r p l d e t g h } in
+    → (bytes ranks pairs times live down estimates elapsed leaving groups : ℕ) → Case Calling (List Step)
+refused why calls n m k c z b r p q l d e t g h =
+    let s : State = record { header = headerOf n m k c z; areas = full 7 r p q l d e t g h } in
     record { card = replicate b 7; state = s; calls = calls }
-    ⇒ map (λ (c : Call). record { answer = Refused q; state = s; lent = c .lent }) calls
+    ⇒ map (λ (c : Call). record { answer = Refused why; state = s; lent = c .lent }) calls
 
 -- ---- scripts
 
@@ -195,7 +208,11 @@ no q c = record { call = c; answer = Refused q; after = λ s. s; holds = c .lent
 abbrev becoming : State → Target → (live down estimates elapsed : List ℕ) → State
 becoming s z l d e t = record {
   header = headerOf (s .header .n) (s .header .m) (s .header .pairs) (s .header .card) z;
-  areas = areasOf (s .areas .built .ranks) (s .areas .built .pairs) l d e t (s .areas .built .leaving) (s .areas .built .groups);
+  areas =
+      areasOf
+      (s .areas .built .ranks) (s .areas .built .pairs) (s .areas .built .times)
+      l d e t
+      (s .areas .built .leaving) (s .areas .built .groups);
 }
 
 -- an accepted set, with the live times after it
@@ -228,7 +245,7 @@ est j t estimates = record {
   figure = [];
 }
 
--- a change of so many seconds
+-- a change of so many tenths of a second
 abbrev pub more : ℕ → Option ℤ
 more k = some (pos k)
 
@@ -340,7 +357,7 @@ played c =
     let k = cardWith (c .roads) (c .order) (c .access) in
     let n = length (c .order) in
     let m = length (c .roads) in
-    let p = prepare k (full 7 n (4 * c .room) m n n n m (suc n)) in
+    let p = prepare k (full 7 n (2 * c .room) (2 * c .room) m n n n m (suc n)) in
     p ∷ steps k (p .state) (map (λ (t : Turn). t .call) (c .turns))
 
 -- the state that an accepted preparing leaves
@@ -351,7 +368,7 @@ prepared c =
       header = headerOf n (length (c .roads)) (length (c .pairs)) (length (cardWith (c .roads) (c .order) (c .access))) Absent;
       areas =
           areasOf
-          (c .ranks) (row (c .pairs) ++ replicate (4 * (c .room - length (c .pairs))) 0)
+          (c .ranks) (ranksOf (c .pairs) (c .room)) (timesOf (c .pairs) (c .room))
           (map (λ (r : List ℕ). getD r 2 0) (c .roads))
           (replicate n ∞) (replicate n □)
           (replicate n ∞)

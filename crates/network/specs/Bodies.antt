@@ -13,7 +13,7 @@ use Rattle.model.specs.Limits.{mostJunctions, mostRoads, mostTime}
 use Rattle.model.specs.Layout.{placeSize, roadSize, wordsIn}
 use Rattle.model.specs.Card.{bodiesRefusal, mapOf}
 pub use Rattle.model.specs.Card.{rowsIn}
-use Rattle.model.specs.Areas.{recordsIn}
+use Rattle.model.specs.Areas.{recordSize, recordsIn, timesIn}
 use Rattle.model.specs.Laws.{listed-at, listed-length}
 use Rattle.model.specs.Accept.{RoadFacts, rows-facts, rows-most, rows-valid, sizes-facts}
 
@@ -77,10 +77,12 @@ module _ (roads order : List ℕ) where
 
 -- ---- what preparing leaves, as the code below the calls relies on it
 
--- ranks by junction number; the records of all kept pairs, then zeros; their number
-pub record Prepared (roads order ranks pairs : List ℕ) (count : ℕ) : Type 0 where
+-- ranks by junction number; the records of all kept pairs, ranks and times, then zeros; their number
+pub record Prepared (roads order ranks pairs times : List ℕ) (count : ℕ) : Type 0 where
   pub sound : Sound roads order
   pub ranks-are : ranks ≡ listed (mapIn roads order .vertices) (rank (mapIn roads order))
   pub count-is : count ≡ length (pairsOf (mapIn roads order))
   pub pairs-are : pairs ≡ recordsIn (mapIn roads order) (length pairs)
-  pub room : 4 * count ≤ length pairs
+  pub times-are : times ≡ timesIn (mapIn roads order) (length times)
+  pub room : recordSize * count ≤ length pairs
+  pub same-room : length times ≡ length pairs

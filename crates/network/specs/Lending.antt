@@ -12,10 +12,11 @@ Held = RefT (List ℕ)
 abbrev pub Slice : Type 0
 Slice = Both (RefT (List ℕ)) (RefT (List ℕ))
 
--- the unit's eight areas
-abbrev pub areas : (ranks pairs live down estimates elapsed leaving groups : Slice) → Both Areas Areas
-areas r p l d e t g h = record {
-  entry = areasOf (r .entry .now) (p .entry .now) (l .entry .now) (d .entry .now) (e .entry .now) (t .entry .now) (g .entry .now)
-      (h .entry .now);
-  exit = areasOf (r .exit .now) (p .exit .now) (l .exit .now) (d .exit .now) (e .exit .now) (t .exit .now) (g .exit .now) (h .exit .now);
+-- the unit's nine areas
+abbrev pub areas : (ranks pairs times live down estimates elapsed leaving groups : Slice) → Both Areas Areas
+areas r p q l d e t g h = record {
+  entry = areasOf (r .entry .now) (p .entry .now) (q .entry .now) (l .entry .now) (d .entry .now) (e .entry .now) (t .entry .now)
+      (g .entry .now) (h .entry .now);
+  exit = areasOf (r .exit .now) (p .exit .now) (q .exit .now) (l .exit .now) (d .exit .now) (e .exit .now) (t .exit .now) (g .exit .now)
+      (h .exit .now);
 }

@@ -1,7 +1,6 @@
 // The vocabulary of the code: junctions, ranks and times, and words in bytes.
 ghost use mathlib.Core.Path.{_≡_};
 ghost use mathlib.Core.List.{[], _++_, _∷_};
-ghost use mathlib.Core.Option.{some};
 ghost use Prim.Native.Nat.{_*_, _+_, _<_, _≤_, min};
 ghost use lib.Dec.{eqb};
 ghost use lib.ListN.{drop, getD, length, take};
@@ -22,7 +21,7 @@ pub const MOST_ROADS: u32 = 16384;
 
 pub const MOST_PAIRS: u32 = 65536;
 
-pub const MOST_TIME: TimeWord = 1000000;
+pub const MOST_TIME: TimeWord = 10000000;
 
 // A list of stops (document 02, A3).
 pub const FEWEST_STOPS: usize = 2;
@@ -38,20 +37,20 @@ pub const FEWEST_SECTIONS: u32 = 2;
 
 pub const MOST_SECTIONS: u32 = 3;
 
-// The limits as lengths: of an area by junction, of one by road, and of the pairs' area, of which a record has four words (two ranks and
-// two times).
+// The limits as lengths: of an area by junction, of one by road, and of the pairs' two areas, of which a record has two words each (its
+// ranks; its times).
 pub const JUNCTIONS: usize = MOST_JUNCTIONS as usize;
 
 pub const ROADS: usize = MOST_ROADS as usize;
 
-pub const RECORD: usize = 4;
+pub const RECORD: usize = 2;
 
 pub const MOST_PAIR_WORDS: usize = RECORD * (MOST_PAIRS as usize);
 
 // ---- numbers
 
 // The word of a time: its width is known here and nowhere else.
-pub type TimeWord = u32;
+pub type TimeWord = u64;
 
 // Numbers of junctions, roads and pairs, and the card's length in bytes.
 pub struct Sizes {
@@ -68,11 +67,11 @@ pub struct Junction(pub u32);
 pub struct Rank(pub u32);
 
 // The words of the marks.
-const NONE_WORD: TimeWord = 4294967295;
+const NONE_WORD: TimeWord = 18446744073709551615;
 
-const UNASKED_WORD: TimeWord = 4294967294;
+const UNASKED_WORD: TimeWord = 18446744073709551614;
 
-// A time in seconds, or one of the marks.
+// A time in tenths of a second, or one of the marks.
 pub struct Time(pub TimeWord);
 
 impl Time {
@@ -99,17 +98,6 @@ impl Time {
         self.0
     }
 
-    // The time of a total; none where it does not fit below the marks.
-    pub fn of_total(t: u64) -> Self
-        ensures { λ r. ⌜ r .0 ≡ word (fit (some t)) ⌝ }
-    {
-        if t < UNASKED_WORD as u64 {
-            Time(t as TimeWord)
-        } else {
-            Time::NONE
-        }
-    }
-
     pub fn is_none(self) -> bool
         ensures { λ r. ⌜ r ≡ eqb (self .0) noneWord ⌝ }
     {
@@ -129,13 +117,26 @@ impl Time {
         self.0 == Time::CLOSED.0
     }
 
-    // One step of a minimum of sums: the least of this time and a + b, where a sum with none is none. The sum is taken in 64 bits; one with
-    // the mark none reaches past every time, so it comes out as none.
+    // The sum of two times: none where one is none, or where it does not fit below the marks. Every sum of times is formed here, after the
+    // test that it fits, so that none wraps, whatever the areas hold.
+    pub fn plus(self, other: Time) -> Self
+        ensures { λ r. ⌜ r .0 ≡ word (fit (ofWord (self .0) ⊕ ofWord (other .0))) ⌝ }
+    {
+        if UNASKED_WORD <= self.0 {
+            return Time::NONE;
+        }
+        if UNASKED_WORD - self.0 <= other.0 {
+            return Time::NONE;
+        }
+        Time(self.0 + other.0)
+    }
+
+    // One step of a minimum of sums: the least of this time and a + b.
     pub fn or_sum(self, a: Time, b: Time) -> Self
         ensures { λ r. ⌜ r .0 ≡ min (self .0) (word (fit (ofWord (a .0) ⊕ ofWord (b .0)))) ⌝ }
     {
         let best = self.0;
-        let sum = Time::of_total((a.0 as u64) + (b.0 as u64)).0;
+        let sum = a.plus(b).0;
         if sum < best { Time(sum) } else { Time(best) }
     }
 }
@@ -332,7 +333,7 @@ pub fn base_of(roads: &[u8], i: usize) -> Time
     requires { ⌜ 12 * i + 12 ≤ length (now roads) ⌝ }
     ensures { λ r. ⌜ r .0 ≡ wordAt (now (roads .entry)) (12 * i + 8) ⌝ }
 {
-    Time::of_word(word_at(roads, 12 * i + 8))
+    Time::of_word(word_at(roads, 12 * i + 8) as TimeWord)
 }
 
 // The junction of a rank, by the order.

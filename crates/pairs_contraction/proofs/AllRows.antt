@@ -1,10 +1,10 @@
 -- All rows of the contraction: the roads and ranks are those of the map, so the rows are its pairs (`pairs-are`). They begin with none
--- (`ready-start`), and end with all records in the area (`contract-end`) or with too many (`contract-overflow`). Assumes nothing.
+-- (`ready-start`), and end with all records in the two areas (`contract-end`) or with too many (`contract-overflow`). Assumes nothing.
 use mathlib.Core.Path.{_∙_, _≡_, ap, ap₂, fun-ext, refl, sym}
 use mathlib.Core.Option.{some}
-use mathlib.Core.List.{List, _++_}
-use Prim.Native.Nat.{_*_, _+_, _-_, _/_, _<_, _≤_, suc, ℕ}
-use lib.ListN.{getD, length, replicate, take}
+use mathlib.Core.List.{List}
+use Prim.Native.Nat.{_*_, _+_, _/_, _<_, _≤_, suc, ℕ}
+use lib.ListN.{getD, length, replicate}
 use native.Mathlib.Nat.{not-suc-le-zero}
 use native.Mathlib.Numerals.{add-one}
 use native.Mathlib.Omega.{arith}
@@ -22,13 +22,14 @@ use Rattle.model.specs.Limits.{mostJunctions, mostPairs, mostTime}
 use Rattle.model.specs.LimitLaws.{totals-fit}
 use Rattle.model.specs.Word.{noneWord}
 use Rattle.model.specs.Bytes.{wordAt}
-use Rattle.model.specs.Areas.{words}
+use Rattle.model.specs.Areas.{rankWords, recordSize, timeWords, zerosAfter}
 use Rattle.model.specs.Laws.{listed-at, listed-length}
 use Rattle.network.specs.Bodies.{MapFacts, Sound, base-in, head-in, map-facts, mapIn, tail-in}
 use Rattle.pairs_contraction.specs.declared.Contracted.the-variants.{Kept, Overflow}
 use Rattle.pairs_rows.specs.Links.{Ranked, netIn}
 use Rattle.pairs_rows.specs.Rows.{mostBlocks}
 use Rattle.pairs_fronts.specs.Fronts.{Narrow}
+use Rattle.pairs_storing.specs.Storing.{cleared}
 use Rattle.pairs_contraction.specs.Contraction.{Contraction, Ready, ranksIn}
 use Rattle.pairs_contraction.proofs.OneRow.{blocks, long, none-row}
 
@@ -135,10 +136,11 @@ module _ {roads order ranks : List ℕ} (g : Given roads order ranks) where
       most x y k o = facts .most _ _ k (arcOf (o .index) (o .below) refl refl (o .at .costs))
 
   -- no row is made, in the areas as they are at first
-  pub ready-start : {pairs : List ℕ} → length pairs ≤ 4 * mostPairs → Ready (direct N) (length ranks) 0 0 pairs
+  pub ready-start : {pairs times : List ℕ} → length pairs ≤ recordSize * mostPairs → length times ≡ length pairs
+      → Ready (direct N) (length ranks) 0 0 pairs times
       (replicate mostJunctions 0) (replicate mostJunctions 0) (replicate mostJunctions 0) (replicate mostBlocks mostJunctions)
       (replicate mostJunctions noneWord) (replicate mostJunctions noneWord)
-  ready-start area = record {
+  ready-start area same = record {
     wide = record {
       cursors = long mostJunctions 0 ranks-most;
       aheads = long mostJunctions 0 ranks-most;
@@ -146,7 +148,7 @@ module _ {roads order ranks : List ℕ} (g : Given roads order ranks) where
     };
     area = area;
     narrow = times-narrow;
-    holds = record { count-is = refl; room = omega arith; words-are = refl };
+    holds = record { count-is = refl; room = omega arith; same-room = same; ranks-are = refl; times-are = refl };
     fronts = λ v h. absurd (not-suc-le-zero h);
     sooner = record { wide = blocks mostBlocks mostJunctions ranks-most; before = λ v h. absurd (not-suc-le-zero h) };
     ups-none = none-row mostJunctions 0 ranks-most;
@@ -154,9 +156,9 @@ module _ {roads order ranks : List ℕ} (g : Given roads order ranks) where
   }
 
   -- the pairs up to those of r do not fit, so all do not
-  pub contract-overflow : {r room : ℕ} {pairs : List ℕ} → r < length ranks → length pairs ≡ room
-      → length pairs < 4 * length (rows (direct N) (length ranks) (suc r))
-      → Contraction M room pairs Overflow
+  pub contract-overflow : {r room : ℕ} {pairs times : List ℕ} → r < length ranks → length pairs ≡ room
+      → length pairs < recordSize * length (rows (direct N) (length ranks) (suc r))
+      → Contraction M room pairs times Overflow
   contract-overflow {r} {room} {pairs} h e l = record {
     kept = λ k. absurd (omega (
       arith,
@@ -166,23 +168,24 @@ module _ {roads order ranks : List ℕ} (g : Given roads order ranks) where
     overflow = λ k. refl;
   }
 
-  -- all rows are made, and the rest of the area is cleared
-  pub contract-end : {r count room : ℕ} {pairs cursor ahead ends soon ups downs pairs′ : List ℕ} → r ≡ length ranks → length pairs ≡ room
-      → Ready (direct N) (length ranks) r count pairs cursor ahead ends soon ups downs
-      → pairs′ ≡ take (4 * count) pairs ++ replicate (length pairs - 4 * count) 0 → Contraction M room pairs′ (Kept count)
-  contract-end {r} {count} {room} {pairs} e l y ez =
+  -- all rows are made, and the rest of both areas is cleared
+  pub contract-end : {r count room : ℕ} {pairs times cursor ahead ends soon ups downs pairs′ times′ : List ℕ} → r ≡ length ranks
+      → length pairs ≡ room → Ready (direct N) (length ranks) r count pairs times cursor ahead ends soon ups downs
+      → pairs′ ≡ cleared count pairs → times′ ≡ cleared count times → Contraction M room pairs′ times′ (Kept count)
+  contract-end {r} {count} e pairs-long y pairs-cleared times-cleared =
       let same : rows (direct N) (length ranks) r ≡ pairsOf M =
       ap (rows (direct N) (length ranks)) e ∙ pairs-are in
       let k : count ≡ length (pairsOf M) = y .holds .count-is ∙ ap length same in
       record {
         kept = λ h. (
           ap Kept k,
-          ez ∙ ap₂ (λ (x : List ℕ) (j : ℕ). x ++ replicate j 0) (y .holds .words-are ∙ ap words same) (ap₂ _-_ l (ap (λ (j : ℕ). 4 * j) k)),
+          pairs-cleared ∙ ap₂ zerosAfter (y .holds .ranks-are ∙ ap rankWords same) pairs-long,
+          times-cleared ∙ ap₂ zerosAfter (y .holds .times-are ∙ ap timeWords same) (y .holds .same-room ∙ pairs-long),
         );
         overflow = λ h. absurd (omega (arith, k, y .holds .room));
       }
 
-pub next-ready : {w : Weights} {n r count : ℕ} {pairs cursor ahead ends soon ups downs : List ℕ}
-    → Ready w n (suc r) count pairs cursor ahead ends soon ups downs
-    → Ready w n (r + 1) count pairs cursor ahead ends soon ups downs
+pub next-ready : {w : Weights} {n r count : ℕ} {pairs times cursor ahead ends soon ups downs : List ℕ}
+    → Ready w n (suc r) count pairs times cursor ahead ends soon ups downs
+    → Ready w n (r + 1) count pairs times cursor ahead ends soon ups downs
 next-ready {r} y = rw (add-one r) y

@@ -18,6 +18,7 @@ use Rattle.graph.specs.Network.{Network, direct}
 use Rattle.graph.specs.Pairs.{down, down-at, up, up-at}
 use Rattle.graph.specs.Records.{Pair, edge, row, row-low, rows, rows-at}
 use Rattle.model.specs.Word.{noneWord}
+use Rattle.model.specs.Areas.{recordSize}
 use Rattle.pairs_contraction.specs.declared.Contracted.the-variants.{Kept, Overflow}
 use Rattle.pairs_rows.specs.Rows.{RoadTimes, Row, block}
 use Rattle.pairs_rows.specs.Entries.{row-same}
@@ -42,6 +43,7 @@ kept-overflow e = let z : _≡_ {A = ℕ} 0 1 = cc in omega arith
 -- no area has become longer or shorter
 pub record SameLengths (a a′ : Lent) : Type 0 where
   pub pairs : length (a′ .pairs) ≡ length (a .pairs)
+  pub times : length (a′ .times) ≡ length (a .times)
   pub cursor : length (a′ .cursor) ≡ length (a .cursor)
   pub ahead : length (a′ .ahead) ≡ length (a .ahead)
   pub ends : length (a′ .ends) ≡ length (a .ends)
@@ -50,11 +52,12 @@ pub record SameLengths (a a′ : Lent) : Type 0 where
   pub downs : length (a′ .downs) ≡ length (a .downs)
 
 pub lengths-same : {a : Lent} → SameLengths a a
-lengths-same = record { pairs = refl; cursor = refl; ahead = refl; ends = refl; soon = refl; ups = refl; downs = refl }
+lengths-same = record { pairs = refl; times = refl; cursor = refl; ahead = refl; ends = refl; soon = refl; ups = refl; downs = refl }
 
 pub lengths-on : {a a′ a″ : Lent} → SameLengths a a′ → SameLengths a′ a″ → SameLengths a a″
 lengths-on s t = record {
   pairs = t .pairs ∙ s .pairs;
+  times = t .times ∙ s .times;
   cursor = t .cursor ∙ s .cursor;
   ahead = t .ahead ∙ s .ahead;
   ends = t .ends ∙ s .ends;
@@ -65,7 +68,7 @@ lengths-on s t = record {
 
 -- the row is relaxed over the ranks below k
 abbrev pub LowerIn : Weights → (n r k : ℕ) → Lent → (touched : List ℕ) → Type 0
-LowerIn w n r k a touched = Lower w n r k (a .pairs) (a .cursor) (a .ahead) (a .ends) (a .soon) (a .ups) (a .downs) touched
+LowerIn w n r k a touched = Lower w n r k (a .pairs) (a .times) (a .cursor) (a .ahead) (a .ends) (a .soon) (a .ups) (a .downs) touched
 
 -- ---- the row of times at first
 
@@ -82,9 +85,9 @@ none-row k r l = record { wide = long k noneWord l; at = λ h rh hn. getD-replic
 -- ---- from the roads to the records
 
 -- the times of its roads are those over no rank
-pub lower-start : {N : Network} {n r count : ℕ} {pairs cursor ahead ends soon ups₀ downs₀ ups downs touched : List ℕ}
-    → Ready (direct N) n r count pairs cursor ahead ends soon ups₀ downs₀ → r < n → RoadTimes N r n ups downs touched
-    → Lower (direct N) n r 0 pairs cursor ahead ends soon ups downs touched
+pub lower-start : {N : Network} {n r count : ℕ} {pairs times cursor ahead ends soon ups₀ downs₀ ups downs touched : List ℕ}
+    → Ready (direct N) n r count pairs times cursor ahead ends soon ups₀ downs₀ → r < n → RoadTimes N r n ups downs touched
+    → Lower (direct N) n r 0 pairs times cursor ahead ends soon ups downs touched
 lower-start {count = count} y rn t = record {
   stage = record {
     inside = rn;
@@ -102,14 +105,15 @@ lower-start {count = count} y rn t = record {
   sooner = y .sooner;
 }
 
-module _ {w : Weights} {n r count : ℕ} {pairs cursor ahead ends soon ups₀ downs₀ : List ℕ}
-    (y : Ready w n r count pairs cursor ahead ends soon ups₀ downs₀) where
-  module _ {cursor′ ahead′ soon′ ups downs touched : List ℕ} (z : Lower w n r r pairs cursor′ ahead′ ends soon′ ups downs touched) where
-    s : Stage w n r r pairs cursor′ ahead′ ends ups downs touched
+module _ {w : Weights} {n r count : ℕ} {pairs times cursor ahead ends soon ups₀ downs₀ : List ℕ}
+    (y : Ready w n r count pairs times cursor ahead ends soon ups₀ downs₀) where
+  module _ {cursor′ ahead′ soon′ ups downs touched : List ℕ}
+      (z : Lower w n r r pairs times cursor′ ahead′ ends soon′ ups downs touched) where
+    s : Stage w n r r pairs times cursor′ ahead′ ends ups downs touched
     s = z .stage
 
     -- relaxed over all lower ranks, they are the times of the pairs
-    pub row-times : RowTimes w n r count touched ups downs pairs
+    pub row-times : RowTimes w n r count touched ups downs pairs times
     row-times = record {
       narrow = y .narrow;
       holds = y .holds;
@@ -119,13 +123,14 @@ module _ {w : Weights} {n r count : ℕ} {pairs cursor ahead ends soon ups₀ do
     }
 
     -- the records do not fit
-    pub row-overflow : {pairs′ ups′ downs′ : List ℕ} {c : Stored} → c ≡ Full → RowAppended w n r ups′ downs′ pairs′ c
-        → RowDone w n r pairs′ cursor′ ahead′ ends soon′ ups′ downs′ Overflow
+    pub row-overflow : {pairs′ times′ ups′ downs′ : List ℕ} {c : Stored} → c ≡ Full → RowAppended w n r ups′ downs′ pairs′ times′ c
+        → RowDone w n r pairs′ times′ cursor′ ahead′ ends soon′ ups′ downs′ Overflow
     row-overflow e a = record { kept = λ k q. absurd (kept-overflow (sym q)); overflow = λ q. rw (add-one r) at (a .appended .full e) }
 
     -- they are appended, k in all, and the front of r's own row stands at its first one
-    module _ {pairs′ ups′ downs′ : List ℕ} {k x : ℕ} {c : Stored} (a : RowAppended w n r ups′ downs′ pairs′ c) (ec : c ≡ All k)
-        (ex : x ≡ cond (ltb count k) (getD pairs′ (4 * count + 1) 0) n) (ep : length pairs′ ≡ length pairs) where
+    module _ {pairs′ times′ ups′ downs′ : List ℕ} {k x : ℕ} {c : Stored}
+        (a : RowAppended w n r ups′ downs′ pairs′ times′ c) (ec : c ≡ All k)
+        (ex : x ≡ cond (ltb count k) (getD pairs′ (recordSize * count + 1) 0) n) (ep : length pairs′ ≡ length pairs) where
       -- the fronts, with that of r begun
       abbrev cursor₁ : List ℕ
       cursor₁ = set cursor′ r count
@@ -151,7 +156,7 @@ module _ {w : Weights} {n r count : ℕ} {pairs cursor ahead ends soon ups₀ do
       ends-in : r < length ends
       ends-in = omega (arith, s .inside, s .wide .ends-too)
 
-      holds′ : Holds (rows w n (suc r)) k pairs′
+      holds′ : Holds (rows w n (suc r)) k pairs′ times′
       holds′ = let h = a .appended .all k ec in rw (add-one r) at h
 
       k-is : k ≡ length (rows w n r) + length (row w r n)
@@ -161,10 +166,10 @@ module _ {w : Weights} {n r count : ℕ} {pairs cursor ahead ends soon ups₀ do
       none-low = row-low w r (suc r) (omega arith)
 
       -- the high of its first record, or n
-      first-high : cond (ltb count k) (getD pairs′ (4 * count + 1) 0) n ≡ getD (row w r n) 0 (edge n) .high
+      first-high : cond (ltb count k) (getD pairs′ (recordSize * count + 1) 0) n ≡ getD (row w r n) 0 (edge n) .high
       first-high = go (decLt count k)
         where
-          go : Dec (count < k) → cond (ltb count k) (getD pairs′ (4 * count + 1) 0) n ≡ getD (row w r n) 0 (edge n) .high
+          go : Dec (count < k) → cond (ltb count k) (getD pairs′ (recordSize * count + 1) 0) n ≡ getD (row w r n) 0 (edge n) .high
           go (yes q) =
               let c : count ≡ length (rows w n r) + 0 = omega (arith, y .holds .count-is) in
               rw (lt-ltb count k q) (holds-at holds′ count (edge n) q .high
@@ -214,7 +219,7 @@ module _ {w : Weights} {n r count : ℕ} {pairs cursor ahead ends soon ups₀ do
                 z .sooner .before v (omega arith),
               )
 
-      ready : Ready w n (suc r) k pairs′ cursor₁ ahead₁ ends₁ soon₁ ups′ downs′
+      ready : Ready w n (suc r) k pairs′ times′ cursor₁ ahead₁ ends₁ soon₁ ups′ downs′
       ready = record {
         wide = record {
           cursors = omega (arith, s .wide .cursors, length-set cursor′ r count);
@@ -244,8 +249,8 @@ module _ {w : Weights} {n r count : ℕ} {pairs cursor ahead ends soon ups₀ do
           later q = record { wide = q .wide; at = λ h rh hn. q .at h (omega arith) hn }
 
       pub row-kept : {cursor″ ahead″ ends″ soon″ : List ℕ} → Begun r count x k cursor′ ahead′ ends soon′ cursor″ ahead″ ends″ soon″
-          → RowDone w n r pairs′ cursor″ ahead″ ends″ soon″ ups′ downs′ (Kept k)
+          → RowDone w n r pairs′ times′ cursor″ ahead″ ends″ soon″ ups′ downs′ (Kept k)
       row-kept b = rw (b .cursor-is, b .ahead-is, b .ends-are, b .soon-is) (record {
-        kept = λ j q. subst (λ (m : ℕ). Ready w n (suc r) m pairs′ cursor₁ ahead₁ ends₁ soon₁ ups′ downs′) (kept-same q) ready;
+        kept = λ j q. subst (λ (m : ℕ). Ready w n (suc r) m pairs′ times′ cursor₁ ahead₁ ends₁ soon₁ ups′ downs′) (kept-same q) ready;
         overflow = λ q. absurd (kept-overflow q);
       })

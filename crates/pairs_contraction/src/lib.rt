@@ -9,6 +9,7 @@ ghost use mathlib.Core.List.{List};
 ghost use Prim.Native.Nat.{_*_, _≤_, ℕ};
 ghost use lib.ListN.{length};
 ghost use Rattle.model.specs.Limits.{mostPairs};
+ghost use Rattle.model.specs.Areas.{recordSize};
 ghost use Rattle.network.specs.Bodies.{Sound, mapIn};
 ghost use Rattle.pairs_rows.specs.Lending.{links, linksOf};
 ghost use Rattle.pairs_contraction.specs.Contraction.{Contraction, ranksIn};
@@ -58,9 +59,11 @@ fn contract_row(
     ups: &mut [TimeWord],
     downs: &mut [TimeWord],
     pairs: &mut [u32],
+    times: &mut [TimeWord],
 ) -> Contracted
-    requires { ⌜ RowAsked (linksOf roads ranks first next) at (lentOf pairs cursor ahead ends soon ups downs) ⌝ }
-    ensures { λ answer. ⌜ RowMade (links roads ranks first next .exit) at (lent pairs cursor ahead ends soon ups downs .exit) answer ⌝ }
+    requires { ⌜ RowAsked (linksOf roads ranks first next) at (lentOf pairs times cursor ahead ends soon ups downs) ⌝ }
+    ensures { λ answer. ⌜ RowMade (links roads ranks first next .exit) at (lent pairs times cursor ahead ends soon ups downs .exit)
+        answer ⌝ }
 {
     let r = at.0;
     let count = at.1;
@@ -69,6 +72,7 @@ fn contract_row(
     pairs_linking::relax_roads(roads, ranks, first, next, r, ups, downs, &mut touched);
     pairs_passing::pass_lower(
         pairs,
+        times,
         n,
         r,
         cursor,
@@ -79,7 +83,7 @@ fn contract_row(
         downs,
         &mut touched,
     );
-    match pairs_storing::append_row(&touched, n, r, count, ups, downs, pairs) {
+    match pairs_storing::append_row(&touched, n, r, count, ups, downs, pairs, times) {
         Stored::Full => Contracted::Overflow,
         Stored::All(k) => {
             let high = pairs_fronts::ahead_at(pairs, count, k, n);
@@ -90,10 +94,17 @@ fn contract_row(
 }
 
 // The kept pairs, row by row: contraction in the given order, with no witness test.
-pub fn contract(roads: &[u8], order: &[u8], ranks: &[u32], pairs: &mut [u32]) -> Contracted
-    requires { ⌜ Sound (now roads) (now order) × (now ranks ≡ ranksIn (now roads) (now order)) × (length (now pairs) ≤ 4 * mostPairs) ⌝ }
+pub fn contract(
+    roads: &[u8],
+    order: &[u8],
+    ranks: &[u32],
+    pairs: &mut [u32],
+    times: &mut [TimeWord],
+) -> Contracted
+    requires { ⌜ Sound (now roads) (now order) × (now ranks ≡ ranksIn (now roads) (now order))
+        × (length (now pairs) ≤ recordSize * mostPairs) × (length (now times) ≡ length (now pairs)) ⌝ }
     ensures { λ answer. ⌜ Contraction (mapIn (now (roads .entry)) (now (order .entry))) (length (now (pairs .entry))) (now (pairs .exit))
-        answer ⌝ }
+        (now (times .exit)) answer ⌝ }
 {
     let n = (order.len() / 4) as u32;
     let mut first = [0u32; JUNCTIONS];
@@ -121,6 +132,7 @@ pub fn contract(roads: &[u8], order: &[u8], ranks: &[u32], pairs: &mut [u32]) ->
             &mut ups,
             &mut downs,
             pairs,
+            times,
         ) {
             Contracted::Overflow => {
                 return Contracted::Overflow;
@@ -131,6 +143,6 @@ pub fn contract(roads: &[u8], order: &[u8], ranks: &[u32], pairs: &mut [u32]) ->
             }
         }
     }
-    pairs_storing::clear_from(pairs, count);
+    pairs_storing::clear_from(pairs, times, count);
     Contracted::Kept(count)
 }

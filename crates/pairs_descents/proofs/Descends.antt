@@ -54,7 +54,7 @@ take-next [] k h = absurd (not-suc-le-zero h)
 take-next (p ∷ l) zero h = refl
 take-next (p ∷ l) (suc k) h = ap (λ (x : List Pair). p ∷ x) (take-next l k (omega arith))
 
-module _ {M : Map} {n : ℕ} {order pairs : List ℕ} {count : ℕ} (o : Holds M n order pairs count) where
+module _ {M : Map} {n : ℕ} {order pairs times : List ℕ} {count : ℕ} (o : Holds M n order pairs times count) where
   -- ranks tell junctions apart
   same-rank : {v u : ℕ} → v < M .vertices → u < M .vertices → rank M v ≡ rank M u → v ≡ u
   same-rank {v} {u} lv lu e = sym (vertex-of-rank (o .valid .orders) v lv) ∙ ap (M .order) e ∙ vertex-of-rank (o .valid .orders) u lu
@@ -139,15 +139,15 @@ module _ {M : Map} {n : ℕ} {order pairs : List ℕ} {count : ℕ} (o : Holds M
     b-rank : rank M b ≡ p .high
     b-rank = ap (rank M) b-is ∙ order-rank o (highIn pairs k) high-below ∙ high-is
 
-    time-is : ofWord (downIn pairs k) ≡ p .downTime
+    time-is : ofWord (downIn times k) ≡ p .downTime
     time-is = ap ofWord (o .records k l .downs)
         ∙ ofWord-word (p .downTime) (λ u q. let small = down-time-small l q in omega (arith, small))
 
     -- it hands down
     module _ (t : ℕ) {d z : List ℕ} (len : length d ≡ n)
-        (old : (v : ℕ) → v < M .vertices → getD d v 0 ≡ word (fit (made t k (rank M v)))) (s : Handed n order pairs k d z) where
+        (old : (v : ℕ) → v < M .vertices → getD d v 0 ≡ word (fit (made t k (rank M v)))) (s : Handed n order pairs times k d z) where
       abbrev x : ℕ
-      x = min (getD d b 0) (word (fit (ofWord (downIn pairs k) ⊕ ofWord (getD d a 0))))
+      x = min (getD d b 0) (word (fit (ofWord (downIn times k) ⊕ ofWord (getD d a 0))))
 
       z-is : z ≡ set d b x
       z-is = s .exact (omega (arith, low-below, o .vertices-are)) (omega (arith, high-below, o .vertices-are)) (omega (
@@ -164,7 +164,7 @@ module _ {M : Map} {n : ℕ} {order pairs : List ℕ} {count : ℕ} (o : Holds M
           handed-on : getD (set d b x) b 0 ≡ word (fit (made t k (rank M b) ⊓ (p .downTime ⊕ made t k (p .low))))
           handed-on =
               getD-set-same d b x 0 (omega (arith, b-below, o .vertices-are, len))
-              ∙ relaxed (downIn pairs k) (made t k (rank M b)) (p .downTime) (made t k (rank M a)) (old b b-below) time-is (old a a-below)
+              ∙ relaxed (downIn times k) (made t k (rank M b)) (p .downTime) (made t k (rank M a)) (old b b-below) time-is (old a a-below)
               ∙ ap (λ (y : ℕ). word (fit (made t k (rank M b) ⊓ (p .downTime ⊕ made t k y)))) a-rank
 
           go : Dec (v ≡ b) → getD (set d b x) v 0 ≡ word (fit (hand p (made t k) (rank M v)))
@@ -195,17 +195,17 @@ module _ {M : Map} {n : ℕ} {order pairs : List ℕ} {count : ℕ} (o : Holds M
 
 -- ---- the pass
 
-module _ {n count t : ℕ} {order pairs : List ℕ} where
+module _ {n count t : ℕ} {order pairs times : List ℕ} where
   pub descend-start : {m x : ℕ} {d : List ℕ} → t < n → m ≡ n → d ≡ replicate m noneWord → x ≡ 0
-      → Descending n order pairs count t 0 (set d t x)
+      → Descending n order pairs times count t 0 (set d t x)
   unfolding made
   descend-start {d = d} l k e q = record {
     exact = λ M o v lv. ap (λ (y : ℕ). getD (set d t y) v 0) q
         ∙ start-at o (omega (arith, l, o .vertices-are)) (e ∙ ap (λ (y : ℕ). replicate y noneWord) k) lv;
   }
 
-  pub descend-turn : {k : ℕ} {d z : List ℕ} → k < count → length d ≡ n → Descending n order pairs count t k d → Handed n order pairs k d z
-      → Descending n order pairs count t (k + 1) z
+  pub descend-turn : {k : ℕ} {d z : List ℕ} → k < count → length d ≡ n → Descending n order pairs times count t k d
+      → Handed n order pairs times k d z → Descending n order pairs times count t (k + 1) z
   unfolding made
   descend-turn {k} {d} {z} l len w s = record {
     exact = λ M o v lv.
@@ -213,8 +213,8 @@ module _ {n count t : ℕ} {order pairs : List ℕ} where
         (turn-at o l t len (w .exact M o) s v lv);
   }
 
-  pub descend-end : {k : ℕ} {d : List ℕ} → count ≤ k → length d ≡ n → length order ≡ 4 * n → Descending n order pairs count t k d
-      → Descended order pairs count d t
+  pub descend-end : {k : ℕ} {d : List ℕ} → count ≤ k → length d ≡ n → length order ≡ 4 * n → Descending n order pairs times count t k d
+      → Descended order pairs times count d t
   unfolding made
   descend-end {d = d} ck len lo w = record {
     exact = λ roads ranks p.
@@ -229,35 +229,35 @@ module _ {n count t : ℕ} {order pairs : List ℕ} where
 pub junction-at : {r s j : ℕ} (order : List ℕ) → r ≡ s → j ≡ wordAt order (4 * r) → j ≡ wordAt order (4 * s)
 junction-at order e g = rw e at g
 
-module _ {n i : ℕ} {order pairs d : List ℕ} where
+module _ {n i : ℕ} {order pairs times d : List ℕ} where
   -- a rank or a junction that is none: nothing is handed
-  pub no-low : {low : ℕ} → low ≡ lowIn pairs i → n ≤ low → Handed n order pairs i d d
+  pub no-low : {low : ℕ} → low ≡ lowIn pairs i → n ≤ low → Handed n order pairs times i d d
   no-low {low} e h = record { exact = λ low-in high-in lower-in higher-in w. absurd (omega (arith, e, h, low-in)) }
 
-  pub no-high : {high : ℕ} → high ≡ highIn pairs i → n ≤ high → Handed n order pairs i d d
+  pub no-high : {high : ℕ} → high ≡ highIn pairs i → n ≤ high → Handed n order pairs times i d d
   no-high {high} e h = record { exact = λ low-in high-in lower-in higher-in w. absurd (omega (arith, e, h, high-in)) }
 
-  pub no-lower : {a : ℕ} → a ≡ lowerIn order pairs i → n ≤ a → Handed n order pairs i d d
+  pub no-lower : {a : ℕ} → a ≡ lowerIn order pairs i → n ≤ a → Handed n order pairs times i d d
   no-lower {a} e h = record { exact = λ low-in high-in lower-in higher-in w. absurd (omega (arith, e, h, lower-in)) }
 
-  pub no-higher : {b : ℕ} → b ≡ higherIn order pairs i → n ≤ b → Handed n order pairs i d d
+  pub no-higher : {b : ℕ} → b ≡ higherIn order pairs i → n ≤ b → Handed n order pairs times i d d
   no-higher {b} e h = record { exact = λ low-in high-in lower-in higher-in w. absurd (omega (arith, e, h, higher-in)) }
 
   -- a lower junction without a total has nothing to hand down
-  pub no-rest : {a rest : ℕ} → a ≡ lowerIn order pairs i → rest ≡ getD d a 0 → rest ≡ noneWord → Handed n order pairs i d d
+  pub no-rest : {a rest : ℕ} → a ≡ lowerIn order pairs i → rest ≡ getD d a 0 → rest ≡ noneWord → Handed n order pairs times i d d
   no-rest {a} {rest} ea er en =
       let q : getD d (lowerIn order pairs i) 0 ≡ noneWord = sym (er ∙ ap (λ (j : ℕ). getD d j 0) ea) ∙ en in
       record { exact = λ l h lr hr w. sym (ap (set d (higherIn order pairs i)) (kept q w) ∙ set-getD d (higherIn order pairs i) 0) }
     where
       kept : getD d (lowerIn order pairs i) 0 ≡ noneWord → getD d (higherIn order pairs i) 0 ≤ noneWord
-          → min (getD d (higherIn order pairs i) 0) (word (fit (ofWord (downIn pairs i) ⊕ ofWord (getD d (lowerIn order pairs i) 0)))) ≡
+          → min (getD d (higherIn order pairs i) 0) (word (fit (ofWord (downIn times i) ⊕ ofWord (getD d (lowerIn order pairs i) 0)))) ≡
           getD d (higherIn order pairs i) 0
       kept q w = rw (q, ofWord-none, ⊕-none) (omega arith)
 
   -- best, time and rest are read as times, v is stored
   pub handed : {a b best time rest least v : ℕ} → a ≡ lowerIn order pairs i → b ≡ higherIn order pairs i → best ≡ getD d b 0
-      → time ≡ downIn pairs i → rest ≡ getD d a 0 → least ≡ min best (word (fit (ofWord time ⊕ ofWord rest)))
-      → v ≡ least → Handed n order pairs i d (set d b v)
+      → time ≡ downIn times i → rest ≡ getD d a 0 → least ≡ min best (word (fit (ofWord time ⊕ ofWord rest)))
+      → v ≡ least → Handed n order pairs times i d (set d b v)
   handed ea eb p q r s f = record {
     exact = λ l h lr hr w.
         ap₂ (set d) eb

@@ -1,6 +1,6 @@
 // The down totals of a target over the prepared pairs (document 01: aim): functions on slices.
 ghost use Rattle.pairs_descents.specs.Lending.{DownsAsked, DownsMade, HandAsked, HandDone, lent, lentOf};
-use areas::fill;
+use areas::fill_times;
 use network::Junction;
 use network::Time;
 use network::TimeWord;
@@ -9,9 +9,9 @@ use pairs_records::high_of;
 use pairs_records::low_of;
 
 // Record i hands the total of its lower junction, plus its down time, to its higher one.
-fn hand_down(n: u32, order: &[u8], pairs: &[u32], down: &mut [TimeWord], i: u32)
-    requires { ⌜ HandAsked n i (lentOf order pairs down) ⌝ }
-    ensures { λ _. ⌜ HandDone n i (lent order pairs down) ⌝ }
+fn hand_down(n: u32, order: &[u8], pairs: &[u32], times: &[TimeWord], down: &mut [TimeWord], i: u32)
+    requires { ⌜ HandAsked n i (lentOf order pairs times down) ⌝ }
+    ensures { λ _. ⌜ HandDone n i (lent order pairs times down) ⌝ }
 {
     let low = low_of(pairs, i);
     if n <= low.0 {
@@ -35,7 +35,7 @@ fn hand_down(n: u32, order: &[u8], pairs: &[u32], down: &mut [TimeWord], i: u32)
     }
     let h = higher.0 as usize;
     let best = Time::of_word(down[h]);
-    let least = best.or_sum(down_of(pairs, i), rest);
+    let least = best.or_sum(down_of(times, i), rest);
     down[h] = least.word();
 }
 
@@ -45,19 +45,20 @@ pub fn down_totals(
     count: u32,
     order: &[u8],
     pairs: &[u32],
+    times: &[TimeWord],
     down: &mut [TimeWord],
     target: Junction,
 )
-    requires { ⌜ DownsAsked n count (target .0) (lentOf order pairs down) ⌝ }
-    ensures { λ _. ⌜ DownsMade count (target .0) (lent order pairs down .exit) ⌝ }
+    requires { ⌜ DownsAsked n count (target .0) (lentOf order pairs times down) ⌝ }
+    ensures { λ _. ⌜ DownsMade count (target .0) (lent order pairs times down .exit) ⌝ }
 {
-    fill(down, Time::NONE.0);
+    fill_times(down, Time::NONE.0);
     let t = target.0 as usize;
     let here = Time::of_word(0);
     down[t] = here.word();
     let mut i: u32 = 0;
     while i < count {
-        hand_down(n, order, pairs, down, i);
+        hand_down(n, order, pairs, times, down, i);
         i += 1;
     }
 }

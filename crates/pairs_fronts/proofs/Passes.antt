@@ -21,6 +21,7 @@ use Rattle.graph.specs.Records.{Pair, begins-length, edge, exists, minOver, min
 use Rattle.graph.specs.Records.{row-blank, row-kept, row-place, rows, rows-at, rows-length}
 use Rattle.graph.specs.Folds.{later, over-blank, over-downs, over-ups, through}
 use Rattle.model.specs.Word.{ofWord, ofWord-word, word}
+use Rattle.model.specs.Areas.{recordSize}
 use Rattle.model.specs.Use.{RecordAt}
 use Rattle.network.specs.Width.{fit, fit-min}
 use Rattle.pairs_records.specs.Words.{downIn, highIn, upIn}
@@ -32,28 +33,28 @@ use Rattle.pairs_fronts.specs.Holding.{holds-at}
 -- ---- one row of records
 
 -- the records before i have relaxed the row
-pub record Relaxing (pairs : List ℕ) (from to : ℕ) (timeIn : List ℕ → ℕ → ℕ) (first i : ℕ) (row row′ : List ℕ) : Type 0 where
-  pub by : (r n : ℕ) (l : List Pair) (time : Pair → Total) (x : ℕ → Total) → Times pairs from timeIn time l → from + length l ≡ to
+pub record Relaxing (pairs times : List ℕ) (from to : ℕ) (timeIn : List ℕ → ℕ → ℕ) (first i : ℕ) (row row′ : List ℕ) : Type 0 where
+  pub by : (r n : ℕ) (l : List Pair) (time : Pair → Total) (x : ℕ → Total) → Times pairs times from timeIn time l → from + length l ≡ to
       → Row r n row x
       → Row r n row′ (λ h. x h ⊓ minOver (through (ofWord first) time h) (take (i - from) l))
 
-module _ {pairs : List ℕ} {from to : ℕ} {timeIn : List ℕ → ℕ → ℕ} {first : ℕ} {row₀ : List ℕ} where
-  pub relaxing-start : Relaxing pairs from to timeIn first from row₀ row₀
+module _ {pairs times : List ℕ} {from to : ℕ} {timeIn : List ℕ → ℕ → ℕ} {first : ℕ} {row₀ : List ℕ} where
+  pub relaxing-start : Relaxing pairs times from to timeIn first from row₀ row₀
   relaxing-start = record {
     by = λ r n l time x t e w.
         let z : from - from ≡ 0 = omega arith in
         row-same (λ h. x h ⊓ minOver (through (ofWord first) time h) (take (from - from) l)) w (λ h rh hn. rw z (⊓-none (x h)));
   }
 
-  pub relaxing-turn : {i b a : ℕ} {row row′ : List ℕ} → from ≤ i → i < to → b ≡ highIn pairs i → a ≡ timeIn pairs i
-      → row′ ≡ set row b (min (getD row b 0) (word (fit (ofWord first ⊕ ofWord a)))) → Relaxing pairs from to timeIn first i row₀ row
-      → Relaxing pairs from to timeIn first (i + 1) row₀ row′
+  pub relaxing-turn : {i b a : ℕ} {row row′ : List ℕ} → from ≤ i → i < to → b ≡ highIn pairs i → a ≡ timeIn times i
+      → row′ ≡ set row b (min (getD row b 0) (word (fit (ofWord first ⊕ ofWord a)))) → Relaxing pairs times from to timeIn first i row₀ row
+      → Relaxing pairs times from to timeIn first (i + 1) row₀ row′
   relaxing-turn {i} {b} {a} {row} fi it eb ea er g = rw er (record { by = one })
     where
       v : ℕ
       v = min (getD row b 0) (word (fit (ofWord first ⊕ ofWord a)))
 
-      one : (r n : ℕ) (l : List Pair) (time : Pair → Total) (x : ℕ → Total) → Times pairs from timeIn time l → from + length l ≡ to
+      one : (r n : ℕ) (l : List Pair) (time : Pair → Total) (x : ℕ → Total) → Times pairs times from timeIn time l → from + length l ≡ to
           → Row r n row₀ x
           → Row r n (set row b v) (λ h. x h ⊓ minOver (through (ofWord first) time h) (take (i + 1 - from) l))
       one r n l time x t e w = row-set becomes b v row-was here there
@@ -82,7 +83,7 @@ module _ {pairs : List ℕ} {from to : ℕ} {timeIn : List ℕ → ℕ → ℕ} 
           high = eb ∙ ap (λ (y : ℕ). highIn pairs y) (sym place) ∙ t .high (i - from) (edge 0) (omega arith)
 
           own : ofWord a ≡ time p
-          own = ap ofWord ea ∙ ap (λ (y : ℕ). ofWord (timeIn pairs y)) (sym place) ∙ t .time-is (i - from) (edge 0) (omega arith)
+          own = ap ofWord ea ∙ ap (λ (y : ℕ). ofWord (timeIn times y)) (sym place) ∙ t .time-is (i - from) (edge 0) (omega arith)
 
           more : (h : ℕ) → becomes h ≡ was h ⊓ f h p
           more h =
@@ -105,8 +106,8 @@ module _ {pairs : List ℕ} {from to : ℕ} {timeIn : List ℕ → ℕ → ℕ} 
           there : (h : ℕ) → r < h → (h ≡ b → ⊥) → becomes h ≡ was h
           there h rh ne = more h ∙ ap (_⊓_ (was h)) (miss h ne) ∙ ⊓-none (was h)
 
-  pub relaxing-end : {i : ℕ} {row : List ℕ} → i ≤ to → to ≤ i → Relaxing pairs from to timeIn first i row₀ row
-      → Relaxed pairs from to timeIn first row₀ row
+  pub relaxing-end : {i : ℕ} {row : List ℕ} → i ≤ to → to ≤ i → Relaxing pairs times from to timeIn first i row₀ row
+      → Relaxed pairs times from to timeIn first row₀ row
   relaxing-end {i} h k g = record {
     by = λ r n l time x t e w.
         row-same (λ h. x h ⊓ minOver (through (ofWord first) time h) l) (g .by r n l time x t e w)
@@ -116,21 +117,21 @@ module _ {pairs : List ℕ} {from to : ℕ} {timeIn : List ℕ → ℕ → ℕ} 
 -- ---- both rows, and the marks
 
 -- the records from `from` to before j have relaxed them
-pub record Going (pairs : List ℕ) (from to down up j : ℕ) (ups₀ downs₀ touched₀ ups downs touched : List ℕ) : Type 0 where
-  pub ups-by : Relaxing pairs from to upIn down j ups₀ ups
-  pub downs-by : Relaxing pairs from to downIn up j downs₀ downs
+pub record Going (pairs times : List ℕ) (from to down up j : ℕ) (ups₀ downs₀ touched₀ ups downs touched : List ℕ) : Type 0 where
+  pub ups-by : Relaxing pairs times from to upIn down j ups₀ ups
+  pub downs-by : Relaxing pairs times from to downIn up j downs₀ downs
   pub marks : (r n : ℕ) → Marked r n touched₀ ups₀ downs₀ → Marked r n touched ups downs
 
-module _ {pairs : List ℕ} {from to down up : ℕ} {ups₀ downs₀ touched₀ : List ℕ} where
-  pub going-start : Going pairs from to down up from ups₀ downs₀ touched₀ ups₀ downs₀ touched₀
+module _ {pairs times : List ℕ} {from to down up : ℕ} {ups₀ downs₀ touched₀ : List ℕ} where
+  pub going-start : Going pairs times from to down up from ups₀ downs₀ touched₀ ups₀ downs₀ touched₀
   going-start = record { ups-by = relaxing-start; downs-by = relaxing-start; marks = λ r n m. m }
 
   pub going-turn : {j h a b : ℕ} {ups downs touched ups′ downs′ touched′ : List ℕ} → from ≤ j → j < to → h ≡ highIn pairs j
-      → a ≡ upIn pairs j → ups′ ≡ set ups h (min (getD ups h 0) (word (fit (ofWord down ⊕ ofWord a))))
-      → b ≡ downIn pairs j → downs′ ≡ set downs h (min (getD downs h 0) (word (fit (ofWord up ⊕ ofWord b))))
+      → a ≡ upIn times j → ups′ ≡ set ups h (min (getD ups h 0) (word (fit (ofWord down ⊕ ofWord a))))
+      → b ≡ downIn times j → downs′ ≡ set downs h (min (getD downs h 0) (word (fit (ofWord up ⊕ ofWord b))))
       → h < block * length touched → touched′ ≡ set touched (h / block) 1
-      → Going pairs from to down up j ups₀ downs₀ touched₀ ups downs touched
-      → Going pairs from to down up (j + 1) ups₀ downs₀ touched₀ ups′ downs′ touched′
+      → Going pairs times from to down up j ups₀ downs₀ touched₀ ups downs touched
+      → Going pairs times from to down up (j + 1) ups₀ downs₀ touched₀ ups′ downs′ touched′
   going-turn {j} {h} {a} {b} {ups} {downs} fj jt eh ea eu eb ed lh et g = record {
     ups-by = relaxing-turn fj jt eh ea eu (g .ups-by);
     downs-by = relaxing-turn fj jt eh eb ed (g .downs-by);
@@ -144,9 +145,9 @@ module _ {pairs : List ℕ} {from to down up : ℕ} {ups₀ downs₀ touched₀ 
       d : ℕ
       d = min (getD downs h 0) (word (fit (ofWord up ⊕ ofWord b)))
 
-pub going-end : {pairs : List ℕ} {i end down up j : ℕ} {ups₀ downs₀ touched₀ ups downs touched : List ℕ} → j ≤ end → end ≤ j
-    → down ≡ downIn pairs i → up ≡ upIn pairs i → Going pairs (i + 1) end down up j ups₀ downs₀ touched₀ ups downs touched
-    → Over pairs i end ups₀ downs₀ touched₀ ups downs touched
+pub going-end : {pairs times : List ℕ} {i end down up j : ℕ} {ups₀ downs₀ touched₀ ups downs touched : List ℕ} → j ≤ end → end ≤ j
+    → down ≡ downIn times i → up ≡ upIn times i → Going pairs times (i + 1) end down up j ups₀ downs₀ touched₀ ups downs touched
+    → Over pairs times i end ups₀ downs₀ touched₀ ups downs touched
 going-end h k ed eu g = record {
   ups-by = rw ed at (relaxing-end h k (g .ups-by));
   downs-by = rw eu at (relaxing-end h k (g .downs-by));
@@ -155,14 +156,14 @@ going-end h k ed eu g = record {
 
 -- ---- the row of a lower rank v, where its pair with r is kept
 
-pub record Meeting (w : Weights) (n r v i end : ℕ) (pairs : List ℕ) : Type 0 where
+pub record Meeting (w : Weights) (n r v i end : ℕ) (pairs times : List ℕ) : Type 0 where
   pub next-in : i < end
-  pub end-in : 4 * end ≤ length pairs
-  pub first-up : ofWord (upIn pairs i) ≡ up w v r
-  pub first-down : ofWord (downIn pairs i) ≡ down w v r
+  pub end-in : recordSize * end ≤ length pairs
+  pub first-up : ofWord (upIn times i) ≡ up w v r
+  pub first-down : ofWord (downIn times i) ≡ down w v r
   pub end-is : i + 1 + length (later w n v r) ≡ end
-  pub ups : Times pairs (i + 1) upIn (λ p. p .upTime) (later w n v r)
-  pub downs : Times pairs (i + 1) downIn (λ p. p .downTime) (later w n v r)
+  pub ups : Times pairs times (i + 1) upIn (λ p. p .upTime) (later w n v r)
+  pub downs : Times pairs times (i + 1) downIn (λ p. p .downTime) (later w n v r)
   pub highs : (j : ℕ) → i + 1 ≤ j → j < end → highIn pairs j < n
   -- the front of v, passed up to r
   pub place-is : i + 1 ≡ length (rows w n v) + length (row w v (suc r))
@@ -172,8 +173,8 @@ pub record Meeting (w : Weights) (n r v i end : ℕ) (pairs : List ℕ) : Type 0
 same-time : {x : ℕ} {t u : Total} → x ≡ word u → u ≡ t → ofWord (word t) ≡ t → ofWord x ≡ u
 same-time q e f = ap ofWord (q ∙ ap word e) ∙ f ∙ sym e
 
-module _ {w : Weights} {n r v : ℕ} {pairs cursor ahead ends ups downs touched : List ℕ}
-    (s : Stage w n r v pairs cursor ahead ends ups downs touched) (vr : v < r) where
+module _ {w : Weights} {n r v : ℕ} {pairs times cursor ahead ends ups downs touched : List ℕ}
+    (s : Stage w n r v pairs times cursor ahead ends ups downs touched) (vr : v < r) where
   rn : r < n
   rn = s .inside
 
@@ -200,7 +201,7 @@ module _ {w : Weights} {n r v : ℕ} {pairs cursor ahead ends ups downs touched 
       go (inr t) = t
 
   -- record j of v
-  record-of : (j : ℕ) (d : Pair) → j < length (row w v n) → RecordAt pairs (length (rows w n v) + j) (getD (row w v n) j d)
+  record-of : (j : ℕ) (d : Pair) → j < length (row w v n) → RecordAt pairs times (length (rows w n v) + j) (getD (row w v n) j d)
   record-of j d l = rw (rows-at w n v r j d vr l) at (holds-at (s .holds) (length (rows w n v) + j) d (omega (
     arith,
     s .holds .count-is,
@@ -233,7 +234,7 @@ module _ {w : Weights} {n r v : ℕ} {pairs cursor ahead ends ups downs touched 
     later-length = length-drop (length (row w v (suc r))) (row w v n)
 
     -- record j after i + 1
-    later-at : (j : ℕ) (d : Pair) → j < length (later w n v r) → RecordAt pairs (i + 1 + j) (getD (later w n v r) j d)
+    later-at : (j : ℕ) (d : Pair) → j < length (later w n v r) → RecordAt pairs times (i + 1 + j) (getD (later w n v r) j d)
     later-at j d l =
         let q : length (rows w n v) + (length (row w v (suc r)) + j) ≡ i + 1 + j = omega (arith, next-is) in
         let a = record-of (length (row w v (suc r)) + j) d (omega (arith, later-length)) in
@@ -244,7 +245,7 @@ module _ {w : Weights} {n r v : ℕ} {pairs cursor ahead ends ups downs touched 
         let a = row-at w v n (length (row w v (suc r)) + j) d (omega (arith, later-length)) in
         (a .0, getD-drop (length (row w v (suc r))) (row w v n) j d ∙ a .1, a .2)
 
-    first-record : RecordAt pairs i (pairOf w v r)
+    first-record : RecordAt pairs times i (pairOf w v r)
     first-record =
         let a = record-of (length (row w v r)) (edge n) (omega (arith, size, within)) in
         rw (← (front .cursor-is), row-place w v r n (edge n) rn (kept e)) at a
@@ -273,7 +274,7 @@ module _ {w : Weights} {n r v : ℕ} {pairs cursor ahead ends ups downs touched 
         let q : i + 1 + (j - (i + 1)) ≡ j = omega arith in
         rw q at (later-below (j - (i + 1)) (omega (arith, next-is, front .end-is, later-length)))
 
-    pub meeting : Meeting w n r v (getD cursor v 0) (getD ends v 0) pairs
+    pub meeting : Meeting w n r v (getD cursor v 0) (getD ends v 0) pairs times
     meeting = record {
       next-in = omega (arith, next-is, front .end-is, within);
       end-in = omega (arith, front .end-is, rows-length w n v r vr, s .holds .count-is, s .holds .room);
@@ -304,10 +305,10 @@ module _ {w : Weights} {n r v : ℕ} {pairs cursor ahead ends ups downs touched 
 
 -- ---- the stages
 
-module _ {w : Weights} {n r v : ℕ} {pairs cursor ahead ends ups downs touched : List ℕ}
-    (s : Stage w n r v pairs cursor ahead ends ups downs touched) (vr : v < r) where
+module _ {w : Weights} {n r v : ℕ} {pairs times cursor ahead ends ups downs touched : List ℕ}
+    (s : Stage w n r v pairs times cursor ahead ends ups downs touched) (vr : v < r) where
   -- the pair of v with r is not kept
-  pub stage-skip : (getD ahead v 0 ≡ r → ⊥) → Stage w n r (v + 1) pairs cursor ahead ends ups downs touched
+  pub stage-skip : (getD ahead v 0 ≡ r → ⊥) → Stage w n r (v + 1) pairs times cursor ahead ends ups downs touched
   stage-skip ne =
       let b = blank s vr ne in
       rw (add-one v) (record {
@@ -336,10 +337,10 @@ module _ {w : Weights} {n r v : ℕ} {pairs cursor ahead ends ups downs touched 
       front u h (no e) = s .passed u (omega arith)
 
   -- it is kept, and v's row is passed
-  pub stage-pass : {i end x : ℕ} {ups′ downs′ touched′ : List ℕ} → Meeting w n r v i end pairs
-      → Over pairs i end ups downs touched ups′ downs′ touched′
+  pub stage-pass : {i end x : ℕ} {ups′ downs′ touched′ : List ℕ} → Meeting w n r v i end pairs times
+      → Over pairs times i end ups downs touched ups′ downs′ touched′
       → x ≡ cond (ltb (i + 1) end) (highIn pairs (i + 1)) n
-      → Stage w n r (v + 1) pairs (set cursor v (i + 1)) (set ahead v x) ends ups′ downs′ touched′
+      → Stage w n r (v + 1) pairs times (set cursor v (i + 1)) (set ahead v x) ends ups′ downs′ touched′
   stage-pass {i} {x} m o ex =
       rw (add-one v) (record {
         inside = s .inside;

@@ -13,7 +13,7 @@ use Rattle.graph.specs.Records.{Pair, edge, minOver, row, rows}
 use Rattle.graph.specs.Folds.{through}
 use Rattle.model.specs.Limits.{mostPairs}
 use Rattle.model.specs.Word.{ofWord, unasked}
-use Rattle.model.specs.Areas.{words}
+use Rattle.model.specs.Areas.{rankWords, recordSize, timeWords}
 use Rattle.pairs_records.specs.Words.{downIn, highIn, upIn}
 use Rattle.pairs_rows.specs.Rows.{Marked, Row, block}
 
@@ -22,11 +22,13 @@ pub record Narrow (w : Weights) (n : ℕ) : Type 0 where
   pub ups : (l h t : ℕ) → l < n → h < n → up w l h ≡ some t → t < unasked
   pub downs : (l h t : ℕ) → l < n → h < n → down w l h ≡ some t → t < unasked
 
--- the area begins with the records of the pairs of l, count in number
-pub record Holds (l : List Pair) (count : ℕ) (pairs : List ℕ) : Type 0 where
+-- the two areas begin with the records of the pairs of l, count in number, and have the same room
+pub record Holds (l : List Pair) (count : ℕ) (pairs times : List ℕ) : Type 0 where
   pub count-is : count ≡ length l
-  pub room : 4 * count ≤ length pairs
-  pub words-are : take (4 * count) pairs ≡ words l
+  pub room : recordSize * count ≤ length pairs
+  pub same-room : length times ≡ length pairs
+  pub ranks-are : take (recordSize * count) pairs ≡ rankWords l
+  pub times-are : take (recordSize * count) times ≡ timeWords l
 
 -- ---- a row of records relaxes the row of r
 
@@ -37,20 +39,20 @@ pub record Reached (pairs : List ℕ) (from to : ℕ) (ups downs touched : List 
   pub marks-in : (j : ℕ) → from ≤ j → j < to → highIn pairs j < block * length touched
 
 -- from record `from` on stand the pairs of l, with one of their two times where `timeIn` finds it (upIn or downIn)
-pub record Times (pairs : List ℕ) (from : ℕ) (timeIn : List ℕ → ℕ → ℕ) (time : Pair → Total) (l : List Pair) : Type 0 where
+pub record Times (pairs times : List ℕ) (from : ℕ) (timeIn : List ℕ → ℕ → ℕ) (time : Pair → Total) (l : List Pair) : Type 0 where
   pub high : (i : ℕ) (d : Pair) → i < length l → highIn pairs (from + i) ≡ getD l i d .high
-  pub time-is : (i : ℕ) (d : Pair) → i < length l → ofWord (timeIn pairs (from + i)) ≡ time (getD l i d)
+  pub time-is : (i : ℕ) (d : Pair) → i < length l → ofWord (timeIn times (from + i)) ≡ time (getD l i d)
 
 -- each of these pairs relaxes the entry of its high by `first` and its time
-pub record Relaxed (pairs : List ℕ) (from to : ℕ) (timeIn : List ℕ → ℕ → ℕ) (first : ℕ) (row row′ : List ℕ) : Type 0 where
-  pub by : (r n : ℕ) (l : List Pair) (time : Pair → Total) (x : ℕ → Total) → Times pairs from timeIn time l → from + length l ≡ to
+pub record Relaxed (pairs times : List ℕ) (from to : ℕ) (timeIn : List ℕ → ℕ → ℕ) (first : ℕ) (row row′ : List ℕ) : Type 0 where
+  pub by : (r n : ℕ) (l : List Pair) (time : Pair → Total) (x : ℕ → Total) → Times pairs times from timeIn time l → from + length l ≡ to
       → Row r n row x
       → Row r n row′ (λ h. x h ⊓ minOver (through (ofWord first) time h) l)
 
 -- both rows by the records after i, up to before `end`: the up times over i's down time, and the down times over i's up time
-pub record Over (pairs : List ℕ) (i end : ℕ) (ups downs touched ups′ downs′ touched′ : List ℕ) : Type 0 where
-  pub ups-by : Relaxed pairs (i + 1) end upIn (downIn pairs i) ups ups′
-  pub downs-by : Relaxed pairs (i + 1) end downIn (upIn pairs i) downs downs′
+pub record Over (pairs times : List ℕ) (i end : ℕ) (ups downs touched ups′ downs′ touched′ : List ℕ) : Type 0 where
+  pub ups-by : Relaxed pairs times (i + 1) end upIn (downIn times i) ups ups′
+  pub downs-by : Relaxed pairs times (i + 1) end downIn (upIn times i) downs downs′
   pub marks : (r n : ℕ) → Marked r n touched ups downs → Marked r n touched′ ups′ downs′
 
 -- ---- the rows of the lower ranks
@@ -69,13 +71,13 @@ pub record Wide (n : ℕ) (cursor ahead ends : List ℕ) : Type 0 where
   pub ends-too : n ≤ length ends
 
 -- The row of r, relaxed over the ranks below k. The rows of these are passed up to r, those of the others up to before r.
-pub record Stage (w : Weights) (n r k : ℕ) (pairs cursor ahead ends ups downs touched : List ℕ) : Type 0 where
+pub record Stage (w : Weights) (n r k : ℕ) (pairs times cursor ahead ends ups downs touched : List ℕ) : Type 0 where
   pub inside : r < n
   pub wide : Wide n cursor ahead ends
-  pub area : length pairs ≤ 4 * mostPairs
+  pub area : length pairs ≤ recordSize * mostPairs
   pub narrow : Narrow w n
   pub count : ℕ
-  pub holds : Holds (rows w n r) count pairs
+  pub holds : Holds (rows w n r) count pairs times
   pub passed : (v : ℕ) → v < k → Front w n v (suc r) cursor ahead ends
   pub waiting : (v : ℕ) → k ≤ v → v < r → Front w n v r cursor ahead ends
   pub ups-are : Row r n ups (λ h. level w k r h)
@@ -83,8 +85,8 @@ pub record Stage (w : Weights) (n r k : ℕ) (pairs cursor ahead ends ups downs 
   pub marked : Marked r n touched ups downs
 
 -- the same, and x is at most the high ahead of each rank from `from` to before k
-pub record Scanned (w : Weights) (n r from k x : ℕ) (pairs cursor ahead ends ups downs touched : List ℕ) : Type 0 where
-  pub stage : Stage w n r k pairs cursor ahead ends ups downs touched
+pub record Scanned (w : Weights) (n r from k x : ℕ) (pairs times cursor ahead ends ups downs touched : List ℕ) : Type 0 where
+  pub stage : Stage w n r k pairs times cursor ahead ends ups downs touched
   pub bound : (v : ℕ) → from ≤ v → v < k → x ≤ getD ahead v 0
 
 -- soon is, for each block, at most the high ahead of each of its ranks below r
@@ -93,8 +95,8 @@ pub record Sooner (n r : ℕ) (ahead soon : List ℕ) : Type 0 where
   pub before : (v : ℕ) → v < r → getD soon (v / block) 0 ≤ getD ahead v 0
 
 -- all of it
-pub record Lower (w : Weights) (n r k : ℕ) (pairs cursor ahead ends soon ups downs touched : List ℕ) : Type 0 where
-  pub stage : Stage w n r k pairs cursor ahead ends ups downs touched
+pub record Lower (w : Weights) (n r k : ℕ) (pairs times cursor ahead ends soon ups downs touched : List ℕ) : Type 0 where
+  pub stage : Stage w n r k pairs times cursor ahead ends ups downs touched
   pub sooner : Sooner n r ahead soon
 
 -- ---- the front of a new row

@@ -5,13 +5,14 @@ use denote.Triple.Both.{Both}
 use lib.ListN.{length}
 use Rattle.graph.specs.Path.{Weights}
 use Rattle.network.specs.Lending.{Held, Slice}
-use Rattle.pairs_rows.specs.Lending.{Times}
+use Rattle.pairs_rows.specs.Lending.{Rows}
 use Rattle.pairs_rows.specs.Rows.{block}
 use Rattle.pairs_fronts.specs.Fronts.{Begun, Lower, Over, Scanned, Stage}
 
--- the records of the pairs, the front of each lower rank, and the row of times with its marks
+-- the records of the pairs, ranks and times, the front of each lower rank, and the row of times with its marks
 pub record Lent : Type 0 where
   pub pairs : List ℕ
+  pub times : List ℕ
   pub cursor : List ℕ
   pub ahead : List ℕ
   pub ends : List ℕ
@@ -19,14 +20,22 @@ pub record Lent : Type 0 where
   pub downs : List ℕ
   pub touched : List ℕ
 
-abbrev pub lentOf : (pairs cursor ahead ends ups downs touched : Held) → Lent
-lentOf p c a e u d t =
-    record { pairs = p .now; cursor = c .now; ahead = a .now; ends = e .now; ups = u .now; downs = d .now; touched = t .now }
+abbrev pub lentOf : (pairs times cursor ahead ends ups downs touched : Held) → Lent
+lentOf p q c a e u d t = record {
+  pairs = p .now;
+  times = q .now;
+  cursor = c .now;
+  ahead = a .now;
+  ends = e .now;
+  ups = u .now;
+  downs = d .now;
+  touched = t .now;
+}
 
-abbrev pub lent : (pairs cursor ahead ends ups downs touched : Slice) → Both Lent Lent
-lent p c a e u d t = record {
-  entry = lentOf (p .entry) (c .entry) (a .entry) (e .entry) (u .entry) (d .entry) (t .entry);
-  exit = lentOf (p .exit) (c .exit) (a .exit) (e .exit) (u .exit) (d .exit) (t .exit);
+abbrev pub lent : (pairs times cursor ahead ends ups downs touched : Slice) → Both Lent Lent
+lent p q c a e u d t = record {
+  entry = lentOf (p .entry) (q .entry) (c .entry) (a .entry) (e .entry) (u .entry) (d .entry) (t .entry);
+  exit = lentOf (p .exit) (q .exit) (c .exit) (a .exit) (e .exit) (u .exit) (d .exit) (t .exit);
 }
 
 -- the front of each rank, with the bound of each block
@@ -48,18 +57,18 @@ fronts c a e s = record {
 -- ---- the row of r, relaxed over the ranks below k
 
 abbrev pub StageIn : Weights → (n r k : ℕ) → Lent → Type 0
-StageIn w n r k a = Stage w n r k (a .pairs) (a .cursor) (a .ahead) (a .ends) (a .ups) (a .downs) (a .touched)
+StageIn w n r k a = Stage w n r k (a .pairs) (a .times) (a .cursor) (a .ahead) (a .ends) (a .ups) (a .downs) (a .touched)
 
 abbrev pub ScannedIn : Weights → (n r from k x : ℕ) → Lent → Type 0
-ScannedIn w n r from k x a = Scanned w n r from k x (a .pairs) (a .cursor) (a .ahead) (a .ends) (a .ups) (a .downs) (a .touched)
+ScannedIn w n r from k x a = Scanned w n r from k x (a .pairs) (a .times) (a .cursor) (a .ahead) (a .ends) (a .ups) (a .downs) (a .touched)
 
 abbrev pub LowerIn : Weights → (n r k : ℕ) → Lent → (soon : List ℕ) → Type 0
-LowerIn w n r k a soon = Lower w n r k (a .pairs) (a .cursor) (a .ahead) (a .ends) soon (a .ups) (a .downs) (a .touched)
+LowerIn w n r k a soon = Lower w n r k (a .pairs) (a .times) (a .cursor) (a .ahead) (a .ends) soon (a .ups) (a .downs) (a .touched)
 
 -- the paths over the low of record i have relaxed the row
-abbrev pub OverDone : (pairs : List ℕ) (i end : ℕ) → Both Times Times → Type 0
-OverDone pairs i end t =
-    Over pairs i end (t .entry .ups) (t .entry .downs) (t .entry .touched) (t .exit .ups) (t .exit .downs) (t .exit .touched)
+abbrev pub OverDone : (pairs times : List ℕ) (i end : ℕ) → Both Rows Rows → Type 0
+OverDone pairs times i end t =
+    Over pairs times i end (t .entry .ups) (t .entry .downs) (t .entry .touched) (t .exit .ups) (t .exit .downs) (t .exit .touched)
 
 -- rank r may have a front, and has one
 pub record FrontAsked (r : ℕ) (f : Fronts) : Type 0 where

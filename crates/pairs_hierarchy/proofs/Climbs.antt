@@ -38,7 +38,7 @@ use Rattle.pairs_hierarchy.proofs.Facts.{over-all, over-here, over-idle
 
 -- ---- on a map that the order and the records hold, with a target
 
-module _ {M : Map} {n : ℕ} {order pairs : List ℕ} {count : ℕ} (o : Holds M n order pairs count) where
+module _ {M : Map} {n : ℕ} {order pairs times : List ℕ} {count : ℕ} (o : Holds M n order pairs times count) where
   target-rank : {t : ℕ} {down e : List ℕ} → AimFacts M t down e → rank M t < M .vertices
   target-rank {t} a = rank-below (o .valid .orders) t (a .below)
 
@@ -77,7 +77,7 @@ module _ {M : Map} {n : ℕ} {order pairs : List ℕ} {count : ℕ} (o : Holds M
 
     module _ {k best : ℕ} {e : List ℕ} (w : Risen M t r k down e₀ e best) where
       -- a record that does not lead up gives none
-      risen-skip : k < count → leads n r (lowIn pairs k) (highIn pairs k) (upIn pairs k) ≡ false → Risen M t r (suc k) down e₀ e best
+      risen-skip : k < count → leads n r (lowIn pairs k) (highIn pairs k) (upIn times k) ≡ false → Risen M t r (suc k) down e₀ e best
       risen-skip l f = record {
         best-is = w .best-is ∙ sym (ap (λ (x : Total). word (fit x)) (least-same t r k (over-idle o t r k l f)));
         aims = w .aims;
@@ -91,8 +91,8 @@ module _ {M : Map} {n : ℕ} {order pairs : List ℕ} {count : ℕ} (o : Holds M
           at i c (no p) il q u = w .reached i c (omega arith) q u
 
       -- one that does gives its up time plus the estimate of its high, and what is above that is filled
-      risen-take : {v best′ : ℕ} {z : List ℕ} → k < count → Leads n r (lowIn pairs k) (highIn pairs k) (upIn pairs k)
-          → Climbed n order pairs count down e z (highIn pairs k) v → best′ ≡ min best (word (fit (ofWord (upIn pairs k) ⊕ ofWord v)))
+      risen-take : {v best′ : ℕ} {z : List ℕ} → k < count → Leads n r (lowIn pairs k) (highIn pairs k) (upIn times k)
+          → Climbed n order pairs times count down e z (highIn pairs k) v → best′ ≡ min best (word (fit (ofWord (upIn times k) ⊕ ofWord v)))
           → Risen M t r (suc k) down e₀ z best′
       risen-take {v} {best′} {z} l f c b = record {
         best-is = b ∙ ap₂ min (w .best-is) (ap (λ (y : Total). word (fit y)) sum)
@@ -117,19 +117,19 @@ module _ {M : Map} {n : ℕ} {order pairs : List ℕ} {count : ℕ} (o : Holds M
           there = sym (rk .up-is ∙ ap (λ (y : ℕ). up (weights M) y h) low-is)
 
           ex : (v ≡ word (estimateAt M t h)) × (z ≡ filled M t (above M h) e)
-          ex = subst (λ (y : ℕ). Climbed n order pairs count down e z y v) (o .records k l .high) c .exact M o t (w .aims)
+          ex = subst (λ (y : ℕ). Climbed n order pairs times count down e z y v) (o .records k l .high) c .exact M o t (w .aims)
 
           z-is : z ≡ filled M t (above M h) e
           z-is = ex .1
 
-          up-is : ofWord (upIn pairs k) ≡ pairAt M k .upTime
+          up-is : ofWord (upIn times k) ≡ pairAt M k .upTime
           up-is = ap ofWord (o .records k l .ups) ∙ ofWord-word (pairAt M k .upTime) (λ u q. let s = up-small o l q in omega arith)
 
           estimate-is : ofWord v ≡ estimateAt M t h
           estimate-is = ap ofWord (ex .0) ∙ ofWord-word (estimateAt M t h)
               (λ u q. let s = estimate-small o t (target-rank (w .aims)) (rk .below) q in omega arith)
 
-          sum : ofWord (upIn pairs k) ⊕ ofWord v ≡ over M t r k
+          sum : ofWord (upIn times k) ⊕ ofWord v ≡ over M t r k
           sum = ap₂ _⊕_ up-is estimate-is ∙ sym (over-here o t r k low-is)
 
           below : (v' : ℕ) → above M r v' ≡ false → Tested (above M h v') → above M h v' ≡ false
@@ -181,28 +181,28 @@ module _ {M : Map} {n : ℕ} {order pairs : List ℕ} {count : ℕ} (o : Holds M
 -- ---- the walk
 
 -- the words of record k as the walk reads them
-pub record RecordRead (pairs : List ℕ) (k low high up : ℕ) : Type 0 where
+pub record RecordRead (pairs times : List ℕ) (k low high up : ℕ) : Type 0 where
   pub low-is : low ≡ lowIn pairs k
   pub high-is : high ≡ highIn pairs k
-  pub up-is : up ≡ upIn pairs k
+  pub up-is : up ≡ upIn times k
 
 pub leads-taken : {n r low high up : ℕ} {b : Bool} → b ≡ leads n r low high up → b ≡ true → Leads n r low high up
 leads-taken {n} {r} {low} {high} {up} e q = leads-facts n r low high up (sym e ∙ q)
 
 -- a rank of the n is one of the map
-on-map : {M : Map} {n r count : ℕ} {order pairs : List ℕ} → Holds M n order pairs count → r < n → r < M .vertices
+on-map : {M : Map} {n r count : ℕ} {order pairs times : List ℕ} → Holds M n order pairs times count → r < n → r < M .vertices
 on-map o lr = omega (arith, lr, o .vertices-are)
 
-module _ {n : ℕ} {order pairs : List ℕ} {count : ℕ} {down e₀ : List ℕ} {r own : ℕ} (lr : r < n) where
-  pub walk-start : {s : ℕ} → Starts pairs count r s → Walked n order pairs count down e₀ e₀ r own s own
+module _ {n : ℕ} {order pairs times : List ℕ} {count : ℕ} {down e₀ : List ℕ} {r own : ℕ} (lr : r < n) where
+  pub walk-start : {s : ℕ} → Starts pairs count r s → Walked n order pairs times count down e₀ e₀ r own s own
   walk-start st = record { kept = kept-refl; exact = λ M o t a d. risen-start o (on-map o lr) st a d }
 
-  module _ {k best : ℕ} {e : List ℕ} (w : Walked n order pairs count down e₀ e r own k best) where
+  module _ {k best : ℕ} {e : List ℕ} (w : Walked n order pairs times count down e₀ e r own k best) where
     -- a record that does not lead up
-    pub walk-skip : {low high up : ℕ} → k < count → RecordRead pairs k low high up → leads n r low high up ≡ false
-        → Walked n order pairs count down e₀ e r own (k + 1) best
+    pub walk-skip : {low high up : ℕ} → k < count → RecordRead pairs times k low high up → leads n r low high up ≡ false
+        → Walked n order pairs times count down e₀ e r own (k + 1) best
     walk-skip {low} {high} {up} l rd f =
-        let g = leads-read n r (lowIn pairs k) (highIn pairs k) (upIn pairs k) low high up false (sym f) (rd .low-is) (rd .high-is)
+        let g = leads-read n r (lowIn pairs k) (highIn pairs k) (upIn times k) low high up false (sym f) (rd .low-is) (rd .high-is)
         (rd .up-is) in
         record {
           kept = w .kept;
@@ -211,9 +211,9 @@ module _ {n : ℕ} {order pairs : List ℕ} {count : ℕ} {down e₀ : List ℕ}
         }
 
     -- one that does, with the estimate v of its high
-    pub walk-take : {low high up v best′ : ℕ} {z : List ℕ} → k < count → RecordRead pairs k low high up → Leads n r low high up
-        → Climbed n order pairs count down e z high v → best′ ≡ min best (word (fit (ofWord up ⊕ ofWord v)))
-        → Walked n order pairs count down e₀ z r own (k + 1) best′
+    pub walk-take : {low high up v best′ : ℕ} {z : List ℕ} → k < count → RecordRead pairs times k low high up → Leads n r low high up
+        → Climbed n order pairs times count down e z high v → best′ ≡ min best (word (fit (ofWord up ⊕ ofWord v)))
+        → Walked n order pairs times count down e₀ z r own (k + 1) best′
     walk-take {v = v} {best′} {z} l rd f c b = record {
       kept = kept-trans (w .kept) (c .kept);
       exact = λ M o t a d.
@@ -223,36 +223,36 @@ module _ {n : ℕ} {order pairs : List ℕ} {count : ℕ} {down e₀ : List ℕ}
           subst (λ (y : ℕ). Risen M t r y down e₀ z best′) (sym (add-one k)) (risen-take o (on-map o lr) (w .exact M o t a d) l f′ c′ b′);
     }
 
-    walk-off : k ≤ count → ((M : Map) → Holds M n order pairs count → (i : ℕ) → k ≤ i → i < count → pairAt M i .low ≡ r → ⊥)
-        → Walked n order pairs count down e₀ e r own count best
+    walk-off : k ≤ count → ((M : Map) → Holds M n order pairs times count → (i : ℕ) → k ≤ i → i < count → pairAt M i .low ≡ r → ⊥)
+        → Walked n order pairs times count down e₀ e r own count best
     walk-off kc off = record {
       kept = w .kept;
       exact = λ M o t a d. risen-off o (on-map o lr) (w .exact M o t a d) kc (off M o);
     }
 
     -- the first record of a higher rank
-    pub walk-stop : {low : ℕ} → k < count → low ≡ lowIn pairs k → r < low → Walked n order pairs count down e₀ e r own count best
+    pub walk-stop : {low : ℕ} → k < count → low ≡ lowIn pairs k → r < low → Walked n order pairs times count down e₀ e r own count best
     walk-stop {low} l q h = walk-off (omega arith) (λ M o i ki ic p. let x = ascending o k i ki ic in
         let y = o .records i ic .low in omega (arith, x, y, p))
 
-    pub walk-end : k ≤ count → count ≤ k → Walked n order pairs count down e₀ e r own count best
+    pub walk-end : k ≤ count → count ≤ k → Walked n order pairs times count down e₀ e r own count best
     walk-end l h = walk-off l (λ M o i ki ic p. omega arith)
 
 -- ---- the estimate of a rank; i is the junction that the order has there
 
-module _ {n : ℕ} {order pairs : List ℕ} {count r i : ℕ} (lr : r < n) (i-is : i ≡ wordAt order (4 * r)) where
-  vertex : {M : Map} → Holds M n order pairs count → i ≡ M .order r
+module _ {n : ℕ} {order pairs times : List ℕ} {count r i : ℕ} (lr : r < n) (i-is : i ≡ wordAt order (4 * r)) where
+  vertex : {M : Map} → Holds M n order pairs times count → i ≡ M .order r
   vertex o = i-is ∙ o .junction r (on-map o lr)
 
-  ranks : {M : Map} (o : Holds M n order pairs count) → rank M i ≡ r
+  ranks : {M : Map} (o : Holds M n order pairs times count) → rank M i ≡ r
   ranks {M} o = ap (rank M) (vertex o) ∙ order-rank o r (on-map o lr)
 
-  vertices : {M : Map} (o : Holds M n order pairs count) → i < M .vertices
+  vertices : {M : Map} (o : Holds M n order pairs times count) → i < M .vertices
   vertices o = let x = vertex o in let y = o .valid .orders .below r (on-map o lr) in omega (arith, x, y)
 
   module _ {down e : List ℕ} where
     -- a rank without a junction: this is no order
-    pub astray : n ≤ i → Climbed n order pairs count down e e r noneWord
+    pub astray : n ≤ i → Climbed n order pairs times count down e e r noneWord
     astray h = record {
       kept = kept-refl;
       stored = λ l. absurd (omega arith);
@@ -261,7 +261,7 @@ module _ {n : ℕ} {order pairs : List ℕ} {count r i : ℕ} (lr : r < n) (i-is
     }
 
     -- an entry that is filled is the answer
-    pub known : {v : ℕ} → v ≡ getD e i 0 → length e ≡ n → (v ≡ unasked → ⊥) → Climbed n order pairs count down e e r v
+    pub known : {v : ℕ} → v ≡ getD e i 0 → length e ≡ n → (v ≡ unasked → ⊥) → Climbed n order pairs times count down e e r v
     known {v} q len h = record {
       kept = kept-refl;
       stored = λ l. sym (q ∙ ap (λ (y : ℕ). getD e y 0) i-is);
@@ -273,15 +273,15 @@ module _ {n : ℕ} {order pairs : List ℕ} {count r i : ℕ} (lr : r < n) (i-is
           );
     }
       where
-        full : (M : Map) (t : ℕ) (o : Holds M n order pairs count) → (getD e i 0 ≡ unasked) ⊎ Filled M t e i
+        full : (M : Map) (t : ℕ) (o : Holds M n order pairs times count) → (getD e i 0 ≡ unasked) ⊎ Filled M t e i
             → AboveFilled M t r e
         full M t o (inl z) = absurd (h (q ∙ z))
         full M t o (inr f) = λ u lu p. f u lu (subst (λ (y : ℕ). reaches (weights M) (M .vertices) y (rank M u) ≡ true) (sym (ranks o)) p)
 
     -- an entry that is unasked is filled by the walk's answer
     pub computed : {own best v x : ℕ} {z : List ℕ} → getD e i 0 ≡ unasked → length z ≡ n → own ≡ getD down i 0
-        → Walked n order pairs count down e z r own count best → v ≡ answer best → x ≡ v
-        → Climbed n order pairs count down e (set z i x) r v
+        → Walked n order pairs times count down e z r own count best → v ≡ answer best → x ≡ v
+        → Climbed n order pairs times count down e (set z i x) r v
     computed {own} {best} {v} {x} {z} h len d w b xv = rw xv (record {
       kept = record { stays = λ j q. getD-set-other z i j v 0 (λ p. q (ap (λ (y : ℕ). getD e y 0) p ∙ h)) ∙ w .kept .stays j q };
       stored = λ l. ap (λ (y : ℕ). getD (set z i v) y 0) (sym i-is) ∙ getD-set-same z i v 0 (omega (arith, l, i-is, len));
@@ -289,7 +289,7 @@ module _ {n : ℕ} {order pairs : List ℕ} {count r i : ℕ} (lr : r < n) (i-is
       exact = λ M o t a. right M o t a;
     })
       where
-        right : (M : Map) → Holds M n order pairs count → (t : ℕ) → AimFacts M t down e → (v ≡ word (estimateAt M t r))
+        right : (M : Map) → Holds M n order pairs times count → (t : ℕ) → AimFacts M t down e → (v ≡ word (estimateAt M t r))
             × (set z i v ≡ filled M t (above M r) e)
         right M o t a = (
           v-is,
@@ -353,12 +353,13 @@ module _ {n r i : ℕ} {order e : List ℕ} (asked : KnownAsked n r order e) (i-
       go (no h) = let z = standing-none (omega (arith, h)) in absurd (omega (arith, z, u))
 
 -- where it is not unasked, it is the answer
-pub stands : {n r v count : ℕ} {order pairs down e : List ℕ} → KnownAsked n r order e → v ≡ standing n order e r → (v ≡ unasked → ⊥)
-    → Climbed n order pairs count down e e r v
-stands {n} {r} {v} {count} {order} {pairs} {down} {e} asked q h = go (decLt (wordAt order (4 * r)) n)
+pub stands : {n r v count : ℕ} {order pairs times down e : List ℕ} → KnownAsked n r order e → v ≡ standing n order e r → (v ≡ unasked → ⊥)
+    → Climbed n order pairs times count down e e r v
+stands {n} {r} {v} {count} {order} {pairs} {times} {down} {e} asked q h = go (decLt (wordAt order (4 * r)) n)
   where
-    go : Dec (wordAt order (4 * r) < n) → Climbed n order pairs count down e e r v
+    go : Dec (wordAt order (4 * r) < n) → Climbed n order pairs times count down e e r v
     go (yes l) = known (asked .rank-in) refl (q ∙ sym (standing-entry asked refl l refl)) (asked .estimates-are) h
     go (no l) =
         let z : n ≤ wordAt order (4 * r) = omega (arith, l) in
-        subst (λ (y : ℕ). Climbed n order pairs count down e e r y) (standing-none asked refl z ∙ sym q) (astray (asked .rank-in) refl z)
+        subst (λ (y : ℕ). Climbed n order pairs times count down e e r y) (standing-none asked refl z ∙ sym q)
+        (astray (asked .rank-in) refl z)

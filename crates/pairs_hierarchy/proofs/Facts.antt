@@ -54,7 +54,7 @@ module _ (M : Map) where
 
 -- ---- the records
 
-module _ {M : Map} {n : ℕ} {order pairs : List ℕ} {count : ℕ} (o : Holds M n order pairs count) where
+module _ {M : Map} {n : ℕ} {order pairs times : List ℕ} {count : ℕ} (o : Holds M n order pairs times count) where
   pub ascending : Ascending pairs count
   ascending i k ik kc =
       let a = o .records i (omega arith) .low in
@@ -84,7 +84,7 @@ module _ {M : Map} {n : ℕ} {order pairs : List ℕ} {count : ℕ} (o : Holds M
 
   -- ---- a record of rank r that does not lead up has no up time
 
-  pub idle : {r i : ℕ} → i < count → leads n r (lowIn pairs i) (highIn pairs i) (upIn pairs i) ≡ false → pairAt M i .low ≡ r
+  pub idle : {r i : ℕ} → i < count → leads n r (lowIn pairs i) (highIn pairs i) (upIn times i) ≡ false → pairAt M i .low ≡ r
       → pairAt M i .upTime ≡ none
   idle {r} {i} l f e = go (decideOption (pairAt M i .upTime))
     where
@@ -95,12 +95,12 @@ module _ {M : Map} {n : ℕ} {order pairs : List ℕ} {count : ℕ} (o : Holds M
       go (inl q) = q
       go (inr (c, q)) =
           let w = o .records i l in
-          let up-is : upIn pairs i ≡ c = w .ups ∙ ap word q in
+          let up-is : upIn times i ≡ c = w .ups ∙ ap word q in
           let small = up-small l q in
-          let there : eqb (upIn pairs i) noneWord ≡ false = ne-eqb (upIn pairs i) noneWord (λ z. omega (arith, up-is, small, z)) in
+          let there : eqb (upIn times i) noneWord ≡ false = ne-eqb (upIn times i) noneWord (λ z. omega (arith, up-is, small, z)) in
           let rises : r < highIn pairs i = omega (arith, w .high, e, k .rises) in
           let below : highIn pairs i < n = omega (arith, w .high, k .below, o .vertices-are) in
-          let leads-up = leads-by n r (lowIn pairs i) (highIn pairs i) (upIn pairs i) (w .low ∙ e) rises below false (sym there) in
+          let leads-up = leads-by n r (lowIn pairs i) (highIn pairs i) (upIn times i) (w .low ∙ e) rises below false (sym there) in
           absurd (true-false (sym leads-up) f)
 
   -- ---- what record i gives to the estimate of rank r
@@ -113,7 +113,7 @@ module _ {M : Map} {n : ℕ} {order pairs : List ℕ} {count : ℕ} (o : Holds M
   over-other t r i ne = cond-no (eqb (pairAt M i .low) r) (pairAt M i .upTime ⊕ estimateAt M t (pairAt M i .high)) none
       (ne-eqb (pairAt M i .low) r ne)
 
-  pub over-idle : (t r i : ℕ) → i < count → leads n r (lowIn pairs i) (highIn pairs i) (upIn pairs i) ≡ false → over M t r i ≡ none
+  pub over-idle : (t r i : ℕ) → i < count → leads n r (lowIn pairs i) (highIn pairs i) (upIn times i) ≡ false → over M t r i ≡ none
   over-idle t r i l f = go (ℕ-discrete (pairAt M i .low) r)
     where
       go : Dec (pairAt M i .low ≡ r) → over M t r i ≡ none

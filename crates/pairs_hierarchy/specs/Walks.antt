@@ -57,12 +57,12 @@ unfoldable pub standing : (n : ℕ) (order e : List ℕ) (r : ℕ) → ℕ
 standing n order e r = cond (ltb (wordAt order (4 * r)) n) (getD e (wordAt order (4 * r)) 0) noneWord
 
 -- the estimate v of rank r
-pub record Climbed (n : ℕ) (order pairs : List ℕ) (count : ℕ) (down e z : List ℕ) (r v : ℕ) : Type 0 where
+pub record Climbed (n : ℕ) (order pairs times : List ℕ) (count : ℕ) (down e z : List ℕ) (r v : ℕ) : Type 0 where
   pub kept : Kept e z
   -- on any contents: the answer is stored, and it is not the mark unasked; so no entry is walked twice
   pub stored : wordAt order (4 * r) < n → getD z (wordAt order (4 * r)) 0 ≡ v
   pub answered : v ≡ unasked → ⊥
-  pub exact : (M : Map) → Holds M n order pairs count → (t : ℕ) → AimFacts M t down e
+  pub exact : (M : Map) → Holds M n order pairs times count → (t : ℕ) → AimFacts M t down e
       → (v ≡ word (estimateAt M t r)) × (z ≡ filled M t (above M r) e)
 
 -- where the walk over the records below k stands: the least over them, and all that they lead to filled
@@ -73,7 +73,7 @@ pub record Risen (M : Map) (t r k : ℕ) (down e z : List ℕ) (best : ℕ) : Ty
   pub apart : (v : ℕ) → v < M .vertices → above M r v ≡ false → getD z v 0 ≡ getD e v 0
 
 -- the walk over the records below k, from the down total
-pub record Walked (n : ℕ) (order pairs : List ℕ) (count : ℕ) (down e z : List ℕ) (r own k best : ℕ) : Type 0 where
+pub record Walked (n : ℕ) (order pairs times : List ℕ) (count : ℕ) (down e z : List ℕ) (r own k best : ℕ) : Type 0 where
   pub kept : Kept e z
-  pub exact : (M : Map) → Holds M n order pairs count → (t : ℕ) → AimFacts M t down e → own ≡ word (downAt M t r)
+  pub exact : (M : Map) → Holds M n order pairs times count → (t : ℕ) → AimFacts M t down e → own ≡ word (downAt M t r)
       → Risen M t r k down e z best

@@ -32,12 +32,13 @@ fn estimate_rank(
     count: u32,
     order: &[u8],
     pairs: &[u32],
+    times: &[TimeWord],
     down: &[TimeWord],
     estimates: &mut [TimeWord],
     r: Rank,
 ) -> Time
-    requires { ⌜ RankAsked n count (r .0) (lentOf order pairs down estimates) ⌝ }
-    ensures { λ v. ⌜ RankTold n count (r .0) (v .0) (lent order pairs down estimates) ⌝ }
+    requires { ⌜ RankAsked n count (r .0) (lentOf order pairs times down estimates) ⌝ }
+    ensures { λ v. ⌜ RankTold n count (r .0) (v .0) (lent order pairs times down estimates) ⌝ }
 {
     let known = known_of(n, order, estimates, r);
     if !known.is_unasked() {
@@ -46,7 +47,7 @@ fn estimate_rank(
     let j = network::junction_of(order, r);
     let i = j.0 as usize;
     let own = Time::of_word(down[i]);
-    let best = walk_pairs(n, count, order, pairs, down, estimates, r, own);
+    let best = walk_pairs(n, count, order, pairs, times, down, estimates, r, own);
     let v = answer_of(best);
     estimates[i] = v.word();
     v
@@ -59,13 +60,14 @@ fn walk_pairs(
     count: u32,
     order: &[u8],
     pairs: &[u32],
+    times: &[TimeWord],
     down: &[TimeWord],
     estimates: &mut [TimeWord],
     r: Rank,
     own: Time,
 ) -> Time
-    requires { ⌜ RankAsked n count (r .0) (lentOf order pairs down estimates) ⌝ }
-    ensures { λ v. ⌜ WalkTold n count (r .0) (own .0) (v .0) (lent order pairs down estimates) ⌝ }
+    requires { ⌜ RankAsked n count (r .0) (lentOf order pairs times down estimates) ⌝ }
+    ensures { λ v. ⌜ WalkTold n count (r .0) (own .0) (v .0) (lent order pairs times down estimates) ⌝ }
 {
     let mut best = own;
     let mut k: u32 = start_of(pairs, count, r);
@@ -77,11 +79,11 @@ fn walk_pairs(
             return best;
         }
         let high = high_of(pairs, i);
-        let up = up_of(pairs, i);
+        let up = up_of(times, i);
         if leads_up(n, r, low, high, up) {
             let known = known_of(n, order, estimates, high);
             if known.is_unasked() {
-                let asked = estimate_rank(n, count, order, pairs, down, estimates, high);
+                let asked = estimate_rank(n, count, order, pairs, times, down, estimates, high);
                 best = best.or_sum(up, asked);
             } else {
                 best = best.or_sum(up, known);
@@ -97,16 +99,26 @@ pub fn estimate(
     order: &[u8],
     ranks: &[u32],
     pairs: &[u32],
+    times: &[TimeWord],
     down: &[TimeWord],
     estimates: &mut [TimeWord],
     j: Junction,
 ) -> Time
-    requires { ⌜ EstimateAsked (sizes .n) (sizes .pairs) (j .0) (now ranks) (lentOf order pairs down estimates) ⌝ }
-    ensures { λ r. ⌜ EstimateTold (sizes .pairs) (j .0) (r .0) (now (ranks .entry)) (lent order pairs down estimates) ⌝ }
+    requires { ⌜ EstimateAsked (sizes .n) (sizes .pairs) (j .0) (now ranks) (lentOf order pairs times down estimates) ⌝ }
+    ensures { λ r. ⌜ EstimateTold (sizes .pairs) (j .0) (r .0) (now (ranks .entry)) (lent order pairs times down estimates) ⌝ }
 {
     let r = network::rank_of(ranks, j);
     if sizes.n <= r.0 {
         return Time::NONE;
     }
-    estimate_rank(sizes.n, sizes.pairs, order, pairs, down, estimates, r)
+    estimate_rank(
+        sizes.n,
+        sizes.pairs,
+        order,
+        pairs,
+        times,
+        down,
+        estimates,
+        r,
+    )
 }

@@ -3,7 +3,7 @@ ghost use mathlib.Core.Path.{_≡_};
 ghost use Prim.Native.Nat.{_<_, _/_};
 ghost use lib.ListN.{length};
 ghost use Rattle.pairs_rows.specs.Links.{Ranked, netIn, rowOf};
-ghost use Rattle.pairs_rows.specs.Lending.{AllLinked, RoadAsked, RoadDone, RowAsked, RowBegun, Unlinked, links, linksOf, times, timesOf};
+ghost use Rattle.pairs_rows.specs.Lending.{AllLinked, RoadAsked, RoadDone, RowAsked, RowBegun, Unlinked, links, linksOf, rows, rowsOf};
 use network::Rank;
 use network::TimeWord;
 
@@ -41,8 +41,8 @@ fn relax_road(
     downs: &mut [TimeWord],
     touched: &mut [u32],
 )
-    requires { ⌜ RoadAsked (now roads) (now ranks) i (timesOf ups downs touched) ⌝ }
-    ensures { λ _. ⌜ RoadDone (now (roads .entry)) (now (ranks .entry)) i (times ups downs touched) ⌝ }
+    requires { ⌜ RoadAsked (now roads) (now ranks) i (rowsOf ups downs touched) ⌝ }
+    ensures { λ _. ⌜ RoadDone (now (roads .entry)) (now (ranks .entry)) i (rows ups downs touched) ⌝ }
 {
     let a = network::rank_of(ranks, network::tail_of(roads, i)).0;
     let b = network::rank_of(ranks, network::head_of(roads, i)).0;
@@ -69,8 +69,8 @@ pub fn relax_roads(
     downs: &mut [TimeWord],
     touched: &mut [u32],
 )
-    requires { ⌜ RowAsked (linksOf roads ranks first next) (r .0) (timesOf ups downs touched) ⌝ }
-    ensures { λ _. ⌜ RowBegun (links roads ranks first next .exit) (r .0) (times ups downs touched .exit) ⌝ }
+    requires { ⌜ RowAsked (linksOf roads ranks first next) (r .0) (rowsOf ups downs touched) ⌝ }
+    ensures { λ _. ⌜ RowBegun (links roads ranks first next .exit) (r .0) (rows ups downs touched .exit) ⌝ }
 {
     let mut c = first[r.0 as usize];
     while c > 0 {

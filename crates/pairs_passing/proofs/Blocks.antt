@@ -14,8 +14,8 @@ use Rattle.pairs_fronts.proofs.Passes.{stage-skip}
 
 -- ---- the areas
 
-abbrev pub areas : (pairs cursor ahead ends ups downs touched : List ℕ) → Lent
-areas p c a e u d t = record { pairs = p; cursor = c; ahead = a; ends = e; ups = u; downs = d; touched = t }
+abbrev pub areas : (pairs times cursor ahead ends ups downs touched : List ℕ) → Lent
+areas p q c a e u d t = record { pairs = p; times = q; cursor = c; ahead = a; ends = e; ups = u; downs = d; touched = t }
 
 -- those that are written keep their lengths
 pub record Kept (a₀ a : Lent) : Type 0 where
@@ -41,9 +41,9 @@ kept-again k c a u d t = record {
 -- ---- ranks that have no pair with r
 
 -- no rank from v to before v + d has r ahead
-stage-over : {w : Weights} {n r : ℕ} {pairs cursor ahead ends ups downs touched : List ℕ} (d v : ℕ) → v + d ≤ r
-    → ((u : ℕ) → v ≤ u → u < v + d → getD ahead u 0 ≡ r → ⊥) → Stage w n r v pairs cursor ahead ends ups downs touched
-    → Stage w n r (v + d) pairs cursor ahead ends ups downs touched
+stage-over : {w : Weights} {n r : ℕ} {pairs times cursor ahead ends ups downs touched : List ℕ} (d v : ℕ) → v + d ≤ r
+    → ((u : ℕ) → v ≤ u → u < v + d → getD ahead u 0 ≡ r → ⊥) → Stage w n r v pairs times cursor ahead ends ups downs touched
+    → Stage w n r (v + d) pairs times cursor ahead ends ups downs touched
 stage-over zero v l ne s = let e : v ≡ v + 0 = omega arith in rw e at s
 stage-over (suc d) v l ne s =
     let e : v + 1 + d ≡ v + suc d = omega arith in
@@ -52,15 +52,15 @@ stage-over (suc d) v l ne s =
 
 -- ---- the bound of a block
 
-pub scanned-start : {w : Weights} {n r v x : ℕ} {pairs cursor ahead ends ups downs touched : List ℕ}
-    → Stage w n r v pairs cursor ahead ends ups downs touched
-    → Scanned w n r v v x pairs cursor ahead ends ups downs touched
+pub scanned-start : {w : Weights} {n r v x : ℕ} {pairs times cursor ahead ends ups downs touched : List ℕ}
+    → Stage w n r v pairs times cursor ahead ends ups downs touched
+    → Scanned w n r v v x pairs times cursor ahead ends ups downs touched
 scanned-start s = record { stage = s; bound = λ u a b. absurd (omega arith) }
 
-module _ {w : Weights} {n r from v x : ℕ} {pairs cursor ahead ends ups downs touched : List ℕ}
-    (s : Scanned w n r from v x pairs cursor ahead ends ups downs touched) (vr : v < r) where
+module _ {w : Weights} {n r from v x : ℕ} {pairs times cursor ahead ends ups downs touched : List ℕ}
+    (s : Scanned w n r from v x pairs times cursor ahead ends ups downs touched) (vr : v < r) where
   pub scanned-skip : {y high : ℕ} → high ≡ getD ahead v 0 → (high ≡ r → ⊥) → y ≡ min x high
-      → Scanned w n r from (v + 1) y pairs cursor ahead ends ups downs touched
+      → Scanned w n r from (v + 1) y pairs times cursor ahead ends ups downs touched
   scanned-skip {y} {high} eh ne ey = record {
     stage = stage-skip (s .stage) vr (λ q. ne (eh ∙ q));
     bound = λ u a b. at u a b (ℕ-discrete u v);
@@ -71,8 +71,8 @@ module _ {w : Weights} {n r from v x : ℕ} {pairs cursor ahead ends ups downs t
       at u a b (no q) = omega (arith, s .bound u a (omega arith), ey)
 
   pub scanned-pass : {y high : ℕ} {cursor′ ahead′ ups′ downs′ touched′ : List ℕ} → high ≡ getD ahead′ v 0 → y ≡ min x high
-      → Stage w n r (v + 1) pairs cursor′ ahead′ ends ups′ downs′ touched′
-      → Scanned w n r from (v + 1) y pairs cursor′ ahead′ ends ups′ downs′ touched′
+      → Stage w n r (v + 1) pairs times cursor′ ahead′ ends ups′ downs′ touched′
+      → Scanned w n r from (v + 1) y pairs times cursor′ ahead′ ends ups′ downs′ touched′
   scanned-pass {y} {high} {ahead′} eh ey z = record { stage = z; bound = λ u a b. at u a b (ℕ-discrete u v) }
     where
       at : (u : ℕ) → from ≤ u → u < v + 1 → Dec (u ≡ v) → y ≤ getD ahead′ u 0
@@ -81,17 +81,18 @@ module _ {w : Weights} {n r from v x : ℕ} {pairs cursor ahead ends ups downs t
           let q : getD ahead′ u 0 ≡ getD ahead u 0 = z .passed u b .ahead-is ∙ sym (s .stage .passed u (omega arith) .ahead-is) in
           omega (arith, s .bound u a (omega arith), ey, q)
 
-pub scanned-end : {w : Weights} {n r from v to x : ℕ} {pairs cursor ahead ends ups downs touched : List ℕ} → v ≤ to → to ≤ v
-    → Scanned w n r from v x pairs cursor ahead ends ups downs touched → Scanned w n r from to x pairs cursor ahead ends ups downs touched
+pub scanned-end : {w : Weights} {n r from v to x : ℕ} {pairs times cursor ahead ends ups downs touched : List ℕ} → v ≤ to → to ≤ v
+    → Scanned w n r from v x pairs times cursor ahead ends ups downs touched
+    → Scanned w n r from to x pairs times cursor ahead ends ups downs touched
 scanned-end {v} {to} h k s = let e : v ≡ to = omega arith in rw e at s
 
 -- ---- block by block
 
-module _ {w : Weights} {n r v to : ℕ} {pairs cursor ahead ends soon ups downs touched : List ℕ}
-    (s : Lower w n r v pairs cursor ahead ends soon ups downs touched) (vr : v < r)
+module _ {w : Weights} {n r v to : ℕ} {pairs times cursor ahead ends soon ups downs touched : List ℕ}
+    (s : Lower w n r v pairs times cursor ahead ends soon ups downs touched) (vr : v < r)
     (even : block * (v / block) ≡ v) (et : to ≡ min (v + block) r) where
   -- the block's bound is above r
-  pub lower-skip : r < getD soon (v / block) 0 → Lower w n r to pairs cursor ahead ends soon ups downs touched
+  pub lower-skip : r < getD soon (v / block) 0 → Lower w n r to pairs times cursor ahead ends soon ups downs touched
   lower-skip far =
       let e : v + (to - v) ≡ to = omega arith in
       record { stage = rw e at (stage-over (to - v) v (omega arith) other (s .stage)); sooner = s .sooner }
@@ -104,8 +105,8 @@ module _ {w : Weights} {n r v to : ℕ} {pairs cursor ahead ends soon ups downs 
 
   -- its ranks are passed, and its bound is made anew
   pub lower-pass : {x : ℕ} {cursor′ ahead′ ups′ downs′ touched′ : List ℕ}
-      → Scanned w n r v to x pairs cursor′ ahead′ ends ups′ downs′ touched′
-      → Lower w n r to pairs cursor′ ahead′ ends (set soon (v / block) x) ups′ downs′ touched′
+      → Scanned w n r v to x pairs times cursor′ ahead′ ends ups′ downs′ touched′
+      → Lower w n r to pairs times cursor′ ahead′ ends (set soon (v / block) x) ups′ downs′ touched′
   lower-pass {x} {ahead′} z = record {
     stage = z .stage;
     sooner = record {
@@ -126,9 +127,9 @@ module _ {w : Weights} {n r v to : ℕ} {pairs cursor ahead ends soon ups downs 
           omega (arith, q, z .bound u (omega arith) (omega arith))
       at u l (no ne) = omega (arith, getD-set-other soon (v / block) (u / block) x 0 ne, s .sooner .before u l, same u l (decLt u v) ne)
 
-pub lower-end : {w : Weights} {n r v : ℕ} {pairs cursor ahead ends soon ups downs touched : List ℕ} → v ≤ r → r ≤ v
-    → Lower w n r v pairs cursor ahead ends soon ups downs touched
-    → Lower w n r r pairs cursor ahead ends soon ups downs touched
+pub lower-end : {w : Weights} {n r v : ℕ} {pairs times cursor ahead ends soon ups downs touched : List ℕ} → v ≤ r → r ≤ v
+    → Lower w n r v pairs times cursor ahead ends soon ups downs touched
+    → Lower w n r r pairs times cursor ahead ends soon ups downs touched
 lower-end {r} {v} h k s = let e : v ≡ r = omega arith in rw e at s
 
 -- the next block begins at a multiple of 32, or there is none

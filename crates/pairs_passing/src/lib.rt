@@ -10,6 +10,7 @@ use pairs_rows::BLOCK;
 // The row of r is relaxed over the ranks from `from` to before `to`. The answer is the least of the highs ahead of them then, or n.
 fn pass_block(
     pairs: &[u32],
+    times: &[TimeWord],
     n: u32,
     r: Rank,
     from: u32,
@@ -21,10 +22,10 @@ fn pass_block(
     downs: &mut [TimeWord],
     touched: &mut [u32],
 ) -> u32
-    requires { ⌜ ((w : Weights) × StageIn w n (r .0) from (lentOf pairs cursor ahead ends ups downs touched))
+    requires { ⌜ ((w : Weights) × StageIn w n (r .0) from (lentOf pairs times cursor ahead ends ups downs touched))
         × (from ≤ to)
         × (to ≤ r .0) ⌝ }
-    ensures { λ x. ⌜ (let a = lent pairs cursor ahead ends ups downs touched in
+    ensures { λ x. ⌜ (let a = lent pairs times cursor ahead ends ups downs touched in
         (w : Weights) → StageIn w n (r .0) from (a .entry) → ScannedIn w n (r .0) from to x (a .exit)) ⌝ }
 {
     let mut bound = n;
@@ -36,6 +37,7 @@ fn pass_block(
         if high == r.0 {
             let next = pairs_fronts::pass_rank(
                 pairs,
+                times,
                 n,
                 r,
                 Rank(k),
@@ -57,6 +59,7 @@ fn pass_block(
 // The row of r is relaxed over all lower ranks, block by block.
 pub fn pass_lower(
     pairs: &[u32],
+    times: &[TimeWord],
     n: u32,
     r: Rank,
     cursor: &mut [u32],
@@ -67,9 +70,9 @@ pub fn pass_lower(
     downs: &mut [TimeWord],
     touched: &mut [u32],
 )
-    requires { ⌜ ((w : Weights) × LowerIn w n (r .0) 0 (lentOf pairs cursor ahead ends ups downs touched) (now soon))
+    requires { ⌜ ((w : Weights) × LowerIn w n (r .0) 0 (lentOf pairs times cursor ahead ends ups downs touched) (now soon))
         × (n ≤ mostJunctions) ⌝ }
-    ensures { λ _. ⌜ (let a = lent pairs cursor ahead ends ups downs touched in
+    ensures { λ _. ⌜ (let a = lent pairs times cursor ahead ends ups downs touched in
         (w : Weights) → LowerIn w n (r .0) 0 (a .entry) (now (soon .entry)) → LowerIn w n (r .0) (r .0) (a .exit) (now (soon .exit))) ⌝ }
 {
     let mut v: u32 = 0;
@@ -80,6 +83,7 @@ pub fn pass_lower(
         if soon[b] <= r.0 {
             soon[b] = pass_block(
                 pairs,
+                times,
                 n,
                 r,
                 from,

@@ -1,5 +1,5 @@
 -- A map of n junctions, as the order and the records hold it; what they give of it, and that preparing leaves them so. Assumes nothing.
-use mathlib.Core.Path.{_∙_, _≡_, ap, ap₂, refl, subst, sym}
+use mathlib.Core.Path.{_∙_, _≡_, ap, ap₂, refl, subst₂, sym}
 use mathlib.Core.Option.{some}
 use mathlib.Core.List.{List}
 use Prim.Native.Nat.{_*_, _<_, _≤_, ℕ}
@@ -20,14 +20,14 @@ use Rattle.model.specs.Word.{unasked}
 use Rattle.model.specs.Use.{RecordAt, pairIn, pairIn-mem, words-at}
 use Rattle.network.specs.Bodies.{Prepared, junction-in, map-facts, mapIn}
 
-pub record Holds (M : Map) (n : ℕ) (order pairs : List ℕ) (count : ℕ) : Type 0 where
+pub record Holds (M : Map) (n : ℕ) (order pairs times : List ℕ) (count : ℕ) : Type 0 where
   pub valid : Valid M
   pub most : CostsAtMost (Arc (M .base)) mostTime
   pub vertices-are : M .vertices ≡ n
   pub vertices-high : M .vertices ≤ mostJunctions
   pub junction : (r : ℕ) → r < M .vertices → wordAt order (4 * r) ≡ M .order r
   pub count-is : count ≡ length (pairsOf M)
-  pub records : (i : ℕ) → i < count → RecordAt pairs i (pairIn (pairsOf M) i)
+  pub records : (i : ℕ) → i < count → RecordAt pairs times i (pairIn (pairsOf M) i)
 
 -- record i by its two ranks
 pub record Ranked (M : Map) (i low high : ℕ) : Type 0 where
@@ -38,7 +38,7 @@ pub record Ranked (M : Map) (i low high : ℕ) : Type 0 where
   pub rises : low < high
   pub below : high < M .vertices
 
-module _ {M : Map} {n : ℕ} {order pairs : List ℕ} {count : ℕ} (o : Holds M n order pairs count) where
+module _ {M : Map} {n : ℕ} {order pairs times : List ℕ} {count : ℕ} (o : Holds M n order pairs times count) where
   pub ranked : (i : ℕ) → i < count → Ranked M i (pairIn (pairsOf M) i .low) (pairIn (pairsOf M) i .high)
   ranked i l = go (rows-member (weights M) (M .vertices) (M .vertices) (pairIn-mem (pairsOf M) i (omega (arith, l, o .count-is))))
     where
@@ -66,8 +66,8 @@ module _ {M : Map} {n : ℕ} {order pairs : List ℕ} {count : ℕ} (o : Holds M
   pub order-rank : (r : ℕ) → r < M .vertices → rank M (M .order r) ≡ r
   order-rank r l = rank-of-vertex (o .valid .orders) r l
 
-module _ {roads order ranks pairs : List ℕ} {count : ℕ} (p : Prepared roads order ranks pairs count) where
-  pub prepared-holds : (n : ℕ) → length order ≡ 4 * n → Holds (mapIn roads order) n order pairs count
+module _ {roads order ranks pairs times : List ℕ} {count : ℕ} (p : Prepared roads order ranks pairs times count) where
+  pub prepared-holds : (n : ℕ) → length order ≡ 4 * n → Holds (mapIn roads order) n order pairs times count
   prepared-holds n l =
       let f = map-facts (p .sound) in
       record {
@@ -78,5 +78,6 @@ module _ {roads order ranks pairs : List ℕ} {count : ℕ} (p : Prepared roads 
         junction = λ r lr. sym (junction-in roads order r (omega (arith, f .order-is, lr)));
         count-is = p .count-is;
         records = λ i li. let l = pairsOf (mapIn roads order) in
-            subst (λ (x : List ℕ). RecordAt x i (pairIn l i)) (sym (p .pairs-are)) (words-at l _ i (omega (arith, li, p .count-is)));
+            subst₂ (λ (x : List ℕ) (y : List ℕ). RecordAt x y i (pairIn l i)) (sym (p .pairs-are)) (sym (p .times-are))
+            (words-at l _ _ i (omega (arith, li, p .count-is)));
       }

@@ -6,23 +6,24 @@ use lib.Dec.{eqb, ltb}
 use lib.ListN.{drop, getD, take}
 use Rattle.model.specs.Word.{noneWord, unasked}
 
--- ---- the four words of record i (document 01: low, high, up time, down time): where they stand is said here
+-- ---- record i: its low and its high in the one area, its up time and its down time in the other (document 02, A7): where they stand is
+-- said here
 
-abbrev pub lowIn : List ℕ → ℕ → ℕ
-lowIn pairs i = getD pairs (4 * i) 0
+abbrev pub lowIn : (pairs : List ℕ) → ℕ → ℕ
+lowIn pairs i = getD pairs (2 * i) 0
 
-abbrev pub highIn : List ℕ → ℕ → ℕ
-highIn pairs i = getD pairs (4 * i + 1) 0
+abbrev pub highIn : (pairs : List ℕ) → ℕ → ℕ
+highIn pairs i = getD pairs (2 * i + 1) 0
 
-abbrev pub upIn : List ℕ → ℕ → ℕ
-upIn pairs i = getD pairs (4 * i + 2) 0
+abbrev pub upIn : (times : List ℕ) → ℕ → ℕ
+upIn times i = getD times (2 * i) 0
 
-abbrev pub downIn : List ℕ → ℕ → ℕ
-downIn pairs i = getD pairs (4 * i + 3) 0
+abbrev pub downIn : (times : List ℕ) → ℕ → ℕ
+downIn times i = getD times (2 * i + 1) 0
 
--- the area with record i written
-abbrev pub withRecord : (pairs : List ℕ) (i low high up down : ℕ) → List ℕ
-withRecord pairs i low high up down = take (4 * i) pairs ++ (low ∷ high ∷ up ∷ down ∷ []) ++ drop (4 * i + 4) pairs
+-- an area with record i written
+abbrev pub withRecord : (area : List ℕ) (i first second : ℕ) → List ℕ
+withRecord area i first second = take (2 * i) area ++ (first ∷ second ∷ []) ++ drop (2 * i + 2) area
 
 -- a record leads up from rank r to a higher one of the n ranks
 unfoldable pub leads : (n r low high up : ℕ) → Bool

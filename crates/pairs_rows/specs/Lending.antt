@@ -25,17 +25,17 @@ links r k f x = record {
   exit = linksOf (r .exit) (k .exit) (f .exit) (x .exit);
 }
 
--- a row of times, upwards and downwards, and the marks of its blocks
-pub record Times : Type 0 where
+-- the two rows of times of a rank, upwards and downwards, and the marks of their blocks
+pub record Rows : Type 0 where
   pub ups : List ℕ
   pub downs : List ℕ
   pub touched : List ℕ
 
-abbrev pub timesOf : (ups downs touched : Held) → Times
-timesOf u d t = record { ups = u .now; downs = d .now; touched = t .now }
+abbrev pub rowsOf : (ups downs touched : Held) → Rows
+rowsOf u d t = record { ups = u .now; downs = d .now; touched = t .now }
 
-abbrev pub times : (ups downs touched : Slice) → Both Times Times
-times u d t = record { entry = timesOf (u .entry) (d .entry) (t .entry); exit = timesOf (u .exit) (d .exit) (t .exit) }
+abbrev pub rows : (ups downs touched : Slice) → Both Rows Rows
+rows u d t = record { entry = rowsOf (u .entry) (d .entry) (t .entry); exit = rowsOf (u .exit) (d .exit) (t .exit) }
 
 -- ---- the roads of the rows
 
@@ -51,24 +51,24 @@ abbrev pub AllLinked : Links → Type 0
 AllLinked l = Linked (netIn (l .roads) (l .ranks)) (length (l .ranks)) (length (l .roads) / 12) (l .first) (l .next)
 
 -- road i may relax a row, and does
-pub record RoadAsked (roads ranks : List ℕ) (i : ℕ) (t : Times) : Type 0 where
+pub record RoadAsked (roads ranks : List ℕ) (i : ℕ) (t : Rows) : Type 0 where
   pub ranked : Ranked roads ranks
   pub road-in : i < length roads / 12
   pub ups-long : length ranks ≤ length (t .ups)
   pub downs-long : length ranks ≤ length (t .downs)
   pub touched-long : length ranks ≤ block * length (t .touched)
 
-abbrev pub RoadDone : (roads ranks : List ℕ) (i : ℕ) → Both Times Times → Type 0
+abbrev pub RoadDone : (roads ranks : List ℕ) (i : ℕ) → Both Rows Rows → Type 0
 RoadDone roads ranks i t = RoadRelaxed (netIn roads ranks) (length ranks) i (t .entry .ups) (t .entry .downs) (t .entry .touched)
     (t .exit .ups) (t .exit .downs) (t .exit .touched)
 
 -- the row of r is none, and then has the times of single roads
-pub record RowAsked (l : Links) (r : ℕ) (t : Times) : Type 0 where
+pub record RowAsked (l : Links) (r : ℕ) (t : Rows) : Type 0 where
   pub grouped : Grouped (l .roads) (l .ranks) (l .first) (l .next)
   pub rank-in : r < length (l .ranks)
   pub ups-none : Row r (length (l .ranks)) (t .ups) (λ h. none)
   pub downs-none : Row r (length (l .ranks)) (t .downs) (λ h. none)
   pub touched-long : length (l .ranks) ≤ block * length (t .touched)
 
-abbrev pub RowBegun : Links → (r : ℕ) → Times → Type 0
+abbrev pub RowBegun : Links → (r : ℕ) → Rows → Type 0
 RowBegun l r t = RoadTimes (netIn (l .roads) (l .ranks)) r (length (l .ranks)) (t .ups) (t .downs) (t .touched)

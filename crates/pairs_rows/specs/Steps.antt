@@ -3,6 +3,7 @@ use mathlib.Core.Path.{_≡_}
 use Prim.Native.Nat.{_*_, _+_, _-_, _/_, _<_, _≤_, min, suc, ℕ}
 use native.Mathlib.Omega.{arith}
 use Rattle.model.specs.Limits.{mostPairs}
+use Rattle.model.specs.Areas.{recordSize}
 use Rattle.pairs_rows.specs.Rows.{block}
 
 pub le-more : {a b : ℕ} → a ≤ b → a ≤ b + 1
@@ -49,19 +50,19 @@ block-in {v} {r} {n} {l} {l₀} w k h e = omega arith
 pub le-same : {v : ℕ} → v ≤ v
 le-same {v} = omega arith
 
-pub next-fits : {i end l : ℕ} → i < end → 4 * end ≤ l → l ≤ 4 * mostPairs → i + 1 < 4294967296
+pub next-fits : {i end l : ℕ} → i < end → recordSize * end ≤ l → l ≤ recordSize * mostPairs → i + 1 < 4294967296
 next-fits {i} {end} {l} h k a = omega arith
 
-pub count-fits : {l : ℕ} (k : ℕ) → 4 * k ≤ l → l ≤ 4 * mostPairs → k + 1 < 4294967296
+pub count-fits : {l : ℕ} (k : ℕ) → recordSize * k ≤ l → l ≤ recordSize * mostPairs → k + 1 < 4294967296
 count-fits {l} k h a = omega arith
 
-pub room-in : {e l : ℕ} (k : ℕ) → e ≡ 4 * (k + 1) → e ≤ l → 4 * k + 4 ≤ l
+pub room-in : {e l : ℕ} (k : ℕ) → e ≡ recordSize * (k + 1) → e ≤ l → recordSize * k + recordSize ≤ l
 room-in {e} {l} k h a = omega arith
 
-pub room-out : {e l : ℕ} (k : ℕ) → e ≡ 4 * (k + 1) → l < e → l < 4 * k + 4
+pub room-out : {e l : ℕ} (k : ℕ) → e ≡ recordSize * (k + 1) → l < e → l < recordSize * k + recordSize
 room-out {e} {l} k h a = omega arith
 
-pub room-next : {l l₀ : ℕ} (k : ℕ) → 4 * k + 4 ≤ l → l ≡ l₀ → 4 * (k + 1) ≤ l₀
+pub room-next : {l l₀ : ℕ} (k : ℕ) → recordSize * k + recordSize ≤ l → l ≡ l₀ → recordSize * (k + 1) ≤ l₀
 room-next {l} {l₀} k h e = omega arith
 
 -- ---- the highs of a row

@@ -1,4 +1,4 @@
--- The records in the area, appended, and the zeros after them. Assumes nothing.
+-- The records in the two areas, appended, and the zeros after them. Assumes nothing.
 use mathlib.Core.Path.{_∙_, _≡_, ap, ap₂, refl, sym}
 use mathlib.Core.Bool.{Bool, false, true}
 use mathlib.Core.List.{List, [], _++_, _∷_, append-assoc, append-nil}
@@ -12,36 +12,53 @@ use Rattle.graph.specs.Path.{Weights}
 use Rattle.graph.specs.Pairs.{down, up}
 use Rattle.graph.specs.Records.{Pair, begins-length, exists, pairOf, row, row-begins, row-blank, row-kept, row-low, rows}
 use Rattle.model.specs.Word.{noneWord, ofWord, ofWord-none, word}
-use Rattle.model.specs.Areas.{words}
+use Rattle.model.specs.Areas.{rankWords, recordSize, timeWords, zerosAfter}
 use Rattle.pairs_rows.specs.Rows.{block}
 use Rattle.network.specs.Width.{fit, fit-is, fit-ofWord}
 use Rattle.pairs_records.specs.Words.{withRecord}
 use Rattle.pairs_fronts.specs.Fronts.{Holds}
-use Rattle.pairs_storing.specs.Storing.{RowAppended, RowTimes}
+use Rattle.pairs_storing.specs.Storing.{RowAppended, RowTimes, cleared}
 use Rattle.pairs_storing.specs.declared.Stored.the-variants.{All, Full}
 
 -- ---- one record more
 
-words-append : (l m : List Pair) → words (l ++ m) ≡ words l ++ words m
-words-append [] m = refl
-words-append (p ∷ l) m = ap (λ (x : List ℕ). p .low ∷ p .high ∷ word (p .upTime) ∷ word (p .downTime) ∷ x) (words-append l m)
+-- the words of one pair more
+words-more : (l : List Pair) (p : Pair) → (rankWords (l ++ (p ∷ [])) ≡ rankWords l ++ (p .low ∷ p .high ∷ []))
+    × (timeWords (l ++ (p ∷ [])) ≡ timeWords l ++ (word (p .upTime) ∷ word (p .downTime) ∷ []))
+words-more [] p = (refl, refl)
+words-more (q ∷ l) p =
+    let (ranks, times) = words-more l p in
+    (ap (λ (x : List ℕ). q .low ∷ q .high ∷ x) ranks, ap (λ (x : List ℕ). word (q .upTime) ∷ word (q .downTime) ∷ x) times)
 
-holds-more : {l : List Pair} {k : ℕ} {s z : List ℕ} (p : Pair) (rest : List ℕ) → Holds l k s → z ≡ take (4 * k) s ++ words (p ∷ []) ++ rest
-    → length z ≡ length s → 4 * k + 4 ≤ length s
-    → Holds (l ++ (p ∷ [])) (k + 1) z
-holds-more {l} {k} {s} {z} p rest h e n room =
-    let f : length (take (4 * k) s ++ words (p ∷ [])) ≡ 4 * (k + 1) = length-append (take (4 * k) s) (words (p ∷ []))
-    ∙ ap (λ (j : ℕ). j + 4) (length-take-le (4 * k) s (h .room)) ∙ four k in
+-- an area that begins with the words of k records, and one more is written
+record-more : {words area′ : List ℕ} (k first second : ℕ) (area : List ℕ) → recordSize * k ≤ length area
+    → take (recordSize * k) area ≡ words → area′ ≡ withRecord area k first second
+    → take (recordSize * (k + 1)) area′ ≡ words ++ (first ∷ second ∷ [])
+record-more k first second area room begins written =
+    let before = take (recordSize * k) area in
+    let two : recordSize * k + recordSize ≡ recordSize * (k + 1) = omega arith in
+    let long : length (before ++ (first ∷ second ∷ [])) ≡ recordSize * (k + 1) = length-append before (first ∷ second ∷ [])
+    ∙ ap (λ (j : ℕ). j + recordSize) (length-take-le (recordSize * k) area room) ∙ two in
+    ap (take (recordSize * (k + 1))) written
+    ∙ take-at (before ++ (first ∷ second ∷ [])) (drop (recordSize * k + recordSize) area) (recordSize * (k + 1)) long
+    ∙ ap (λ (x : List ℕ). x ++ (first ∷ second ∷ [])) begins
+
+holds-more : {l : List Pair} {k : ℕ} {pairs times pairs′ times′ : List ℕ} (p : Pair) → Holds l k pairs times
+    → pairs′ ≡ withRecord pairs k (p .low) (p .high) → length pairs′ ≡ length pairs
+    → times′ ≡ withRecord times k (word (p .upTime)) (word (p .downTime)) → length times′ ≡ length times
+    → recordSize * k + recordSize ≤ length pairs
+    → Holds (l ++ (p ∷ [])) (k + 1) pairs′ times′
+holds-more {l} {k} {pairs} {times} p h ranks-put pairs-kept times-put times-kept room =
+    let (ranks, words) = words-more l p in
     record {
       count-is = omega (arith, h .count-is, length-append l (p ∷ []));
       room = omega arith;
-      words-are =
-          ap (take (4 * (k + 1))) e ∙ take-at (take (4 * k) s ++ words (p ∷ [])) rest (4 * (k + 1)) f
-          ∙ ap (λ (x : List ℕ). x ++ words (p ∷ [])) (h .words-are) ∙ sym (words-append l (p ∷ []));
+      same-room = times-kept ∙ h .same-room ∙ sym pairs-kept;
+      ranks-are = record-more k (p .low) (p .high) pairs (h .room) (h .ranks-are) ranks-put ∙ sym ranks;
+      times-are =
+          record-more k (word (p .upTime)) (word (p .downTime)) times (omega (arith, h .room, h .same-room)) (h .times-are) times-put
+          ∙ sym words;
     }
-  where
-    four : (k : ℕ) → 4 * k + 4 ≡ 4 * (k + 1)
-    four k = omega arith
 
 -- ---- the answers
 
@@ -81,9 +98,9 @@ emptied-over {r} {h} {g} {row₀} {row} l z m = record { done = λ j a b. at j a
     at j a b (yes q) = m .done j a q
     at j a b (no q) = m .rest j (omega arith) ∙ z j a (omega arith) b
 
--- the records of the highs below h stand in the area
-pub record Appending (w : Weights) (n r h k : ℕ) (ups₀ downs₀ ups downs pairs : List ℕ) : Type 0 where
-  pub holds : Holds (rows w n r ++ row w r h) k pairs
+-- the records of the highs below h stand in the areas
+pub record Appending (w : Weights) (n r h k : ℕ) (ups₀ downs₀ ups downs pairs times : List ℕ) : Type 0 where
+  pub holds : Holds (rows w n r ++ row w r h) k pairs times
   pub ups-left : Emptied r h ups₀ ups
   pub downs-left : Emptied r h downs₀ downs
 
@@ -99,7 +116,8 @@ pub record Taken (n r h u d : ℕ) (ups downs ups′ downs′ : List ℕ) (b : B
   pub downs-are : downs′ ≡ set downs h noneWord
   pub test-is : b ≡ exists (ofWord u) (ofWord d)
 
-module _ {w : Weights} {n r count : ℕ} {touched ups₀ downs₀ pairs₀ : List ℕ} (g : RowTimes w n r count touched ups₀ downs₀ pairs₀) where
+module _ {w : Weights} {n r count : ℕ} {touched ups₀ downs₀ pairs₀ times₀ : List ℕ}
+    (g : RowTimes w n r count touched ups₀ downs₀ pairs₀ times₀) where
   up-entry : (h : ℕ) → r < h → h < n → fit (up w r h) ≡ up w r h
   up-entry h rh hn = fit-is (up w r h) (λ t e. g .narrow .ups r h t (omega arith) hn e)
 
@@ -121,7 +139,7 @@ module _ {w : Weights} {n r count : ℕ} {touched ups₀ downs₀ pairs₀ : Lis
       (ap ofWord (eu ∙ g .ups-are .at h rh hn) ∙ fit-ofWord (up w r h) ∙ up-entry h rh hn)
       (ap ofWord (ed ∙ g .downs-are .at h rh hn) ∙ fit-ofWord (down w r h) ∙ down-entry h rh hn)
 
-  pub append-start : Appending w n r (r + 1) count ups₀ downs₀ ups₀ downs₀ pairs₀
+  pub append-start : Appending w n r (r + 1) count ups₀ downs₀ ups₀ downs₀ pairs₀ times₀
   append-start =
       let e : row w r (r + 1) ≡ [] = row-low w r (r + 1) (omega arith) in
       record { holds = rw (e, append-nil (rows w n r)) (g .holds); ups-left = emptied-start; downs-left = emptied-start }
@@ -141,9 +159,9 @@ module _ {w : Weights} {n r count : ℕ} {touched ups₀ downs₀ pairs₀ : Lis
       let q : exists (up w r (h + d)) (down w r (h + d)) ≡ false = sym (tested (h + d) noneWord noneWord (omega arith) k u v) ∙ x in
       ap (row w r) e ∙ row-blank w r (h + d) q ∙ blank d h rh (omega arith) (λ j a b. z j a (omega arith))
 
-  pub append-over : {h to k : ℕ} {ups downs pairs : List ℕ} → r < h → h < n → to ≡ min (block * (h / block) + block) n
+  pub append-over : {h to k : ℕ} {ups downs pairs times : List ℕ} → r < h → h < n → to ≡ min (block * (h / block) + block) n
       → getD touched (h / block) 0 ≡ 0
-      → Appending w n r h k ups₀ downs₀ ups downs pairs → Appending w n r to k ups₀ downs₀ ups downs pairs
+      → Appending w n r h k ups₀ downs₀ ups downs pairs times → Appending w n r to k ups₀ downs₀ ups downs pairs times
   append-over {h} {to} rh hn et t inv = record {
     holds = rw same (inv .holds);
     ups-left = emptied-over (omega arith) (λ j a b c. g .marked .ups-none j a (omega arith) (all j b c)) (inv .ups-left);
@@ -160,8 +178,8 @@ module _ {w : Weights} {n r count : ℕ} {touched ups₀ downs₀ pairs₀ : Lis
 
   -- ---- the entry of h is handed out
 
-  module _ {h u d k : ℕ} {ups downs ups′ downs′ pairs : List ℕ} {b : Bool} (t : Taken n r h u d ups downs ups′ downs′ b)
-      (inv : Appending w n r h k ups₀ downs₀ ups downs pairs) where
+  module _ {h u d k : ℕ} {ups downs ups′ downs′ pairs times : List ℕ} {b : Bool} (t : Taken n r h u d ups downs ups′ downs′ b)
+      (inv : Appending w n r h k ups₀ downs₀ ups downs pairs times) where
     up-first : u ≡ getD ups₀ h 0
     up-first = t .up-is ∙ inv .ups-left .rest h (omega arith)
 
@@ -178,7 +196,7 @@ module _ {w : Weights} {n r count : ℕ} {touched ups₀ downs₀ pairs₀ : Lis
     downs-emptied : Emptied r (h + 1) downs₀ downs′
     downs-emptied = emptied-turn (t .down-in) (t .downs-are) (inv .downs-left)
 
-    pub append-skip : b ≡ false → Appending w n r (h + 1) k ups₀ downs₀ ups′ downs′ pairs
+    pub append-skip : b ≡ false → Appending w n r (h + 1) k ups₀ downs₀ ups′ downs′ pairs times
     append-skip e = record {
       holds = rw (add-one h, row-blank w r h (test-is ∙ e)) (inv .holds);
       ups-left = ups-emptied;
@@ -188,19 +206,19 @@ module _ {w : Weights} {n r count : ℕ} {touched ups₀ downs₀ pairs₀ : Lis
     more : b ≡ true → row w r (suc h) ≡ row w r h ++ (pairOf w r h ∷ [])
     more e = row-kept w r h (test-is ∙ e)
 
-    pub append-put : {z : List ℕ} → b ≡ true → z ≡ withRecord pairs k r h u d → length z ≡ length pairs → 4 * k + 4 ≤ length pairs
-        → Appending w n r (h + 1) (k + 1) ups₀ downs₀ ups′ downs′ z
-    append-put {z} e ez l room =
+    pub append-put : {pairs′ times′ : List ℕ} → b ≡ true → pairs′ ≡ withRecord pairs k r h → length pairs′ ≡ length pairs
+        → times′ ≡ withRecord times k u d → length times′ ≡ length times → recordSize * k + recordSize ≤ length pairs
+        → Appending w n r (h + 1) (k + 1) ups₀ downs₀ ups′ downs′ pairs′ times′
+    append-put e ranks-put pairs-kept times-put times-kept room =
         let (eu, ed) = entry-words h u d (t .above) (t .below) up-first down-first in
-        let q : z ≡ take (4 * k) pairs ++ words (pairOf w r h ∷ []) ++ drop (4 * k + 4) pairs = rw (eu, ed) at ez in
         record {
           holds = rw (add-one h, more e, ← (append-assoc (rows w n r) (row w r h) (pairOf w r h ∷ [])))
-              (holds-more (pairOf w r h) (drop (4 * k + 4) pairs) (inv .holds) q l room);
+              (holds-more (pairOf w r h) (inv .holds) ranks-put pairs-kept (rw (eu, ed) at times-put) times-kept room);
           ups-left = ups-emptied;
           downs-left = downs-emptied;
         }
 
-    pub append-full : b ≡ true → length pairs < 4 * k + 4 → RowAppended w n r ups′ downs′ pairs Full
+    pub append-full : b ≡ true → length pairs < recordSize * k + recordSize → RowAppended w n r ups′ downs′ pairs times Full
     append-full e full =
         let all-rows = ap (λ (l : List Pair). length l) (ap (rows w n) (add-one r)) ∙ length-append (rows w n r) (row w r n) in
         let one-more = ap length (more e) ∙ length-append (row w r h) (pairOf w r h ∷ []) in
@@ -214,13 +232,13 @@ module _ {w : Weights} {n r count : ℕ} {touched ups₀ downs₀ pairs₀ : Lis
           downs-none = λ j q. absurd (all-full (sym q));
         }
 
-  pub append-end : {h k : ℕ} {ups downs pairs : List ℕ} → h ≤ n → n ≤ h → length ups ≡ length ups₀ → length downs ≡ length downs₀
-      → Appending w n r h k ups₀ downs₀ ups downs pairs
-      → RowAppended w n r ups downs pairs (All k)
-  append-end {h} {k} {pairs} hn nh lu ld inv =
+  pub append-end : {h k : ℕ} {ups downs pairs times : List ℕ} → h ≤ n → n ≤ h → length ups ≡ length ups₀ → length downs ≡ length downs₀
+      → Appending w n r h k ups₀ downs₀ ups downs pairs times
+      → RowAppended w n r ups downs pairs times (All k)
+  append-end {h} {k} {pairs} {times} hn nh lu ld inv =
       let e : h ≡ n = omega arith in
       let i = inv .holds in
-      let s : Holds (rows w n (r + 1)) k pairs = rw (add-one r) (rw e at i) in
+      let s : Holds (rows w n (r + 1)) k pairs times = rw (add-one r) (rw e at i) in
       record {
         appended = record { all = λ j q. rw (all-same q) at s; full = λ q. absurd (all-full q) };
         ups-none = λ j q. record { wide = omega (arith, g .ups-are .wide); at = λ a ra an. inv .ups-left .done a ra (omega arith) };
@@ -229,12 +247,16 @@ module _ {w : Weights} {n r count : ℕ} {touched ups₀ downs₀ pairs₀ : Lis
 
 -- ---- zeros after the last
 
--- the rest of the area from k on, filled as a part of it
-pub rest-filled : (m k : ℕ) (s y : List ℕ) → k ≡ m → y ≡ replicate (length (take (length s - k) (drop k s))) 0
-    → take k s ++ (y ++ drop (length s - k) (drop k s)) ≡ take m s ++ replicate (length s - m) 0
-rest-filled m k s y e f =
-    let n : length (drop k s) ≡ length s - k = length-drop k s in
-    let t : length (take (length s - k) (drop k s)) ≡ length s - k = length-take-le (length s - k) (drop k s) (omega arith) in
-    let z : drop (length s - k) (drop k s) ≡ [] = drop-of-length-le (drop k s) {i = length s - k} (omega arith) in
-    ap (λ (x : List ℕ). take k s ++ (y ++ x)) z ∙ ap (_++_ (take k s)) (append-nil y ∙ f ∙ ap (λ (j : ℕ). replicate j 0) t)
-    ∙ ap (λ (j : ℕ). take j s ++ replicate (length s - j) 0) e
+-- the part of an area after its first `count` records, filled as an area of its own
+pub rest-filled : (count k : ℕ) (area rest : List ℕ) → k ≡ recordSize * count → recordSize * count ≤ length area
+    → rest ≡ replicate (length (take (length area - k) (drop k area))) 0
+    → take k area ++ (rest ++ drop (length area - k) (drop k area)) ≡ cleared count area
+rest-filled count k area rest e room f =
+    let left = length area - k in
+    let n : length (drop k area) ≡ left = length-drop k area in
+    let t : length (take left (drop k area)) ≡ left = length-take-le left (drop k area) (omega arith) in
+    let z : drop left (drop k area) ≡ [] = drop-of-length-le (drop k area) {i = left} (omega arith) in
+    let m : left ≡ length area - length (take k area) = omega (arith, length-take-le k area (omega arith)) in
+    ap (λ (x : List ℕ). take k area ++ (rest ++ x)) z
+    ∙ ap (_++_ (take k area)) (append-nil rest ∙ f ∙ ap (λ (j : ℕ). replicate j 0) (t ∙ m))
+    ∙ ap (λ (j : ℕ). zerosAfter (take j area) (length area)) e

@@ -1,16 +1,17 @@
-// The records of a row, appended to the area of pairs, and the zeros after the last.
+// The records of a row, appended to the two areas of pairs, and the zeros after the last.
 ghost use mathlib.Core.Path.{_≡_};
-ghost use mathlib.Core.List.{_++_};
-ghost use Prim.Native.Nat.{_*_, _-_, _≤_};
-ghost use lib.ListN.{length, replicate, take};
+ghost use Prim.Native.Nat.{_*_, _≤_};
+ghost use lib.ListN.{length};
 ghost use Rattle.graph.specs.Path.{Weights};
-ghost use Rattle.pairs_rows.specs.Lending.{times, timesOf};
+ghost use Rattle.model.specs.Areas.{recordSize};
+ghost use Rattle.pairs_rows.specs.Lending.{rows, rowsOf};
+ghost use Rattle.pairs_storing.specs.Storing.{cleared};
 ghost use Rattle.pairs_storing.specs.Lending.{AppendAsked, RowAppendedIn, RowTimesIn};
 use network::Rank;
 use network::TimeWord;
 use pairs_rows::BLOCK;
 
-// The number of records in the area, if all fit.
+// The number of records in the areas, if all fit.
 pub enum Stored {
     All(u32),
     Full,
@@ -26,10 +27,12 @@ pub fn append_row(
     ups: &mut [TimeWord],
     downs: &mut [TimeWord],
     pairs: &mut [u32],
+    times: &mut [TimeWord],
 ) -> Stored
-    requires { ⌜ AppendAsked n (r .0) count (timesOf ups downs touched) (now pairs) ⌝ }
-    ensures { λ answer. ⌜ (let t = times ups downs touched in (w : Weights) → RowTimesIn w n (r .0) count (t .entry) (now (pairs .entry))
-        → RowAppendedIn w n (r .0) (t .exit) (now (pairs .exit)) answer) ⌝ }
+    requires { ⌜ AppendAsked n (r .0) count (rowsOf ups downs touched) (now pairs) (now times) ⌝ }
+    ensures { λ answer. ⌜ (let t = rows ups downs touched in
+        (w : Weights) → RowTimesIn w n (r .0) count (t .entry) (now (pairs .entry)) (now (times .entry))
+        → RowAppendedIn w n (r .0) (t .exit) (now (pairs .exit)) (now (times .exit)) answer) ⌝ }
 {
     let mut k = count;
     let mut h = r.0 + 1;
@@ -47,7 +50,8 @@ pub fn append_row(
                 if pairs_records::words_of(k + 1) > pairs.len() {
                     return Stored::Full;
                 }
-                pairs_records::put_record(pairs, k, r, high, u, d);
+                pairs_records::put_ranks(pairs, k, r, high);
+                pairs_records::put_times(times, k, u, d);
                 k += 1;
             }
         }
@@ -55,11 +59,12 @@ pub fn append_row(
     Stored::All(k)
 }
 
-// Fills the area with 0 after the first `count` records.
-pub fn clear_from(pairs: &mut [u32], count: u32)
-    requires { ⌜ 4 * count ≤ length (now pairs) ⌝ }
-    ensures { λ _. ⌜ now (pairs .exit) ≡ take (4 * count) (now (pairs .entry)) ++ replicate (length (now (pairs .entry)) - 4 * count) 0 ⌝ }
+// Fills both areas with 0 after the first `count` records.
+pub fn clear_from(pairs: &mut [u32], times: &mut [TimeWord], count: u32)
+    requires { ⌜ (recordSize * count ≤ length (now pairs)) × (length (now times) ≡ length (now pairs)) ⌝ }
+    ensures { λ _. ⌜ (now (pairs .exit) ≡ cleared count (now (pairs .entry))) × (now (times .exit) ≡ cleared count (now (times .entry))) ⌝ }
 {
     let k = pairs_records::words_of(count);
     areas::fill(&mut pairs[k..], 0);
+    areas::fill_times(&mut times[k..], 0);
 }

@@ -86,6 +86,7 @@ fn answer_lines(
     file: &[u8],
     ranks: &[u32],
     pairs: &[u32; program_shell::PAIRS_ROOM],
+    times: &[TimeWord; program_shell::PAIRS_ROOM],
     live: &mut [TimeWord],
     down: &mut [TimeWord],
     estimates: &mut [TimeWord],
@@ -96,8 +97,8 @@ fn answer_lines(
     log: &mut [u32; program_shell::JUNCTIONS],
     out: &mut [u8; program_shell::OUT_ROOM],
 ) -> Talk
-    ensures { λ r. ⌜ AnswersLines (now (file .entry)) from (areas ranks pairs live down estimates elapsed leaving groups) (lent route log)
-        out r ⌝ }
+    ensures { λ r. ⌜ AnswersLines (now (file .entry)) from (areas ranks pairs times live down estimates elapsed leaving groups)
+        (lent route log) out r ⌝ }
 {
     let mut chunk = [0u8; line_input::CHUNK_ROOM];
     let mut line = [0u8; line_input::LINE_ROOM];
@@ -111,6 +112,7 @@ fn answer_lines(
             file,
             ranks,
             pairs,
+            times,
             live,
             down,
             estimates,
@@ -149,6 +151,7 @@ fn serve(
     file: &[u8],
     ranks: &mut [u32],
     pairs: &mut [u32; program_shell::PAIRS_ROOM],
+    times: &mut [TimeWord; program_shell::PAIRS_ROOM],
     live: &mut [TimeWord],
     down: &mut [TimeWord],
     estimates: &mut [TimeWord],
@@ -161,13 +164,14 @@ fn serve(
     input: i32,
     output: i32,
 ) -> Talk
-    ensures { λ r. ⌜ Serves (now (file .entry)) (areas ranks pairs live down estimates elapsed leaving groups) (lent route log)
+    ensures { λ r. ⌜ Serves (now (file .entry)) (areas ranks pairs times live down estimates elapsed leaving groups) (lent route log)
         (now (out .exit)) r ⌝ }
 {
     let opened = program_shell::open_card(
         file,
         ranks,
         pairs,
+        times,
         live,
         down,
         estimates,
@@ -181,6 +185,7 @@ fn serve(
         file,
         ranks,
         pairs,
+        times,
         live,
         down,
         estimates,
@@ -202,6 +207,7 @@ fn start(file: &[u8], input: i32, output: i32) -> Talk
     let m = size.m;
     let mut ranks = [0u32; program_shell::JUNCTIONS];
     let mut pairs = [0u32; program_shell::PAIRS_ROOM];
+    let mut times = [0 as TimeWord; program_shell::PAIRS_ROOM];
     let mut live = [0 as TimeWord; program_shell::ROADS];
     let mut down = [0 as TimeWord; program_shell::JUNCTIONS];
     let mut estimates = [0 as TimeWord; program_shell::JUNCTIONS];
@@ -215,6 +221,7 @@ fn start(file: &[u8], input: i32, output: i32) -> Talk
         file,
         &mut ranks[..n],
         &mut pairs,
+        &mut times,
         &mut live[..m],
         &mut down[..n],
         &mut estimates[..n],

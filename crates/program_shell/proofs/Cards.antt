@@ -176,9 +176,10 @@ module _ (file : List ℕ) (a : Areas) (lends : Lends file a) where
       ap fits (lent-is e ∙ ap₂ (λ (i : ℕ) (j : ℕ). lengthsFor i pairWords j) n m)
       ∙ facts-lengths {n = M .vertices} {m = M .base .arcs} {p = 0} {l = lengthsFor (M .vertices) pairWords (M .base .arcs)} (record {
         ranks = refl;
-        fours = refl;
+        whole = refl;
         room = omega arith;
         pairs-high = omega arith;
+        times = refl;
         live = refl;
         down = refl;
         estimates = refl;

@@ -9,7 +9,7 @@ junctionLimit = 200
 abbrev pub roadLimit : ℕ
 roadLimit = 800
 
--- "with room for 4,000 pairs": the words of their records
+-- "with room for 4,000 pairs": the words of their records, in each of the pairs' two areas
 abbrev pub pairWords : ℕ
 pairWords = recordSize * 4000
 

@@ -63,9 +63,9 @@ junctionRoom file = roomIn (length (orderIn file)) placeSize junctionLimit
 abbrev pub roadRoom : (file : List ℕ) → ℕ
 roadRoom file = roomIn (length (roadsIn file)) roadSize roadLimit
 
--- the lengths of areas for n junctions and m roads, with room for so many words of pairs
+-- the lengths of areas for n junctions and m roads, with so many words in each of the pairs' two areas
 abbrev pub lengthsFor : (n pairs m : ℕ) → Each ℕ
-lengthsFor n p m = areasOf n p m n n n m (suc n)
+lengthsFor n p m = areasOf n p p m n n n m (suc n)
 
 abbrev pub Lends : (file : List ℕ) → Areas → Type 0
 Lends file a = lengths a ≡ lengthsFor (junctionRoom file) pairWords (roadRoom file)

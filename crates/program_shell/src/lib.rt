@@ -34,7 +34,7 @@ pub const PAIRS: usize = 4000;
 
 pub const CARD_SIZE: usize = 32768;
 
-// The words of so many pairs.
+// The words of so many pairs, in each of their two areas.
 pub const PAIRS_ROOM: usize = network::RECORD * PAIRS;
 
 // Where the group of each junction starts, and where the last one ends.
@@ -141,6 +141,7 @@ pub fn open_card(
     file: &[u8],
     ranks: &mut [u32],
     pairs: &mut [u32; PAIRS_ROOM],
+    times: &mut [TimeWord; PAIRS_ROOM],
     live: &mut [TimeWord],
     down: &mut [TimeWord],
     estimates: &mut [TimeWord],
@@ -149,12 +150,14 @@ pub fn open_card(
     groups: &mut [u32],
     out: &mut [u8; OUT_ROOM],
 ) -> Opened
-    ensures { λ r. ⌜ OpensCard (now (file .entry)) (areas ranks pairs live down estimates elapsed leaving groups) (now (out .exit)) r ⌝ }
+    ensures { λ r. ⌜ OpensCard (now (file .entry)) (areas ranks pairs times live down estimates elapsed leaving groups)
+        (now (out .exit)) r ⌝ }
 {
     let prepared = unit_switch_on::prepare(
         file,
         ranks,
         pairs,
+        times,
         live,
         down,
         estimates,
@@ -194,6 +197,7 @@ pub fn answer_line(
     card: &[u8],
     ranks: &[u32],
     pairs: &[u32; PAIRS_ROOM],
+    times: &[TimeWord; PAIRS_ROOM],
     live: &mut [TimeWord],
     down: &mut [TimeWord],
     estimates: &mut [TimeWord],
@@ -205,7 +209,7 @@ pub fn answer_line(
     out: &mut [u8; OUT_ROOM],
 ) -> Reply
     ensures { λ r. ⌜ AnswersLine (now (card .entry)) (now (line .entry)) header
-        (areas ranks pairs live down estimates elapsed leaving groups) (lent route log) (now (out .exit)) r ⌝ }
+        (areas ranks pairs times live down estimates elapsed leaving groups) (lent route log) (now (out .exit)) r ⌝ }
 {
     match line_console::read_line(line) {
         Line::Unreadable => Reply {
@@ -218,6 +222,7 @@ pub fn answer_line(
                 card,
                 ranks,
                 pairs,
+                times,
                 live,
                 down,
                 estimates,

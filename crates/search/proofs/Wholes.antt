@@ -123,6 +123,7 @@ module _ {g : Given} {leaving groups : List ℕ} {s z e t : ℕ} (within : Withi
       order-is = within .sized .order-is;
       ranks-are = within .sized .ranks-are;
       pairs-are = within .sized .pairs-are;
+      times-are = within .sized .times-are;
       live-is = live-is ∙ within .sized .live-is;
       down-is = within .sized .down-is;
       estimates-are = e-is ∙ within .sized .estimates-are;

@@ -31,7 +31,7 @@ Settable M live = (i : ℕ) → i < M .base .arcs → settable (M .base .cost i)
 
 -- preparing and aim left the areas, and set the times
 pub record AsLeft (g : Given) (leaving groups : List ℕ) (z : ℕ) (estimates : List ℕ) : Type 0 where
-  pub prepared : Prepared (g .roads) (g .order) (g .ranks) (g .pairs) (g .sizes .pairs)
+  pub prepared : Prepared (g .roads) (g .order) (g .ranks) (g .pairs) (g .times) (g .sizes .pairs)
   pub grouped : GroupsMade (g .roads) (mapGiven g .vertices) (mapGiven g .base .arcs) leaving groups
   pub aims : AimFacts (mapGiven g) z (g .down) estimates
   pub times : Settable (mapGiven g) (g .live)
@@ -80,7 +80,7 @@ seenBy t v = record { sizes = t .sizes; start = t .start; target = t .target; cl
 
 -- the same at other times
 abbrev pub atTimes : Given → (live : List ℕ) → Given
-atTimes g live = givenOf (g .sizes) (g .roads) (g .order) (g .ranks) (g .pairs) live (g .down)
+atTimes g live = givenOf (g .sizes) (g .roads) (g .order) (g .ranks) (g .pairs) (g .times) live (g .down)
 
 -- Both are given the same but for the times; each has half of the work area in elapsed's place.
 pub record LendsBoth (g : Given) (leaving groups : List ℕ) (s z : ℕ) (estimates work : List ℕ) : Type 0 where

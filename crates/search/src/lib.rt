@@ -41,6 +41,7 @@ fn search_in(
     order: &[u8],
     ranks: &[u32],
     pairs: &[u32],
+    times: &[TimeWord],
     access: &[u8],
     live: &[TimeWord],
     down: &[TimeWord],
@@ -52,9 +53,9 @@ fn search_in(
     log: &mut [u32],
     room: &mut [u64],
 ) -> Searched
-    requires { ⌜ LendsIn (given trip roads order ranks pairs access live down) (now leaving) (now groups) (trip .start .0) (trip .target .0)
-        (written estimates elapsed route log) (now room) ⌝ }
-    ensures { λ r. ⌜ Searches (givenTo trip roads order ranks pairs access live down) (now (leaving .entry)) (now (groups .entry))
+    requires { ⌜ LendsIn (given trip roads order ranks pairs times access live down) (now leaving) (now groups)
+        (trip .start .0) (trip .target .0) (written estimates elapsed route log) (now room) ⌝ }
+    ensures { λ r. ⌜ Searches (givenTo trip roads order ranks pairs times access live down) (now (leaving .entry)) (now (groups .entry))
         (trip .start .0) (trip .target .0) (written (estimates .entry) (elapsed .entry) (route .entry) (log .entry))
         (written (estimates .exit) (elapsed .exit) (route .exit) (log .exit)) (r .total .0) (r .count) (r .roads) ⌝ }
 {
@@ -69,6 +70,7 @@ fn search_in(
         order,
         ranks,
         pairs,
+        times,
         access,
         live,
         down,
@@ -103,6 +105,7 @@ fn search_small(
     order: &[u8],
     ranks: &[u32],
     pairs: &[u32],
+    times: &[TimeWord],
     access: &[u8],
     live: &[TimeWord],
     down: &[TimeWord],
@@ -113,9 +116,9 @@ fn search_small(
     route: &mut [u32],
     log: &mut [u32],
 ) -> Searched
-    requires { ⌜ Lends (given trip roads order ranks pairs access live down) (now leaving) (now groups) (trip .start .0) (trip .target .0)
-        (written estimates elapsed route log) × (trip .sizes .n ≤ 1024) ⌝ }
-    ensures { λ r. ⌜ Searches (givenTo trip roads order ranks pairs access live down) (now (leaving .entry)) (now (groups .entry))
+    requires { ⌜ Lends (given trip roads order ranks pairs times access live down) (now leaving) (now groups)
+        (trip .start .0) (trip .target .0) (written estimates elapsed route log) × (trip .sizes .n ≤ 1024) ⌝ }
+    ensures { λ r. ⌜ Searches (givenTo trip roads order ranks pairs times access live down) (now (leaving .entry)) (now (groups .entry))
         (trip .start .0) (trip .target .0) (written (estimates .entry) (elapsed .entry) (route .entry) (log .entry))
         (written (estimates .exit) (elapsed .exit) (route .exit) (log .exit)) (r .total .0) (r .count) (r .roads) ⌝ }
 {
@@ -128,6 +131,7 @@ fn search_small(
             order,
             ranks,
             pairs,
+            times,
             access,
             live,
             down,
@@ -147,6 +151,7 @@ fn search_small(
         order,
         ranks,
         pairs,
+        times,
         access,
         live,
         down,
@@ -167,6 +172,7 @@ fn search_large(
     order: &[u8],
     ranks: &[u32],
     pairs: &[u32],
+    times: &[TimeWord],
     access: &[u8],
     live: &[TimeWord],
     down: &[TimeWord],
@@ -177,9 +183,9 @@ fn search_large(
     route: &mut [u32],
     log: &mut [u32],
 ) -> Searched
-    requires { ⌜ Lends (given trip roads order ranks pairs access live down) (now leaving) (now groups) (trip .start .0) (trip .target .0)
-        (written estimates elapsed route log) ⌝ }
-    ensures { λ r. ⌜ Searches (givenTo trip roads order ranks pairs access live down) (now (leaving .entry)) (now (groups .entry))
+    requires { ⌜ Lends (given trip roads order ranks pairs times access live down) (now leaving) (now groups)
+        (trip .start .0) (trip .target .0) (written estimates elapsed route log) ⌝ }
+    ensures { λ r. ⌜ Searches (givenTo trip roads order ranks pairs times access live down) (now (leaving .entry)) (now (groups .entry))
         (trip .start .0) (trip .target .0) (written (estimates .entry) (elapsed .entry) (route .entry) (log .entry))
         (written (estimates .exit) (elapsed .exit) (route .exit) (log .exit)) (r .total .0) (r .count) (r .roads) ⌝ }
 {
@@ -192,6 +198,7 @@ fn search_large(
             order,
             ranks,
             pairs,
+            times,
             access,
             live,
             down,
@@ -211,6 +218,7 @@ fn search_large(
         order,
         ranks,
         pairs,
+        times,
         access,
         live,
         down,
@@ -231,6 +239,7 @@ pub fn search(
     order: &[u8],
     ranks: &[u32],
     pairs: &[u32],
+    times: &[TimeWord],
     access: &[u8],
     live: &[TimeWord],
     down: &[TimeWord],
@@ -241,9 +250,9 @@ pub fn search(
     route: &mut [u32],
     log: &mut [u32],
 ) -> Searched
-    requires { ⌜ Lends (given trip roads order ranks pairs access live down) (now leaving) (now groups) (trip .start .0) (trip .target .0)
-        (written estimates elapsed route log) ⌝ }
-    ensures { λ r. ⌜ Searches (givenTo trip roads order ranks pairs access live down) (now (leaving .entry)) (now (groups .entry))
+    requires { ⌜ Lends (given trip roads order ranks pairs times access live down) (now leaving) (now groups)
+        (trip .start .0) (trip .target .0) (written estimates elapsed route log) ⌝ }
+    ensures { λ r. ⌜ Searches (givenTo trip roads order ranks pairs times access live down) (now (leaving .entry)) (now (groups .entry))
         (trip .start .0) (trip .target .0) (written (estimates .entry) (elapsed .entry) (route .entry) (log .entry))
         (written (estimates .exit) (elapsed .exit) (route .exit) (log .exit)) (r .total .0) (r .count) (r .roads) ⌝ }
 {
@@ -254,6 +263,7 @@ pub fn search(
             order,
             ranks,
             pairs,
+            times,
             access,
             live,
             down,
@@ -271,6 +281,7 @@ pub fn search(
         order,
         ranks,
         pairs,
+        times,
         access,
         live,
         down,
@@ -292,6 +303,7 @@ fn total_in(
     order: &[u8],
     ranks: &[u32],
     pairs: &[u32],
+    times: &[TimeWord],
     access: &[u8],
     live: &[TimeWord],
     down: &[TimeWord],
@@ -302,10 +314,10 @@ fn total_in(
     log: &mut [u32],
     room: &mut [u64],
 ) -> Time
-    requires { ⌜ Within (given trip roads order ranks pairs access live down) (now leaving) (now groups) (trip .start .0) (trip .target .0)
-        (length (now estimates)) (length (now elapsed))
+    requires { ⌜ Within (given trip roads order ranks pairs times access live down) (now leaving) (now groups)
+        (trip .start .0) (trip .target .0) (length (now estimates)) (length (now elapsed))
         × (trip .sizes .n ≤ length (now log)) × BlankRoom (trip .sizes .n) (now room) ⌝ }
-    ensures { λ r. ⌜ FindsTotal (givenTo trip roads order ranks pairs access live down) (now (leaving .entry)) (now (groups .entry))
+    ensures { λ r. ⌜ FindsTotal (givenTo trip roads order ranks pairs times access live down) (now (leaving .entry)) (now (groups .entry))
         (trip .start .0) (trip .target .0) (now (estimates .entry)) (now (estimates .exit)) (r .0) ⌝ }
 {
     let target = trip.target;
@@ -318,6 +330,7 @@ fn total_in(
         order,
         ranks,
         pairs,
+        times,
         access,
         live,
         down,
@@ -338,6 +351,7 @@ fn total_small(
     order: &[u8],
     ranks: &[u32],
     pairs: &[u32],
+    times: &[TimeWord],
     access: &[u8],
     live: &[TimeWord],
     down: &[TimeWord],
@@ -346,9 +360,9 @@ fn total_small(
     estimates: &mut [TimeWord],
     elapsed: &mut [TimeWord],
 ) -> Time
-    requires { ⌜ Within (given trip roads order ranks pairs access live down) (now leaving) (now groups) (trip .start .0) (trip .target .0)
-        (length (now estimates)) (length (now elapsed)) × (trip .sizes .n ≤ 1024) ⌝ }
-    ensures { λ r. ⌜ FindsTotal (givenTo trip roads order ranks pairs access live down) (now (leaving .entry)) (now (groups .entry))
+    requires { ⌜ Within (given trip roads order ranks pairs times access live down) (now leaving) (now groups)
+        (trip .start .0) (trip .target .0) (length (now estimates)) (length (now elapsed)) × (trip .sizes .n ≤ 1024) ⌝ }
+    ensures { λ r. ⌜ FindsTotal (givenTo trip roads order ranks pairs times access live down) (now (leaving .entry)) (now (groups .entry))
         (trip .start .0) (trip .target .0) (now (estimates .entry)) (now (estimates .exit)) (r .0) ⌝ }
 {
     let n = trip.sizes.n as usize;
@@ -361,6 +375,7 @@ fn total_small(
             order,
             ranks,
             pairs,
+            times,
             access,
             live,
             down,
@@ -380,6 +395,7 @@ fn total_small(
         order,
         ranks,
         pairs,
+        times,
         access,
         live,
         down,
@@ -399,6 +415,7 @@ fn total_large(
     order: &[u8],
     ranks: &[u32],
     pairs: &[u32],
+    times: &[TimeWord],
     access: &[u8],
     live: &[TimeWord],
     down: &[TimeWord],
@@ -407,9 +424,9 @@ fn total_large(
     estimates: &mut [TimeWord],
     elapsed: &mut [TimeWord],
 ) -> Time
-    requires { ⌜ Within (given trip roads order ranks pairs access live down) (now leaving) (now groups) (trip .start .0) (trip .target .0)
-        (length (now estimates)) (length (now elapsed)) ⌝ }
-    ensures { λ r. ⌜ FindsTotal (givenTo trip roads order ranks pairs access live down) (now (leaving .entry)) (now (groups .entry))
+    requires { ⌜ Within (given trip roads order ranks pairs times access live down) (now leaving) (now groups)
+        (trip .start .0) (trip .target .0) (length (now estimates)) (length (now elapsed)) ⌝ }
+    ensures { λ r. ⌜ FindsTotal (givenTo trip roads order ranks pairs times access live down) (now (leaving .entry)) (now (groups .entry))
         (trip .start .0) (trip .target .0) (now (estimates .entry)) (now (estimates .exit)) (r .0) ⌝ }
 {
     let n = trip.sizes.n as usize;
@@ -422,6 +439,7 @@ fn total_large(
             order,
             ranks,
             pairs,
+            times,
             access,
             live,
             down,
@@ -441,6 +459,7 @@ fn total_large(
         order,
         ranks,
         pairs,
+        times,
         access,
         live,
         down,
@@ -460,6 +479,7 @@ fn least_total(
     order: &[u8],
     ranks: &[u32],
     pairs: &[u32],
+    times: &[TimeWord],
     access: &[u8],
     live: &[TimeWord],
     down: &[TimeWord],
@@ -468,9 +488,9 @@ fn least_total(
     estimates: &mut [TimeWord],
     elapsed: &mut [TimeWord],
 ) -> Time
-    requires { ⌜ Within (given trip roads order ranks pairs access live down) (now leaving) (now groups) (trip .start .0) (trip .target .0)
-        (length (now estimates)) (length (now elapsed)) ⌝ }
-    ensures { λ r. ⌜ FindsTotal (givenTo trip roads order ranks pairs access live down) (now (leaving .entry)) (now (groups .entry))
+    requires { ⌜ Within (given trip roads order ranks pairs times access live down) (now leaving) (now groups)
+        (trip .start .0) (trip .target .0) (length (now estimates)) (length (now elapsed)) ⌝ }
+    ensures { λ r. ⌜ FindsTotal (givenTo trip roads order ranks pairs times access live down) (now (leaving .entry)) (now (groups .entry))
         (trip .start .0) (trip .target .0) (now (estimates .entry)) (now (estimates .exit)) (r .0) ⌝ }
 {
     if trip.sizes.n as usize <= MIDDLE {
@@ -480,6 +500,7 @@ fn least_total(
             order,
             ranks,
             pairs,
+            times,
             access,
             live,
             down,
@@ -495,6 +516,7 @@ fn least_total(
         order,
         ranks,
         pairs,
+        times,
         access,
         live,
         down,
@@ -520,6 +542,7 @@ pub fn totals(
     order: &[u8],
     ranks: &[u32],
     pairs: &[u32],
+    times: &[TimeWord],
     access: &[u8],
     live: &[TimeWord],
     down: &[TimeWord],
@@ -528,9 +551,9 @@ pub fn totals(
     estimates: &mut [TimeWord],
     work: &mut [TimeWord],
 ) -> TwoTotals
-    requires { ⌜ LendsBoth (given trip roads order ranks pairs access live down) (now leaving) (now groups)
+    requires { ⌜ LendsBoth (given trip roads order ranks pairs times access live down) (now leaving) (now groups)
         (trip .start .0) (trip .target .0) (now estimates) (now work) ⌝ }
-    ensures { λ r. ⌜ FindsBoth (givenTo trip roads order ranks pairs access live down)
+    ensures { λ r. ⌜ FindsBoth (givenTo trip roads order ranks pairs times access live down)
         (met (seenBy trip view) (now (access .entry)) (now (live .entry))) (now (leaving .entry)) (now (groups .entry))
         (trip .start .0) (trip .target .0) (now (estimates .entry)) (now (estimates .exit)) (r .present .0) (r .new .0) ⌝ }
 {
@@ -544,6 +567,7 @@ pub fn totals(
         order,
         ranks,
         pairs,
+        times,
         access,
         live,
         down,
@@ -565,6 +589,7 @@ pub fn totals(
         order,
         ranks,
         pairs,
+        times,
         access,
         live,
         down,

@@ -118,7 +118,7 @@ module _ {g : Given} {i : ℕ} where
     }
 
     -- it is asked
-    pub head-open : {v : ℕ} {e e′ : List ℕ} → Estimated (g .order) (g .ranks) (g .pairs) (g .sizes .pairs) (g .down) e e′ h v
+    pub head-open : {v : ℕ} {e e′ : List ℕ} → Estimated (g .order) (g .ranks) (g .pairs) (g .times) (g .sizes .pairs) (g .down) e e′ h v
         → AsksRoad g i e e′
     head-open est = record {
       kept = est .kept;

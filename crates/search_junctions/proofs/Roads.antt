@@ -3,7 +3,7 @@ use mathlib.Core.Path.{_∙_, _≡_, ap, refl, subst, sym}
 use mathlib.Core.Bool.{true}
 use mathlib.Core.Option.{none, some}
 use mathlib.Core.List.{List}
-use Prim.Native.Nat.{_*_, _+_, _<_, _≤_, min, suc, ℕ}
+use Prim.Native.Nat.{_*_, _+_, _<_, _≤_, suc, ℕ}
 use lib.Dec.{eqb}
 use lib.ListN.{getD, length}
 use native.Mathlib.Numerals.{add-one}
@@ -27,9 +27,9 @@ via-closed : (G : Problem) (H : List Entry) (v i : ℕ) → G .net .cost i ≡ n
 unfolding offerVia
 via-closed G H v i e = rw (e, ⊕-none) (cond-same (eqb (G .net .head i) v) none)
 
--- the sum of a logged time and of a live time, as code takes it
-offer-word : (o t w : ℕ) → o ≡ min noneWord (word (fit (ofWord t ⊕ ofWord w))) → t + w < unasked → o ≡ t + w
-offer-word o t w e h = e ∙ rw (ofWord-some t (omega arith), ofWord-some w (omega arith), fit-in (t + w) (omega arith)) (omega arith)
+-- the sum of a logged time and of a live time, as code forms it
+offer-word : {o : ℕ} (t w : ℕ) → o ≡ word (fit (ofWord t ⊕ ofWord w)) → t + w < unasked → o ≡ t + w
+offer-word t w e h = e ∙ rw (ofWord-some t (omega arith), ofWord-some w (omega arith), fit-in (t + w) h)
 
 -- ---- the ways through the code, for road i
 abbrev pub RelaxesRoad : (r : Read) (i from : ℕ) (l l′ : List ℕ) → Type 0
@@ -52,7 +52,7 @@ module _ {r : Read} {i from : ℕ} where
 
   -- the head, whose estimate is e, takes the offer o
   pub road-open : {w h e o : ℕ} {l l′ : List ℕ} → OpenRoad (r .sizes) (r .roads) (r .live) i w h → e ≡ getD (r .estimates) h 0
-      → o ≡ min noneWord (word (fit (ofWord from ⊕ ofWord w))) → Taken o e i (r .sizes .n) h l l′ → RelaxesRoad r i from l l′
+      → o ≡ word (fit (ofWord from ⊕ ofWord w)) → Taken o e i (r .sizes .n) h l l′ → RelaxesRoad r i from l l′
   road-open {w} {h} {e} {o} road e-is offer taken = record {
     room = taken .room;
     exact = λ G H ok reads reached logged known labels.
@@ -63,7 +63,7 @@ module _ {r : Read} {i from : ℕ} where
         let from-is : timeIn H (G .net .tail i) ≡ some from = ap (timeIn H) tl ∙ logged in
         let gives = some-offerVia (G .net) H h i from w (from + w) hd from-is cost (omega arith) in
         let low = ok .offers reached h i (from + w) la gives in
-        let o-is : o ≡ from + w = offer-word o from w offer (omega (arith, low, ok .words)) in
+        let o-is : o ≡ from + w = offer-word from w offer (omega (arith, low, ok .sums)) in
         let pot-is : e ≡ word (G .pot h) =
         e-is ∙ subst (λ (v : ℕ). getD (r .estimates) v 0 ≡ word (G .pot v)) hd (known i w la tl cost) in
         labels-taken ok reached la hd (gives ∙ ap some (sym o-is)) pot-is (rw (reads .size-is) (road .head-in)) (reads .size-is) taken

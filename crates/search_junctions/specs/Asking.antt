@@ -11,6 +11,7 @@ use Rattle.graph.specs.Search.{Entry, Problem, timeIn}
 use Rattle.graph.specs.Map.{Map, fills}
 use Rattle.model.specs.Layout.{placeSize, roadSize}
 use Rattle.model.specs.Limits.{mostJunctions, mostPairs, mostRoads}
+use Rattle.model.specs.Areas.{recordSize}
 use Rattle.model.specs.Estimate.{Kept}
 use Rattle.model.specs.Good.{AimFacts, Filled}
 use Rattle.network.specs.declared.Sizes.{Sizes}
@@ -45,18 +46,19 @@ pub record Filling (M : Map) (z : ℕ) (A : ℕ → Type 0) (down e₀ e : List 
   pub kept : (v : ℕ) → v < M .vertices → ((a : ℕ) → a < M .vertices → A a → fills M a v ≡ true → ⊥) → getD e v 0 ≡ getD e₀ v 0
 
 -- lengths of what an estimate goes over
-pub record PairsIn (z : Sizes) (order ranks pairs down estimates : List ℕ) : Type 0 where
+pub record PairsIn (z : Sizes) (order ranks pairs times down estimates : List ℕ) : Type 0 where
   pub n-high : z .n ≤ mostJunctions
   pub count-high : z .pairs ≤ mostPairs
   pub order-is : length order ≡ placeSize * z .n
   pub ranks-are : length ranks ≡ z .n
-  pub pairs-are : 4 * z .pairs ≤ length pairs
+  pub pairs-are : recordSize * z .pairs ≤ length pairs
+  pub times-are : recordSize * z .pairs ≤ length times
   pub down-is : length down ≡ z .n
   pub estimates-are : length estimates ≡ z .n
 
 -- these, and lengths of the roads and their times in force
 pub record EstimatesIn (g : Given) (e : List ℕ) : Type 0 where
-  pub over : PairsIn (g .sizes) (g .order) (g .ranks) (g .pairs) (g .down) e
+  pub over : PairsIn (g .sizes) (g .order) (g .ranks) (g .pairs) (g .times) (g .down) e
   pub m-high : g .sizes .m ≤ mostRoads
   pub roads-are : length (g .roads) ≡ roadSize * g .sizes .m
   pub live-is : length (g .live) ≡ g .sizes .m

@@ -69,7 +69,6 @@ module _ {g : Given} {s z : ℕ} (r : Ready g s z) where
         ok = record {
           well-formed = wf;
           most = mostTotal + mostTime;
-          words = omega arith;
           sums = omega arith;
           starts = λ v t l h. omega (arith, startAt-some s v t h .1);
           pots = λ v p l e. omega (arith, totals-fit (f .vertices-high) (estimateOf-bound (f .valid) z lz (f .most) v l e));

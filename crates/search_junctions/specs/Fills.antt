@@ -87,14 +87,15 @@ pub filling-none : {M : Map} {z : ℕ} {down e : List ℕ} → AimFacts M z down
 filling-none aims size = record { aims = aims; size = size; right = λ a la x. absurd x; kept = λ v lv no-one. refl }
 
 -- lengths where the estimates are as long as before
-pub pairs-kept : {z : Sizes} {order ranks pairs down e e′ : List ℕ} → PairsIn z order ranks pairs down e → length e′ ≡ length e
-    → PairsIn z order ranks pairs down e′
+pub pairs-kept : {z : Sizes} {order ranks pairs times down e e′ : List ℕ} → PairsIn z order ranks pairs times down e
+    → length e′ ≡ length e → PairsIn z order ranks pairs times down e′
 pairs-kept x q = record {
   n-high = x .n-high;
   count-high = x .count-high;
   order-is = x .order-is;
   ranks-are = x .ranks-are;
   pairs-are = x .pairs-are;
+  times-are = x .times-are;
   down-is = x .down-is;
   estimates-are = q ∙ x .estimates-are;
 }

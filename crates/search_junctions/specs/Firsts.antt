@@ -20,8 +20,8 @@ use Rattle.search_junctions.specs.Facts.{codes}
 use Rattle.search_junctions.specs.Fills.{asked-first, filling-more, filling-none}
 
 -- before the first candidate: lengths, room, and no junction has a time or a key
-pub record Blank (z : Sizes) (order ranks pairs down estimates l : List ℕ) : Type 0 where
-  pub over : PairsIn z order ranks pairs down estimates
+pub record Blank (z : Sizes) (order ranks pairs times down estimates l : List ℕ) : Type 0 where
+  pub over : PairsIn z order ranks pairs times down estimates
   pub room : Room (z .n) l
   pub timeless : (v : ℕ) → v < z .n → labelsIn (z .n) l .times v ≡ noTime
   pub keyless : (v : ℕ) → v < z .n → labelsIn (z .n) l .keys v ≡ noKey
@@ -32,17 +32,17 @@ pub record Begun (roads order live down : List ℕ) (s z n : ℕ) (e e′ l : Li
   pub filling : Filling (mapIn roads order) z (Asked (goIn roads order live s z) s z []) down e e′
 
 -- e are the estimates before, e′ those after
-pub record Begins (n : Sizes) (order ranks pairs down : List ℕ) (s : ℕ) (e e′ l : List ℕ) : Type 0 where
+pub record Begins (n : Sizes) (order ranks pairs times down : List ℕ) (s : ℕ) (e e′ l : List ℕ) : Type 0 where
   -- on any contents: what is filled stays, and there is room
   pub kept : Kept e e′
   pub room : Room (n .n) l
   -- in a state that is ready
-  pub exact : (roads live : List ℕ) (z : ℕ) → Ready (givenOf n roads order ranks pairs live down) s z
+  pub exact : (roads live : List ℕ) (z : ℕ) → Ready (givenOf n roads order ranks pairs times live down) s z
       → AimFacts (mapIn roads order) z down e → Begun roads order live down s z (n .n) e e′ l
 
-pub begins-first : {n : Sizes} {order ranks pairs down : List ℕ} {s v i : ℕ} {e e′ l₀ l : List ℕ} → s < n .n
-    → Blank n order ranks pairs down e l₀ → Estimated order ranks pairs (n .pairs) down e e′ s v → Taken 0 v i (n .n) s l₀ l
-    → Begins n order ranks pairs down s e e′ l
+pub begins-first : {n : Sizes} {order ranks pairs times down : List ℕ} {s v i : ℕ} {e e′ l₀ l : List ℕ} → s < n .n
+    → Blank n order ranks pairs times down e l₀ → Estimated order ranks pairs times (n .pairs) down e e′ s v → Taken 0 v i (n .n) s l₀ l
+    → Begins n order ranks pairs times down s e e′ l
 begins-first {n} {s = s} ls blank est taken = record {
   kept = est .kept;
   room = taken .room;

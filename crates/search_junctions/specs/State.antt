@@ -9,6 +9,7 @@ use Rattle.model.specs.Layout.{placeSize, roadSize}
 use Rattle.graph.specs.Search.{Problem}
 use Rattle.graph.specs.Map.{Map}
 use Rattle.model.specs.Limits.{mostJunctions, mostPairs, mostRoads}
+use Rattle.model.specs.Areas.{recordSize}
 use Rattle.model.specs.Set.{settable}
 use Rattle.model.specs.Go.{liveOf, searchOf}
 use Rattle.network.specs.Lending.{Slice}
@@ -23,21 +24,23 @@ pub record Given : Type 0 where
   pub roads : List ℕ
   pub order : List ℕ
   pub ranks : List ℕ
+  -- of the pairs, their ranks and their times
   pub pairs : List ℕ
+  pub times : List ℕ
   -- the times that it goes by
   pub live : List ℕ
   pub down : List ℕ
 
-abbrev pub givenOf : Sizes → (roads order ranks pairs live down : List ℕ) → Given
-givenOf n a b c d e f = record { sizes = n; roads = a; order = b; ranks = c; pairs = d; live = e; down = f }
+abbrev pub givenOf : Sizes → (roads order ranks pairs times live down : List ℕ) → Given
+givenOf n a b c d t e f = record { sizes = n; roads = a; order = b; ranks = c; pairs = d; times = t; live = e; down = f }
 
 -- the same of what is lent to a function, at the times that the trip goes by
-abbrev pub given : Trip → (roads order ranks pairs access live down : RefT (List ℕ)) → Given
-given t a b c d e f g = givenOf (t .sizes) (a .now) (b .now) (c .now) (d .now) (met t (e .now) (f .now)) (g .now)
+abbrev pub given : Trip → (roads order ranks pairs times access live down : RefT (List ℕ)) → Given
+given t a b c d p x e f = givenOf (t .sizes) (a .now) (b .now) (c .now) (d .now) (p .now) (met t (x .now) (e .now)) (f .now)
 
 -- the same of what it was lent, as its `ensures` names it
-abbrev pub givenTo : Trip → (roads order ranks pairs access live down : Slice) → Given
-givenTo t a b c d x e f = given t (a .entry) (b .entry) (c .entry) (d .entry) (x .entry) (e .entry) (f .entry)
+abbrev pub givenTo : Trip → (roads order ranks pairs times access live down : Slice) → Given
+givenTo t a b c d p x e f = given t (a .entry) (b .entry) (c .entry) (d .entry) (p .entry) (x .entry) (e .entry) (f .entry)
 
 -- the map that the bodies hold, and document 01's search on it
 abbrev pub mapGiven : Given → Map
@@ -52,14 +55,15 @@ goGiven g s z = goIn (g .roads) (g .order) (g .live) s z
 -- ---- lengths
 
 -- lengths of what is lent: n junctions, m roads, count pairs
-pub record Sized (n m count : ℕ) (roads order ranks pairs live down estimates elapsed : ℕ) : Type 0 where
+pub record Sized (n m count : ℕ) (roads order ranks pairs times live down estimates elapsed : ℕ) : Type 0 where
   pub n-high : n ≤ mostJunctions
   pub m-high : m ≤ mostRoads
   pub count-high : count ≤ mostPairs
   pub roads-are : roads ≡ roadSize * m
   pub order-is : order ≡ placeSize * n
   pub ranks-are : ranks ≡ n
-  pub pairs-are : 4 * count ≤ pairs
+  pub pairs-are : recordSize * count ≤ pairs
+  pub times-are : recordSize * count ≤ times
   pub live-is : live ≡ m
   pub down-is : down ≡ n
   pub estimates-are : estimates ≡ n
@@ -67,13 +71,13 @@ pub record Sized (n m count : ℕ) (roads order ranks pairs live down estimates 
 
 abbrev pub SizedIn : Given → (estimates elapsed : ℕ) → Type 0
 SizedIn g = Sized (g .sizes .n) (g .sizes .m) (g .sizes .pairs) (length (g .roads)) (length (g .order)) (length (g .ranks))
-    (length (g .pairs)) (length (g .live)) (length (g .down))
+    (length (g .pairs)) (length (g .times)) (length (g .live)) (length (g .down))
 
 -- ---- what the search relies on
 
 -- Preparing left ranks and pairs, each live time is one that set allows, start and target are junctions.
 pub record Ready (g : Given) (s z : ℕ) : Type 0 where
-  pub prepared : Prepared (g .roads) (g .order) (g .ranks) (g .pairs) (g .sizes .pairs)
+  pub prepared : Prepared (g .roads) (g .order) (g .ranks) (g .pairs) (g .times) (g .sizes .pairs)
   pub times : (i : ℕ) → i < mapGiven g .base .arcs → settable (mapGiven g .base .cost i) (liveOf (g .live) i) ≡ true
   pub n-is : mapGiven g .vertices ≡ g .sizes .n
   pub m-is : mapGiven g .base .arcs ≡ g .sizes .m

@@ -10,7 +10,7 @@ ghost use Rattle.pairs_hierarchy.specs.Estimates.{Estimated};
 ghost use Rattle.search_labels.specs.Labelling.{Room, Taken, labelsIn};
 ghost use Rattle.search_junctions.specs.Groups.{partOf};
 ghost use Rattle.search_junctions.specs.Views.{met, seen};
-ghost use Rattle.search_junctions.specs.State.{given};
+ghost use Rattle.search_junctions.specs.State.{given, givenTo};
 ghost use Rattle.search_junctions.specs.Asking.{Asks, AsksGroup, EstimatesIn, PairsIn};
 ghost use Rattle.search_junctions.specs.Relaxing.{ReadIn, Relaxes, RelaxesGroup, readOf};
 ghost use Rattle.search_junctions.specs.Ways.{stepBack};
@@ -99,15 +99,15 @@ fn ask_head(
     order: &[u8],
     ranks: &[u32],
     pairs: &[u32],
+    times: &[TimeWord],
     access: &[u8],
     live: &[TimeWord],
     down: &[TimeWord],
     estimates: &mut [TimeWord],
     i: u32,
 )
-    requires { ⌜ (i < trip .sizes .m) × EstimatesIn (given trip roads order ranks pairs access live down) (now estimates) ⌝ }
-    ensures { λ _. ⌜ Asks
-        (given trip (roads .entry) (order .entry) (ranks .entry) (pairs .entry) (access .entry) (live .entry) (down .entry))
+    requires { ⌜ (i < trip .sizes .m) × EstimatesIn (given trip roads order ranks pairs times access live down) (now estimates) ⌝ }
+    ensures { λ _. ⌜ Asks (givenTo trip roads order ranks pairs times access live down)
         (wordAt (now (roads .entry)) (roadSize * i)) i (i + 1) (now (estimates .entry)) (now (estimates .exit)) ⌝ }
 {
     let sizes = trip.sizes;
@@ -123,7 +123,7 @@ fn ask_head(
     if !known.is_unasked() {
         return;
     }
-    estimate(sizes, order, ranks, pairs, down, estimates, head);
+    estimate(sizes, order, ranks, pairs, times, down, estimates, head);
 }
 
 // Relaxes road i, whose tail has the time `from`: if it is open, it offers its head a time.
@@ -152,7 +152,7 @@ fn relax_road(
         return;
     }
     let to_go = Time::of_word(estimates[head.0 as usize]);
-    let offer = Time::NONE.or_sum(from, cost);
+    let offer = from.plus(cost);
     take(room, sizes.n, head.0, offer, to_go, i);
 }
 
@@ -165,15 +165,25 @@ impl Trip {
         order: &[u8],
         ranks: &[u32],
         pairs: &[u32],
+        times: &[TimeWord],
         down: &[TimeWord],
         estimates: &mut [TimeWord],
     ) -> Time
         requires { ⌜ (self .start .0 < self .sizes .n)
-            × PairsIn (self .sizes) (now order) (now ranks) (now pairs) (now down) (now estimates) ⌝ }
-        ensures { λ r. ⌜ Estimated (now (order .entry)) (now (ranks .entry)) (now (pairs .entry)) (self .sizes .pairs) (now (down .entry))
-            (now (estimates .entry)) (now (estimates .exit)) (self .start .0) (r .0) ⌝ }
+            × PairsIn (self .sizes) (now order) (now ranks) (now pairs) (now times) (now down) (now estimates) ⌝ }
+        ensures { λ r. ⌜ Estimated (now (order .entry)) (now (ranks .entry)) (now (pairs .entry)) (now (times .entry)) (self .sizes .pairs)
+            (now (down .entry)) (now (estimates .entry)) (now (estimates .exit)) (self .start .0) (r .0) ⌝ }
     {
-        estimate(self.sizes, order, ranks, pairs, down, estimates, self.start)
+        estimate(
+            self.sizes,
+            order,
+            ranks,
+            pairs,
+            times,
+            down,
+            estimates,
+            self.start,
+        )
     }
 
     // Offers the start, whose estimate is `estimated`, time 0.
@@ -194,15 +204,15 @@ impl Trip {
         order: &[u8],
         ranks: &[u32],
         pairs: &[u32],
+        times: &[TimeWord],
         access: &[u8],
         live: &[TimeWord],
         down: &[TimeWord],
         estimates: &mut [TimeWord],
         group: &[u32],
     )
-        requires { ⌜ EstimatesIn (given self roads order ranks pairs access live down) (now estimates) ⌝ }
-        ensures { λ _. ⌜ AsksGroup
-            (given self (roads .entry) (order .entry) (ranks .entry) (pairs .entry) (access .entry) (live .entry) (down .entry))
+        requires { ⌜ EstimatesIn (given self roads order ranks pairs times access live down) (now estimates) ⌝ }
+        ensures { λ _. ⌜ AsksGroup (givenTo self roads order ranks pairs times access live down)
             (now (group .entry)) (now (estimates .entry)) (now (estimates .exit)) ⌝ }
     {
         let m = self.sizes.m;
@@ -217,6 +227,7 @@ impl Trip {
                     order,
                     ranks,
                     pairs,
+                    times,
                     access,
                     live,
                     down,

@@ -1,30 +1,61 @@
 -- A label in its two words, and a label that an offer takes over. Assumes nothing.
-use mathlib.Core.Path.{_∙_, _≡_, ap, refl, subst, sym}
+use mathlib.Core.Path.{_∙_, _≡_, ap, refl, sym}
 use mathlib.Core.List.{List}
-use Prim.Native.Nat.{_%_, _*_, _+_, _/_, _<_, _≤_, ℕ}
+use Prim.Native.Nat.{_*_, _+_, _/_, _<_, _≤_, ℕ}
 use lib.ListN.{getD, length, length-set, set}
 use lib.Seq.{getD-set-other, getD-set-same}
-use native.Mathlib.Decide.{ℕ-discrete}
+use native.Mathlib.Decide.{decLt, ℕ-discrete}
 use native.Mathlib.Omega.{arith}
-use Rattle.model.specs.Word.{noneWord}
+use Rattle.graph.specs.Total.{_⊕_, ⊕-none}
+use Rattle.model.specs.Word.{Reads, noneWord, nothing, number, ofWord, ofWord-none, ofWord-some, reads, word}
+use Rattle.network.specs.Width.{fit, fit-in, fits, fits-in, fits-out}
+use Rattle.network.specs.Width as width
 use Rattle.search_queue.specs.Order.{byKey, keyIn, keyUnit, mostNodes, settledKey, tieIn}
 use Rattle.search_queue.specs.Tree.{Changed, Put, wordOf}
 use Rattle.search_queue.specs.Laws.{tournament-kept, word-key, word-number}
 use Rattle.search_labels.specs.Labelling.{Fits, Improved, Room, SameLabel, Taken, behind, earlier, labelsIn, later, lost}
 use Rattle.search_labels.specs.Labelling.{settled, tied}
 
--- the time y is the offer, and the key x the sum of the offer and the estimate
-pub takes-over : {w e i t q j x y : ℕ} → y ≡ w → x ≡ w + e → (e ≡ noneWord → ⊥) → (q ≡ settledKey → ⊥) → y < t → Improved w e i t q j y x i
-takes-over ey ex a b l = rw (ey, ex) (earlier a b (rw ey at l))
+-- ---- the key x, as code adds up the offer w and the estimate e: their sum, or both are above all keys
+module _ (w e : ℕ) {x : ℕ} (x-is : x ≡ word (fit (ofWord w ⊕ ofWord e))) where
+  -- it is a candidate's: neither is none, and their sum is below the marks of times
+  key-is : w ≤ noneWord → e ≤ noneWord → x < settledKey → x ≡ w + e
+  key-is w-low e-low l = go (reads w w-low) (reads e e-low) (fits (w + e))
+    where
+      go : Reads w → Reads e → width.Fits (w + e) → x ≡ w + e
+      go (nothing z) r f = absurd (omega (arith, rw (z, ofWord-none) at x-is))
+      go (number a) (nothing z) f = absurd (omega (arith, rw (z, ofWord-none, ⊕-none) at x-is))
+      go (number a) (number b) (fits-in h q) = rw (ofWord-some w a, ofWord-some e b, q) at x-is
+      go (number a) (number b) (fits-out h q) = absurd (omega (arith, rw (ofWord-some w a, ofWord-some e b, q) at x-is))
+
+  -- it is no candidate's
+  key-high : settledKey ≤ x → settledKey ≤ w + e
+  key-high l = go (decLt (w + e) settledKey)
+    where
+      go : Dec (w + e < settledKey) → settledKey ≤ w + e
+      go (yes h) =
+          let q : x ≡ w + e = x-is ∙ rw (ofWord-some w (omega arith), ofWord-some e (omega arith), fit-in (w + e) (omega arith)) in
+          omega arith
+      go (no h) = omega arith
+
+  -- the time y is the offer, a smaller one than t
+  module _ {i t q j y : ℕ} (y-is : y ≡ w) (waits : q ≡ settledKey → ⊥) (smaller : y < t) where
+    pub takes-over : w ≤ noneWord → e ≤ noneWord → x < settledKey → Improved w e i t q j y x i
+    takes-over w-low e-low l =
+        let sum = key-is w-low e-low l in
+        rw (y-is, sum) (earlier waits (omega arith) (omega arith))
+
+    pub stays-lost : settledKey ≤ x → Improved w e i t q j t q j
+    stays-lost l = lost waits (omega arith) (key-high l)
 
 -- where the time stays, so does the key
 key-stays : {w e i a b c t q j : ℕ} → Improved w e i a b c t q j → t ≡ a → q ≡ b
-key-stays (lost z) same = refl
 key-stays (settled z) same = refl
-key-stays (earlier x y l) same = absurd (omega arith)
-key-stays (later x y l) same = refl
-key-stays (tied x y l m) same = refl
-key-stays (behind x y l m) same = refl
+key-stays (earlier y l k) same = absurd (omega arith)
+key-stays (lost y l z) same = refl
+key-stays (later y l) same = refl
+key-stays (tied y l m) same = refl
+key-stays (behind y l m) same = refl
 
 -- ---- the word of a label is written
 module _ {n v : ℕ} (lv : v < n) (room : List ℕ) (r : Room n room) (x : ℕ) where

@@ -9,11 +9,11 @@ use native.Mathlib.Omega.{arith}
 use Rattle.graph.specs.Total.{cond-same, none-some, some-some}
 use Rattle.graph.specs.Least.{least-number}
 use Rattle.graph.specs.Search.{Problem, offerVia, timeIn}
-use Rattle.model.specs.Word.{noneWord, unasked, word, word-none, word-some}
+use Rattle.model.specs.Word.{word}
 use Rattle.search_queue.specs.Order.{noKey, settledKey}
 use Rattle.search_labels.specs.Labelling.{Improved, Taken, behind, earlier, labelsIn, later, lost, noTime, settled, tied}
 use Rattle.search_labels.specs.Labelled.{Gives, Labelled, Labels, Offers, Searchable, label-candidate, label-hopeless, label-unseen}
-use Rattle.search_labels.specs.Relax.{labels-set}
+use Rattle.search_labels.specs.Relax.{labels-set, pot-none, pot-some}
 
 no-arc : {G : Problem} {c k v i t : ℕ} → Gives G [] c k v i t → ⊥
 unfolding offerVia timeIn
@@ -29,23 +29,21 @@ label-bare {G} {c} {k} {v} s a b = label-unseen refl never a b
     never x (inr g) = no-arc (g .1)
 
 -- a start of time w, which is taken as if arc i offered it
-pub label-started : {G : Problem} {c k v w e i j t′ q′ j′ : ℕ} → G .start v ≡ some w → e ≡ word (G .pot v) → w < unasked
-    → ((p : ℕ) → G .pot v ≡ some p → (p < noneWord) × (w + p < settledKey)) → Improved w e i noTime noKey j t′ q′ j′
-    → Labelled G [] c k v t′ q′ j′
+pub label-started : {G : Problem} {c k v w e i j t′ q′ j′ : ℕ} → G .start v ≡ some w → e ≡ word (G .pot v) → w < settledKey
+    → ((p : ℕ) → G .pot v ≡ some p → w + p < settledKey) → Improved w e i noTime noKey j t′ q′ j′ → Labelled G [] c k v t′ q′ j′
 unfolding timeIn
-label-started {G} {v} {e} s e-is low fits (lost z) =
-    label-hopeless refl (word-none e (G .pot v) e-is (λ p q. fits p q .0) z) refl refl
 label-started s e-is low fits (settled z) = absurd (omega arith)
-label-started {G} {c} {k} {v} {w} {e} s e-is low fits (earlier a b l) =
-    let r = word-some e (G .pot v) e-is a in
-    rw (r .2) (label-candidate refl (r .1) (least-number (inl s) least) low (fits (r .0) (r .1) .1) (inl s) refl)
+label-started {G} {c} {k} {v} {w} {e} s e-is low fits (earlier b l keyed) =
+    let r = pot-some w (G .pot v) e-is keyed in
+    rw (r .2) (label-candidate refl (r .1) (least-number (inl s) least) (fits (r .0) (r .1)) (inl s) refl)
   where
     least : (x : ℕ) → Offers G [] c k v x → w ≤ x
     least x (inl q) = omega (arith, some-some s q)
     least x (inr g) = absurd (no-arc (g .1))
-label-started s e-is low fits (later a b l) = absurd (omega arith)
-label-started s e-is low fits (tied a b l m) = absurd (omega arith)
-label-started s e-is low fits (behind a b l m) = absurd (omega arith)
+label-started {G} {v} {w} s e-is low fits (lost b l z) = label-hopeless refl (pot-none w (G .pot v) e-is fits z) refl refl
+label-started s e-is low fits (later b l) = absurd (omega arith)
+label-started s e-is low fits (tied b l m) = absurd (omega arith)
+label-started s e-is low fits (behind b l m) = absurd (omega arith)
 
 -- one start s, taken into a room that is blank
 pub labels-started : {G : Problem} (ok : Searchable G) {c k s w e i n : ℕ} {l₀ l : List ℕ} → G .start s ≡ some w
@@ -54,11 +52,11 @@ pub labels-started : {G : Problem} (ok : Searchable G) {c k s w e i n : ℕ} {l�
     → Taken w e i n s l₀ l → Labels G [] c k (labelsIn n l)
 labels-started {G} ok {c} {k} {s} {w} {l₀} here elsewhere blank keyless e-is ls size-is taken =
     labels-set size-is taken
-    (label-started here e-is (omega (arith, low, ok .words)) fits (rw (blank s ls, keyless s ls) at (taken .improves)))
+    (label-started here e-is (omega (arith, low, ok .sums)) fits (rw (blank s ls, keyless s ls) at (taken .improves)))
     (λ u lu ne. label-bare (elsewhere u ne) (blank u lu) (keyless u lu))
   where
     low : w ≤ ok .most
     low = ok .starts s w ls here
 
-    fits : (p : ℕ) → G .pot s ≡ some p → (p < noneWord) × (w + p < settledKey)
-    fits p q = let b = ok .pots s p ls q in (omega (arith, ok .words), omega (arith, low, ok .sums))
+    fits : (p : ℕ) → G .pot s ≡ some p → w + p < settledKey
+    fits p q = let b = ok .pots s p ls q in omega (arith, low, ok .sums)

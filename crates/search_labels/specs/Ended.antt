@@ -38,7 +38,7 @@ way-at {G} {H} {c} {k} l labels v t lv e = go (labels v lv)
     go (label-logged h s w) = w
     go (label-hopeless h p a b) = absurd (none-some h e)
     go (label-unseen h bare a b) = absurd (none-some h e)
-    go (label-candidate h pot least low keyed first key) = absurd (none-some h e)
+    go (label-candidate h pot least keyed first key) = absurd (none-some h e)
 
 -- the arcs that gave the times, from any logged vertex, are the route back of the definition
 module _ {G : Problem} {H : List Entry} (wf : WellFormed G) {via before : ℕ → ℕ} {begins : ℕ → Bool}

@@ -10,16 +10,14 @@ use Rattle.graph.specs.Least.{IsLeast}
 use Rattle.graph.specs.Search.{Entry, Problem, back, is, offerVia, timeIn}
 use Rattle.graph.specs.Walk.{WellFormed}
 use Rattle.graph.specs.History.{Reached}
-use Rattle.model.specs.Word.{unasked}
 use Rattle.search_queue.specs.Order.{noKey, settledKey}
 use Rattle.search_labels.specs.Labelling.{Labelling, noTime}
 
 -- What a program asks of a problem whose times and keys it keeps in words: no time that is offered, and no potential, is above some `most`,
--- which is below the marks of times, and twice of which is below the marks of keys.
+-- twice of which is below the marks of keys, and so of times.
 pub record Searchable (G : Problem) : Type 0 where
   pub well-formed : WellFormed G
   pub most : ℕ
-  pub words : most < unasked
   pub sums : most + most < settledKey
   pub starts : (v t : ℕ) → v < G .size → G .start v ≡ some t → t ≤ most
   pub pots : (v p : ℕ) → v < G .size → G .pot v ≡ some p → p ≤ most
@@ -51,7 +49,7 @@ pub data Labelled (G : Problem) (H : List Entry) (c k v : ℕ) : (time key via :
   label-unseen : {t q i : ℕ} → timeIn H v ≡ none → ((s : ℕ) → Offers G H c k v s → ⊥) → t ≡ noTime → q ≡ noKey → Labelled G H c k v t q i
   -- a candidate: the least time offered, and the smallest-numbered arc that gives it
   label-candidate :
-      {t q i p : ℕ} → timeIn H v ≡ none → G .pot v ≡ some p → IsLeast (Offers G H c k v) (some t) → t < unasked → q < settledKey
+      {t q i p : ℕ} → timeIn H v ≡ none → G .pot v ≡ some p → IsLeast (Offers G H c k v) (some t) → q < settledKey
       → (G .start v ≡ some t) ⊎ IsLeast (λ j. Gives G H c k v j t) (some i) → q ≡ t + p → Labelled G H c k v t q i
 
 -- every vertex's label

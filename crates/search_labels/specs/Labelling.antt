@@ -4,7 +4,6 @@ use mathlib.Core.Path.{_≡_}
 use mathlib.Core.List.{List}
 use Prim.Native.Nat.{_%_, _*_, _+_, _<_, _≤_, ℕ}
 use lib.ListN.{getD, length}
-use Rattle.model.specs.Word.{noneWord}
 use Rattle.search_queue.specs.Order.{Order, byKey, keyIn, mostNodes, mostUpper, noKey, settledKey, tieIn}
 use Rattle.search_queue.specs.Tree.{Tournament}
 
@@ -36,15 +35,16 @@ pub record Room (n : ℕ) (room : List ℕ) : Type 0 where
   pub words : 3 * n ≤ length room
   pub right : Tournament (orderOf n room) n room
 
--- Arc i offers the time w to a node of estimate e, whose label is (t, q, j). Without an estimate, or once logged, it stays. A smaller time
--- takes the label over; of the arcs that give one time the smallest number stays.
+-- Arc i offers the time w to a node of estimate e, whose label is (t, q, j). Once logged, it stays. A smaller time takes the label over,
+-- unless its sum with the estimate is no candidate's key, as where the estimate is none; of the arcs that give one time the smallest number
+-- stays.
 pub data Improved (w e i t q j : ℕ) : (time key via : ℕ) → Type 0 where
-  lost : e ≡ noneWord → Improved w e i t q j t q j
   settled : q ≡ settledKey → Improved w e i t q j t q j
-  earlier : (e ≡ noneWord → ⊥) → (q ≡ settledKey → ⊥) → w < t → Improved w e i t q j w (w + e) i
-  later : (e ≡ noneWord → ⊥) → (q ≡ settledKey → ⊥) → t < w → Improved w e i t q j t q j
-  tied : (e ≡ noneWord → ⊥) → (q ≡ settledKey → ⊥) → w ≡ t → i < j → Improved w e i t q j t q i
-  behind : (e ≡ noneWord → ⊥) → (q ≡ settledKey → ⊥) → w ≡ t → j ≤ i → Improved w e i t q j t q j
+  earlier : (q ≡ settledKey → ⊥) → w < t → w + e < settledKey → Improved w e i t q j w (w + e) i
+  lost : (q ≡ settledKey → ⊥) → w < t → settledKey ≤ w + e → Improved w e i t q j t q j
+  later : (q ≡ settledKey → ⊥) → t < w → Improved w e i t q j t q j
+  tied : (q ≡ settledKey → ⊥) → w ≡ t → i < j → Improved w e i t q j t q i
+  behind : (q ≡ settledKey → ⊥) → w ≡ t → j ≤ i → Improved w e i t q j t q j
 
 -- a label's two words: its time and its arc, its key and a number
 pub record Fits (time key via : ℕ) : Type 0 where

@@ -16,7 +16,6 @@ use Rattle.graph.specs.Search.{Entry, Problem, firstVia, is, offerVia, offered,
 use Rattle.graph.specs.Walk.{Offer, byArc, byStart, offerVia-some, offered-least, some-offerVia, timeIn-here, timeIn-there}
 use Rattle.graph.specs.Choice.{Candidate}
 use Rattle.graph.specs.Back.{back-start, back-there, back-via, firstVia-least, is-true, true-is}
-use Rattle.model.specs.Word.{unasked}
 use Rattle.search_queue.specs.Order.{mostNodes, settledKey}
 use Rattle.search_queue.specs.Tree.{Put}
 use Rattle.search_queue.specs.Sums.{SumsKept}
@@ -24,13 +23,6 @@ use Rattle.search_labels.specs.Labelling.{Labelling, labelsIn}
 use Rattle.search_labels.specs.Labelled.{Gives, Labelled, Labels, Offers, Way, label-candidate}
 use Rattle.search_labels.specs.Labelled.{label-hopeless, label-logged, label-unseen, way-begins, way-through}
 use Rattle.search_labels.specs.Relax.{label-same}
-
--- the time of a candidate fits in a word
-pub label-low : {G : Problem} {H : List Entry} {c k v t q i : ℕ} → q < settledKey → Labelled G H c k v t q i → t < unasked
-label-low l (label-logged h s w) = absurd (omega arith)
-label-low l (label-hopeless h p a b) = absurd (omega arith)
-label-low l (label-unseen h bare a b) = absurd (omega arith)
-label-low l (label-candidate h pot least low keyed first key) = low
 
 -- ---- where all arcs are relaxed, the offers are the definition's
 module _ {G : Problem} {H : List Entry} {c k : ℕ} (full : G .net .arcs ≤ k) where
@@ -64,7 +56,7 @@ module _ {G : Problem} {H : List Entry} {c k : ℕ} (full : G .net .arcs ≤ k) 
   candidate-label m (label-hopeless h p a b) = absurd (none-some p (m .pot-is))
   candidate-label {d} m (label-unseen h bare a b) =
       absurd (bare (d .time) (offers-of (d .time) (offered-least G H (d .vertex) .attained (d .time) (m .time-is))))
-  candidate-label {d} m (label-candidate {t} {p} h pot least low keyed first key) =
+  candidate-label {d} m (label-candidate {t} {p} h pot least keyed first key) =
       let e : t ≡ d .time = some-some (offered-is least) (m .time-is) in
       let f : p ≡ m .estimate = some-some pot (m .pot-is) in
       (e, omega (arith, key, m .key-is), keyed)
@@ -74,7 +66,7 @@ module _ {G : Problem} {H : List Entry} {c k : ℕ} (full : G .net .arcs ≤ k) 
   label-candidate-of lv l (label-logged h s w) = absurd (omega arith)
   label-candidate-of lv l (label-hopeless h p a b) = absurd (omega arith)
   label-candidate-of lv l (label-unseen h bare a b) = absurd (omega arith)
-  label-candidate-of lv l (label-candidate {p} h pot least low keyed first key) =
+  label-candidate-of lv l (label-candidate {p} h pot least keyed first key) =
       record { below = lv; unlogged = h; estimate = p; pot-is = pot; key-is = key; time-is = offered-is least }
 
   -- ---- choosing: the labels' keys are the candidates' sums
@@ -151,7 +143,7 @@ module _ {G : Problem} {H : List Entry} {c k : ℕ} (full : G .net .arcs ≤ k) 
   label-log z l (label-logged h s w) = absurd (omega arith)
   label-log z l (label-hopeless h p a b) = absurd (omega arith)
   label-log z l (label-unseen h bare a b) = absurd (omega arith)
-  label-log z l (label-candidate h pot least low keyed first key) =
+  label-log z l (label-candidate h pot least keyed first key) =
       rw z (label-logged (timeIn-here e H (e .vertex) refl) refl (way-new (rw z at first)))
 
   -- the vertex of the entry is settled, the other labels stay

@@ -7,16 +7,28 @@ use Prim.Native.Nat.{_+_, _<_, _≤_, ℕ}
 use borrow.Author.Tests.{ne-eqb}
 use native.Mathlib.Decide.{decLt, ℕ-discrete}
 use native.Mathlib.Omega.{arith}
-use Rattle.graph.specs.Total.{none-some, some-some}
+use Rattle.graph.specs.Total.{Total, none-some, some-some}
 use Rattle.graph.specs.Least.{IsLeast, least-map, least-number}
 use Rattle.graph.specs.Walk.{offerVia-some}
 use Rattle.graph.specs.Search.{Entry, Problem, offerVia, timeIn}
 use Rattle.graph.specs.History.{Reached}
-use Rattle.model.specs.Word.{noneWord, unasked, word, word-none, word-some}
+use Rattle.model.specs.Word.{word, word-some}
 use Rattle.search_queue.specs.Order.{settledKey}
 use Rattle.search_labels.specs.Labelling.{Improved, Labelling, Taken, behind, earlier, labelsIn, later, lost, settled, tied}
 use Rattle.search_labels.specs.Labelled.{Gives, Labelled, Labels, Offers, Searchable, Way, label-candidate}
 use Rattle.search_labels.specs.Labelled.{label-hopeless, label-logged, label-unseen}
+
+-- ---- an offered time w, and the potential x that the word e stands for: where their sum is a key x is a number, else none
+module _ (w : ℕ) {e : ℕ} (x : Total) (e-is : e ≡ word x) where
+  pub pot-some : w + e < settledKey → (p : ℕ) × (x ≡ some p) × (e ≡ p)
+  pot-some l = word-some e x e-is (λ z. absurd (omega arith))
+
+  pub pot-none : ((p : ℕ) → x ≡ some p → w + p < settledKey) → settledKey ≤ w + e → x ≡ none
+  pot-none fits l = go x e-is fits
+    where
+      go : (y : Total) → e ≡ word y → ((p : ℕ) → y ≡ some p → w + p < settledKey) → y ≡ none
+      go none z f = refl
+      go (some p) z f = absurd (omega (arith, f p refl))
 
 -- ---- the same label for another history, where v is logged alike and the same arcs give it the same times
 module _ {G : Problem} {H L : List Entry} {c k d l v : ℕ}
@@ -35,8 +47,8 @@ module _ {G : Problem} {H L : List Entry} {c k d l v : ℕ}
   label-same e (label-logged h s w) = label-logged (sym e ∙ h) s (ways _ w)
   label-same e (label-hopeless h p a b) = label-hopeless (sym e ∙ h) p a b
   label-same e (label-unseen h bare a b) = label-unseen (sym e ∙ h) (λ s o. bare s (offers-back s o)) a b
-  label-same e (label-candidate {t} {i} h p least low keyed first b) =
-      label-candidate (sym e ∙ h) p (least-map offers-into offers-back least) low keyed (origin first) b
+  label-same e (label-candidate {t} {i} h p least keyed first b) =
+      label-candidate (sym e ∙ h) p (least-map offers-into offers-back least) keyed (origin first) b
     where
       origin : (G .start v ≡ some t) ⊎ IsLeast (λ j. Gives G H c k v j t) (some i) → (G .start v ≡ some t)
           ⊎ IsLeast (λ j. Gives G L d l v j t) (some i)
@@ -81,7 +93,7 @@ module _ {G : Problem} {H : List Entry} {c i : ℕ} (li : i < G .net .arcs) wher
   labels-passed e l h v lv = label-passed (e v) (h v lv)
 
   -- it gives v the time w
-  module _ {v w : ℕ} (gives : offerVia (G .net) H v i ≡ some w) (low : w < unasked) where
+  module _ {v w : ℕ} (gives : offerVia (G .net) H v i ≡ some w) (low : w < settledKey) where
     gives-new : Gives G H c (i + 1) v i w
     gives-new = record { below = li; relaxed = λ q. omega arith; offer = gives }
 
@@ -96,7 +108,7 @@ module _ {G : Problem} {H : List Entry} {c i : ℕ} (li : i < G .net .arcs) wher
     over : {p : ℕ} → timeIn H v ≡ none → G .pot v ≡ some p → w + p < settledKey → ((s : ℕ) → Offers G H c i v s → w < s)
         → Labelled G H c (i + 1) v w (w + p) i
     over {p} un pot keyed above =
-        label-candidate un pot (least-number (inr (i, gives-new)) (λ s o. low-of s o)) low keyed
+        label-candidate un pot (least-number (inr (i, gives-new)) (λ s o. low-of s o)) keyed
         (inr (least-number gives-new (λ j g. first-of j (split j w g)))) refl
       where
         low-of : (s : ℕ) → Offers G H c (i + 1) v s → w ≤ s
@@ -112,10 +124,10 @@ module _ {G : Problem} {H : List Entry} {c i : ℕ} (li : i < G .net .arcs) wher
         first-of j (inr e) = omega (arith, e .0)
 
     -- a time of at most w stays; of the arcs that give it, the first
-    under : {t q j p : ℕ} → timeIn H v ≡ none → G .pot v ≡ some p → IsLeast (Offers G H c i v) (some t) → t < unasked → q < settledKey
+    under : {t q j p : ℕ} → timeIn H v ≡ none → G .pot v ≡ some p → IsLeast (Offers G H c i v) (some t) → q < settledKey
         → q ≡ t + p → t ≤ w → (G .start v ≡ some t) ⊎ IsLeast (λ j. Gives G H c (i + 1) v j t) (some j) → Labelled G H c (i + 1) v t q j
-    under {t} {q} {j} {p} un pot least fits keyed key le first =
-        label-candidate un pot (record { attained = λ s e. old s (least .attained s e); bound = λ s o. low-of s o }) fits keyed first key
+    under {t} {q} {j} {p} un pot least keyed key le first =
+        label-candidate un pot (record { attained = λ s e. old s (least .attained s e); bound = λ s o. low-of s o }) keyed first key
       where
         old : (s : ℕ) → Offers G H c i v s → Offers G H c (i + 1) v s
         old s (inl e) = inl e
@@ -150,41 +162,40 @@ module _ {G : Problem} {H : List Entry} {c i : ℕ} (li : i < G .net .arcs) wher
         at x (inr d) = omega (arith, d .0)
 
     -- the label after the arc, as code improves it
-    module _ {e : ℕ} (e-is : e ≡ word (G .pot v)) (fits : (p : ℕ) → G .pot v ≡ some p → (p < noneWord) × (w + p < settledKey)) where
+    module _ {e : ℕ} (e-is : e ≡ word (G .pot v)) (fits : (p : ℕ) → G .pot v ≡ some p → w + p < settledKey) where
       pub label-improved : {t q j t′ q′ j′ : ℕ} → Improved w e i t q j t′ q′ j′ → Labelled G H c i v t q j
           → Labelled G H c (i + 1) v t′ q′ j′
-      label-improved (lost z) (label-logged h s y) = label-logged h s y
       label-improved (settled z) (label-logged h s y) = label-logged h s y
-      label-improved (earlier a b l) (label-logged h s y) = absurd (b s)
-      label-improved (later a b l) (label-logged h s y) = absurd (b s)
-      label-improved (tied a b l m) (label-logged h s y) = absurd (b s)
-      label-improved (behind a b l m) (label-logged h s y) = absurd (b s)
-      label-improved (lost z) (label-hopeless h p x y) = label-hopeless h p x y
+      label-improved (earlier b l keyed) (label-logged h s y) = absurd (b s)
+      label-improved (lost b l z) (label-logged h s y) = absurd (b s)
+      label-improved (later b l) (label-logged h s y) = absurd (b s)
+      label-improved (tied b l m) (label-logged h s y) = absurd (b s)
+      label-improved (behind b l m) (label-logged h s y) = absurd (b s)
       label-improved (settled z) (label-hopeless h p x y) = label-hopeless h p x y
-      label-improved (earlier a b l) (label-hopeless h p x y) = absurd (a (e-is ∙ ap word p))
-      label-improved (later a b l) (label-hopeless h p x y) = absurd (a (e-is ∙ ap word p))
-      label-improved (tied a b l m) (label-hopeless h p x y) = absurd (a (e-is ∙ ap word p))
-      label-improved (behind a b l m) (label-hopeless h p x y) = absurd (a (e-is ∙ ap word p))
-      label-improved (lost z) (label-unseen h bare x y) = label-hopeless h (word-none e (G .pot v) e-is (λ p q. fits p q .0) z) x y
+      label-improved (earlier b l keyed) (label-hopeless h p x y) = absurd (omega (arith, e-is ∙ ap word p))
+      label-improved (lost b l z) (label-hopeless h p x y) = label-hopeless h p x y
+      label-improved (later b l) (label-hopeless h p x y) = label-hopeless h p x y
+      label-improved (tied b l m) (label-hopeless h p x y) = label-hopeless h p x y
+      label-improved (behind b l m) (label-hopeless h p x y) = label-hopeless h p x y
       label-improved (settled z) (label-unseen h bare x y) = absurd (omega arith)
-      label-improved (earlier a b l) (label-unseen h bare x y) =
-          let r = word-some e (G .pot v) e-is a in
-          rw (r .2) (over h (r .1) (fits (r .0) (r .1) .1) (λ s o. absurd (bare s o)))
-      label-improved (later a b l) (label-unseen h bare x y) = absurd (omega arith)
-      label-improved (tied a b l m) (label-unseen h bare x y) = absurd (omega arith)
-      label-improved (behind a b l m) (label-unseen h bare x y) = absurd (omega arith)
-      label-improved (lost z) (label-candidate h p least low keyed first y) =
-          absurd (none-some (word-none e (G .pot v) e-is (λ p q. fits p q .0) z) p)
-      label-improved (settled z) (label-candidate h p least low keyed first y) = absurd (omega arith)
-      label-improved (earlier a b l) (label-candidate {t} h p least low keyed first y) =
-          let r = word-some e (G .pot v) e-is a in
-          rw (r .2) (over h (r .1) (fits (r .0) (r .1) .1) (λ s o. (let k : t ≤ s = least .bound s o in omega arith)))
-      label-improved (later a b l) (label-candidate h p least low keyed first y) =
-          under h p least low keyed y (omega arith) (origin-stays (λ q. absurd (omega arith)) first)
-      label-improved (tied a b l m) (label-candidate h p least low keyed first y) =
-          under h p least low keyed y (omega arith) (origin-new l m first)
-      label-improved (behind a b l m) (label-candidate h p least low keyed first y) =
-          under h p least low keyed y (omega arith) (origin-stays (λ q. m) first)
+      label-improved (earlier b l keyed) (label-unseen h bare x y) =
+          let r = pot-some w (G .pot v) e-is keyed in
+          rw (r .2) (over h (r .1) (fits (r .0) (r .1)) (λ s o. absurd (bare s o)))
+      label-improved (lost b l z) (label-unseen h bare x y) = label-hopeless h (pot-none w (G .pot v) e-is fits z) x y
+      label-improved (later b l) (label-unseen h bare x y) = absurd (omega arith)
+      label-improved (tied b l m) (label-unseen h bare x y) = absurd (omega arith)
+      label-improved (behind b l m) (label-unseen h bare x y) = absurd (omega arith)
+      label-improved (settled z) (label-candidate h p least keyed first y) = absurd (omega arith)
+      label-improved (earlier b l keyed) (label-candidate {t} h p least k first y) =
+          let r = pot-some w (G .pot v) e-is keyed in
+          rw (r .2) (over h (r .1) (fits (r .0) (r .1)) (λ s o. (let k : t ≤ s = least .bound s o in omega arith)))
+      label-improved (lost b l z) (label-candidate h p least keyed first y) = absurd (none-some (pot-none w (G .pot v) e-is fits z) p)
+      label-improved (later b l) (label-candidate h p least keyed first y) =
+          under h p least keyed y (omega arith) (origin-stays (λ q. absurd (omega arith)) first)
+      label-improved (tied b l m) (label-candidate h p least keyed first y) =
+          under h p least keyed y (omega arith) (origin-new l m first)
+      label-improved (behind b l m) (label-candidate h p least keyed first y) =
+          under h p least keyed y (omega arith) (origin-stays (λ q. m) first)
 
 -- ---- the same in a room
 
@@ -212,11 +223,11 @@ pub labels-taken : {G : Problem} (ok : Searchable G) {H : List Entry} (reached :
     → Taken w e i n v l l′ → Labels G H c i (labelsIn n l) → Labels G H c (i + 1) (labelsIn n l′)
 labels-taken {G} ok {H} reached {c} {i} {v} {w} {l} li hd gives e-is lv size-is taken labels =
     labels-set size-is taken
-    (label-improved li gives (omega (arith, low, ok .words)) e-is fits (taken .improves) (labels v lv))
+    (label-improved li gives (omega (arith, low, ok .sums)) e-is fits (taken .improves) (labels v lv))
     (λ u lu ne. label-passed li (via-other G H u i (λ q. ne (sym q ∙ hd))) (labels u lu))
   where
     low : w ≤ ok .most
     low = ok .offers reached v i w li gives
 
-    fits : (p : ℕ) → G .pot v ≡ some p → (p < noneWord) × (w + p < settledKey)
-    fits p q = let b = ok .pots v p lv q in (omega (arith, ok .words), omega (arith, low, ok .sums))
+    fits : (p : ℕ) → G .pot v ≡ some p → w + p < settledKey
+    fits p q = let b = ok .pots v p lv q in omega (arith, low, ok .sums)

@@ -1,13 +1,10 @@
 // What a search keeps of each node: its time, its key and the arc that gave the time, and how an offer improves them. What a node stands
 // for is not known here. A room of 3 n words holds it for n nodes: first the queue, with the keys, then a word for each node, its time and
 // the arc.
-ghost use mathlib.Core.Option.{some};
 ghost use mathlib.Core.Path.{_≡_};
-ghost use Prim.Native.Nat.{_*_, _+_, _<_, _≤_};
+ghost use Prim.Native.Nat.{_*_, _<_, _≤_};
 ghost use lib.ListN.{length};
-ghost use Rattle.model.specs.Word.{word};
-ghost use Rattle.network.specs.Width.{fit};
-ghost use Rattle.search_queue.specs.Order.{mostNodes, noKey};
+ghost use Rattle.search_queue.specs.Order.{mostNodes};
 ghost use Rattle.search_labels.specs.Labelling.{Fits, Improved, Room, Taken, labelsIn};
 use network::Time;
 use search_queue::SETTLED;
@@ -19,13 +16,13 @@ use search_queue::word_of;
 
 // ---- the words of a node
 
-// The time of v; none where it has none.
+// The time of v, a candidate or a logged node.
 pub fn time_of(room: &[u64], n: u32, v: u32) -> Time
     requires { ⌜ (v < n) × (3 * n ≤ length (now room)) ⌝ }
-    ensures { λ r. ⌜ r .0 ≡ word (fit (some (labelsIn n (now (room .entry)) .times v))) ⌝ }
+    ensures { λ r. ⌜ r .0 ≡ labelsIn n (now (room .entry)) .times v ⌝ }
 {
     let at = 2 * (n as usize) + v as usize;
-    Time::of_total(upper_of(room[at]))
+    Time::of_word(upper_of(room[at]))
 }
 
 // The arc that gave v its time.
@@ -46,34 +43,29 @@ struct Label {
     pub via: u32,
 }
 
-// A candidate's key: its time plus its estimate. The sum may pass 32 bits.
-fn sum_of(time: Time, estimate: Time) -> u64
-    ensures { λ r. ⌜ (r ≡ time .0 + estimate .0) × (r ≤ noKey) ⌝ }
-{
-    time.word() as u64 + estimate.word() as u64
-}
-
-// The label of a node after arc i too has offered it a time; `estimate` is the node's. Its key is added up where its time changes, and
-// nowhere else.
+// The label of a node after arc i too has offered it a time; `estimate` is the node's. Its key, the offer plus the estimate, is added up
+// where its time would change, and nowhere else. Where the sum is no candidate's key, as without an estimate, the label stays. (Keys have
+// 38 bits. Every sum of times that calls have left fits; one of a forged area may not.)
 fn improved(old: Label, offer: Time, estimate: Time, i: u32) -> Label
     requires { ⌜ Fits (old .time) (old .key) (old .via) × (i < mostNodes) ⌝ }
     ensures { λ r. ⌜ Improved (offer .0) (estimate .0) i (old .time) (old .key) (old .via) (r .time) (r .key) (r .via)
         × Fits (r .time) (r .key) (r .via) ⌝ }
 {
-    if estimate.is_none() {
-        return old;
-    }
     if old.key == SETTLED {
         return old;
     }
     let t = old.time;
-    let w = offer.word() as u64;
+    let w = offer.word();
     if w < t {
-        return Label {
-            time: w,
-            key: sum_of(offer, estimate),
-            via: i,
-        };
+        let key = offer.plus(estimate).word();
+        if key < SETTLED {
+            return Label {
+                time: w,
+                key: key,
+                via: i,
+            };
+        }
+        return old;
     }
     if t < w {
         return old;

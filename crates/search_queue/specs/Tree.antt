@@ -14,9 +14,13 @@ use Rattle.search_queue.specs.Order.{Before, Order, SameBut, Waiting, by
 abbrev pub wordOf : (upper lower : ℕ) → ℕ
 wordOf upper lower = upper * mostNodes + lower
 
--- the part of a number that a word of the tree has
+-- so many times share a part: in tenths of a second, the parts reach to 54 minutes, and tell times apart that differ by 0.8 s
+abbrev pub partTimes : ℕ
+partTimes = 8
+
+-- the part of a time that a word of the tree has
 abbrev pub partOf : ℕ → ℕ
-partOf t = min t 4095
+partOf t = min (t / partTimes) 4095
 
 -- the word of a candidate v: its key, a part of its tie, and its number
 abbrev pub placedOf : (key tie v : ℕ) → ℕ

@@ -26,6 +26,9 @@ const NUMBERS: u64 = 16384;
 // In the tree the 50 bits are a key of 38 bits and a part of 12 bits.
 const PARTS: u64 = 4096;
 
+// So many times share a part. Times are tenths of a second: the parts reach to 54 minutes, and tell times apart that differ by 0.8 s.
+const PART_TIMES: u64 = 8;
+
 pub fn word_of(upper: u64, lower: u32) -> u64
     requires { ⌜ (upper ≤ mostUpper) × (lower < mostNodes) ⌝ }
     ensures { λ r. ⌜ r ≡ wordOf upper lower ⌝ }
@@ -118,7 +121,7 @@ fn own_word(room: &[u64], n: u32, v: u32, key: u64) -> u64
     if key < SETTLED {
         let at = 2 * (n as usize) + v as usize;
         let time = upper_of(room[at]);
-        return word_of(key * PARTS + part_of(time), v);
+        return word_of(key * PARTS + part_of(time / PART_TIMES), v);
     }
     word_of(key * PARTS + part_of(v as u64), v)
 }

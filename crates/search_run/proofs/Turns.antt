@@ -20,13 +20,12 @@ use Rattle.model.specs.Bytes.{listed}
 use Rattle.model.specs.State.{first}
 use Rattle.model.specs.Laws.{listed-at, listed-length}
 use Rattle.model.specs.Ends.{first-snoc, listed-is}
-use Rattle.network.specs.Width.{fit, fit-in}
 use Rattle.search_queue.specs.Order.{Waiting, settledKey}
 use Rattle.search_queue.specs.Tree.{Put}
 use Rattle.search_queue.specs.Sums.{Choice, NextAt, SumsKept, entryIn, next-at, no-next}
 use Rattle.search_labels.specs.Labelling.{Room, labelsIn, orderOf}
 use Rattle.search_labels.specs.Labelled.{Labels}
-use Rattle.search_labels.specs.Log.{label-low, labels-log, sums-kept}
+use Rattle.search_labels.specs.Log.{labels-log, sums-kept}
 use Rattle.search_junctions.specs.State.{Given, Ready, goGiven, mapGiven}
 use Rattle.search_junctions.specs.Asking.{Asked, AskedTo, Asks, Filling}
 use Rattle.search_junctions.specs.Firsts.{Begun}
@@ -61,9 +60,9 @@ pub record Stand : Type 0 where
 abbrev pub standOf : (estimates elapsed log room : List ℕ) → (count next : ℕ) → Stand
 standOf e t log l c v = record { estimates = e; elapsed = t; log = log; room = l; count = c; next = v }
 
--- the next node's time as a word
+-- the next node's time
 abbrev pub timeAt : (n : ℕ) → Stand → ℕ
-timeAt n a = word (fit (some (labelsIn n (a .room) .times (a .next))))
+timeAt n a = labelsIn n (a .room) .times (a .next)
 
 -- from a, the next node is logged with its time t; e, room and v are estimates, room and next node then
 abbrev pub logged : Stand → (t : ℕ) → (e room : List ℕ) → (v : ℕ) → Stand
@@ -135,8 +134,6 @@ record Logs (n : ℕ) (G : Problem) (H : List Entry) (E : Entry) (room : List �
   free : hasGoal G H ≡ false
   new : timeIn H (E .vertex) ≡ none
   labels : Labels G (E ∷ H) (E .vertex) 0 (labelsIn n room)
-  -- its time is the word that is read
-  time-is : word (fit (some (E .time))) ≡ E .time
 
 module _ {g : Given} {s z : ℕ} (r : Ready g s z) where
   -- what is chosen, given that every candidate's sum is kept; all arcs are relaxed and no goal is logged
@@ -211,8 +208,6 @@ module _ {g : Given} {s z : ℕ} (r : Ready g s z) where
       at : Next n (goGiven g s z) (d .past) (a .room) v → Logs n (goGiven g s z) (d .past) (entryOf n (a .room) v) room
       at (over c k q labels complete) = absurd (omega arith)
       at (on c k labels full free sums inside waits next-is) =
-          let time = labelsIn n (a .room) .times v in
-          let low = label-low waits (labels v (rw (codes r .reads .size-is) lv)) in
           record {
             reached = grow (d .reached) free next-is;
             free = free;
@@ -220,7 +215,6 @@ module _ {g : Given} {s z : ℕ} (r : Ready g s z) where
             labels =
                 labels-log full (entryOf n (a .room) v) (new-of next-is) (a .room) room (codes r .reads .size-is) (x .n-high) lv labels put
                 refl waits;
-            time-is = ap word (fit-in time low);
           }
 
   -- one turn: the next node is logged, and is settled in the room
@@ -233,8 +227,7 @@ module _ {g : Given} {s z : ℕ} (r : Ready g s z) where
     log-then = log-next (d .past) entry log₀ (d .counted) (d .log-is) lc
 
     elapsed-then : set (a .elapsed) (a .next) (timeAt (g .sizes .n) a) ≡ listed (g .sizes .n) (λ u. word (timeIn (entry ∷ d .past) u))
-    elapsed-then =
-        ap (set (a .elapsed) (a .next)) (logs d lv x put .time-is) ∙ elapsed-next (d .past) entry (g .sizes .n) lv (d .elapsed-is)
+    elapsed-then = elapsed-next (d .past) entry (g .sizes .n) lv (d .elapsed-is)
 
     -- it is the target: the log is complete
     pub turn-goal : a .next ≡ z → Going g s z e₀ log₀ (logged a (timeAt (g .sizes .n) a) (a .estimates) room (g .sizes .n))
@@ -261,7 +254,7 @@ module _ {g : Given} {s z : ℕ} (r : Ready g s z) where
         let y = logs d lv x put in
         let f = asked-heads (d .filling) asks in
         let free = free-more (goGiven g s z) (d .past) entry (k .goals (a .next) ∙ ne-eqb (a .next) z ne) (y .free) in
-        let here = timeIn-here entry (d .past) (a .next) refl ∙ ap some (sym (y .time-is)) in
+        let here = timeIn-here entry (d .past) (a .next) refl in
         let labels = relaxes .exact (goGiven g s z) (entry ∷ d .past) (k .ok) (k .reads) (y .reached) here (known-heads f) (y .labels) in
         record {
           past = entry ∷ d .past;

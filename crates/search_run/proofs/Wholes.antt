@@ -66,15 +66,16 @@ pub first-inside : {n v : ℕ} {room : List ℕ} → Room n room → 0 < n → C
 first-inside {n} {room = room} x low choice = chosen-inside (choice .by-order (orderOf n room) low (x .n-high) (x .right))
 
 -- lengths of what is read, and of the estimates
-pub pairs-in : {z : Sizes} {order ranks pairs down e′ : List ℕ} {roads live e t : ℕ}
-    → Sized (z .n) (z .m) (z .pairs) roads (length order) (length ranks) (length pairs) live (length down) e t → length e′ ≡ e
-    → PairsIn z order ranks pairs down e′
+pub pairs-in : {z : Sizes} {order ranks pairs times down e′ : List ℕ} {roads live e t : ℕ}
+    → Sized (z .n) (z .m) (z .pairs) roads (length order) (length ranks) (length pairs) (length times) live (length down) e t
+    → length e′ ≡ e → PairsIn z order ranks pairs times down e′
 pairs-in x q = record {
   n-high = x .n-high;
   count-high = x .count-high;
   order-is = x .order-is;
   ranks-are = x .ranks-are;
   pairs-are = x .pairs-are;
+  times-are = x .times-are;
   down-is = x .down-is;
   estimates-are = q ∙ x .estimates-are;
 }
@@ -82,8 +83,8 @@ pairs-in x q = record {
 pub asking : {g : Given} {e t : ℕ} {e′ : List ℕ} → SizedIn g e t → length e′ ≡ e → EstimatesIn g e′
 asking x q = record { over = pairs-in x q; m-high = x .m-high; roads-are = x .roads-are; live-is = x .live-is }
 
-pub reading : {z : Sizes} {roads live e′ : List ℕ} {order ranks pairs down e t : ℕ}
-    → Sized (z .n) (z .m) (z .pairs) (length roads) order ranks pairs (length live) down e t → length e′ ≡ e
+pub reading : {z : Sizes} {roads live e′ : List ℕ} {order ranks pairs times down e t : ℕ}
+    → Sized (z .n) (z .m) (z .pairs) (length roads) order ranks pairs times (length live) down e t → length e′ ≡ e
     → ReadIn (record { sizes = z; roads = roads; live = live; estimates = e′ })
 reading x q = record { m-high = x .m-high; roads-are = x .roads-are; live-is = x .live-is; estimates-are = q ∙ x .estimates-are }
 
@@ -98,8 +99,8 @@ module _ {n : ℕ} {room : List ℕ} (high : n ≤ mostJunctions) (b : BlankRoom
         (λ v lv. (let z = b .blank (n + v) (omega arith) in omega arith));
   }
 
-  pub blank-of : {z : Sizes} {order ranks pairs down e : List ℕ} → n ≡ z .n → PairsIn z order ranks pairs down e
-      → Blank z order ranks pairs down e room
+  pub blank-of : {z : Sizes} {order ranks pairs times down e : List ℕ} → n ≡ z .n → PairsIn z order ranks pairs times down e
+      → Blank z order ranks pairs times down e room
   blank-of n-is lengths = record {
     over = lengths;
     room = rw n-is at room-blank;
@@ -295,7 +296,7 @@ module _ {g : Given} {s z : ℕ} (r : Ready g s z) {e₀ log₀ : List ℕ} {a :
 
 -- the run as a whole: its first candidate, and its turns. e₁, t₁, room₁ and v₁ stand when the loop begins.
 pub advances : {g : Given} {leaving groups : List ℕ} {s z budget most : ℕ} {l₀ : Written} {e₁ t₁ room₁ : List ℕ} {v₁ : ℕ} {a : Stand}
-    → LendsRoom g leaving groups s z l₀ → Begins (g .sizes) (g .order) (g .ranks) (g .pairs) (g .down) s (l₀ .estimates) e₁ room₁
+    → LendsRoom g leaving groups s z l₀ → Begins (g .sizes) (g .order) (g .ranks) (g .pairs) (g .times) (g .down) s (l₀ .estimates) e₁ room₁
     → t₁ ≡ replicate (length (l₀ .elapsed)) noneWord → Choice (g .sizes .n) room₁ v₁ → most ≡ min budget (g .sizes .n)
     → Running g leaving groups s z most (standOf e₁ t₁ (l₀ .log) room₁ 0 v₁) a
     → ltb (a .next) (g .sizes .n) && ltb (a .count) most ≡ false

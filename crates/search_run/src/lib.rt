@@ -10,7 +10,7 @@ ghost use Rattle.search_labels.specs.Ways.{arcsBack, wayOf};
 ghost use Rattle.search_junctions.specs.State.{given, givenTo};
 ghost use Rattle.search_labels.specs.Labelling.{labelsIn};
 ghost use Rattle.search_run.specs.Runs.{Advances, LendsRoom, backIn, written};
-use areas::fill;
+use areas::fill_times;
 use network::Junction;
 use network::Time;
 use network::TimeWord;
@@ -45,6 +45,7 @@ pub fn advance(
     order: &[u8],
     ranks: &[u32],
     pairs: &[u32],
+    times: &[TimeWord],
     access: &[u8],
     live: &[TimeWord],
     down: &[TimeWord],
@@ -55,16 +56,16 @@ pub fn advance(
     log: &mut [u32],
     room: &mut [u64],
 ) -> Progress
-    requires { ⌜ LendsRoom (given trip roads order ranks pairs access live down) (now leaving) (now groups)
+    requires { ⌜ LendsRoom (given trip roads order ranks pairs times access live down) (now leaving) (now groups)
         (trip .start .0) (trip .target .0) (written estimates elapsed room log) ⌝ }
-    ensures { λ r. ⌜ Advances (givenTo trip roads order ranks pairs access live down) (now (leaving .entry)) (now (groups .entry))
+    ensures { λ r. ⌜ Advances (givenTo trip roads order ranks pairs times access live down) (now (leaving .entry)) (now (groups .entry))
         (trip .start .0) (trip .target .0) budget (written (estimates .entry) (elapsed .entry) (room .entry) (log .entry))
         (written (estimates .exit) (elapsed .exit) (room .exit) (log .exit)) (r .count) (r .complete) ⌝ }
 {
     let n = trip.sizes.n;
-    let first = trip.ask_start(order, ranks, pairs, down, estimates);
+    let first = trip.ask_start(order, ranks, pairs, times, down, estimates);
     trip.begin(room, first);
-    fill(elapsed, Time::NONE.0);
+    fill_times(elapsed, Time::NONE.0);
     let most = smaller(budget, n);
     let mut c: u32 = 0;
     let mut v = choose(room, n); // the node that is logged next, or n
@@ -85,6 +86,7 @@ pub fn advance(
                 order,
                 ranks,
                 pairs,
+                times,
                 access,
                 live,
                 down,

@@ -63,12 +63,12 @@ module _ {h : Header} {card : List ℕ} {l : Each ℕ} (k : Fits h card l) where
   pub order-sized : {order : List ℕ} → order ≡ orderIn card → length order ≡ 4 * h .n
   order-sized {order} e = ap length e ∙ k .order
 
--- what a search needs; t is the length of what stands in elapsed's place, and `times` are as many as the live times
+-- what a search needs; t is the length of what stands in elapsed's place, and there are as many times `met` as live times
 pub sized : (a : Areas) {h : Header} {card : List ℕ} → Fits h card (lengths a)
-    → {roads order : List ℕ} → roads ≡ roadsIn card → order ≡ orderIn card → {times : ℕ} → times ≡ length (a .live) → {t : ℕ} → t ≡ h .n
-    → Sized (h .n) (h .m) (h .pairs) (length roads) (length order) (length (a .built .ranks)) (length (a .built .pairs)) times
-    (length (a .aimed .down)) (length (a .aimed .estimates)) t
-sized a {h} {card} k er eo times-are elapsed-is = record {
+    → {roads order : List ℕ} → roads ≡ roadsIn card → order ≡ orderIn card → {met : ℕ} → met ≡ length (a .live) → {t : ℕ} → t ≡ h .n
+    → Sized (h .n) (h .m) (h .pairs) (length roads) (length order) (length (a .built .ranks)) (length (a .built .pairs))
+    (length (a .built .times)) met (length (a .aimed .down)) (length (a .aimed .estimates)) t
+sized a {h} {card} k er eo met-are elapsed-is = record {
   n-high = k .n-high;
   m-high = k .m-high;
   count-high = pairs-few k;
@@ -76,7 +76,8 @@ sized a {h} {card} k er eo times-are elapsed-is = record {
   order-is = order-sized k eo;
   ranks-are = k .lengths .ranks;
   pairs-are = k .lengths .room;
-  live-is = times-are ∙ k .lengths .live;
+  times-are = rw (k .lengths .times) (k .lengths .room);
+  live-is = met-are ∙ k .lengths .live;
   down-is = k .lengths .down;
   estimates-are = k .lengths .estimates;
   elapsed-is = elapsed-is;

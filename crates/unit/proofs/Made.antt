@@ -136,12 +136,12 @@ module _ (h : Header) (a : Areas) (j : ℕ) (k : Lent) where
   aimed-with d e = answering model.Accepted (leaving (before h a) (At j) (a .live) (record { down = d; estimates = e }) (a .trip)) k
 
 pub aim-made : {card : List ℕ} {h : unit.Header} {a : Areas} {k : Lent} {l : Each ℕ} {j : Junction} → lengths a ≡ l
-    → CallPassed card h l (Aim (j .0)) → {pairs order down estimates d e : List ℕ} → a .built .pairs ≡ pairs
+    → CallPassed card h l (Aim (j .0)) → {pairs times order down estimates d e : List ℕ} → a .built .pairs ≡ pairs → a .built .times ≡ times
     → a .aimed ≡ record { down = down; estimates = estimates } → order ≡ orderIn card
-    → Descended order pairs (h .sizes .pairs) d (j .0) → e ≡ replicate (length estimates) unasked
+    → Descended order pairs times (h .sizes .pairs) d (j .0) → e ≡ replicate (length estimates) unasked
     → {r : Answered} → r ≡ record { header = record { sizes = h .sizes; target = targets.At j }; answer = answers.Accepted }
     → CallContract card (before (headerIn h) a) (calling (Aim (j .0)) k) (after (answeredIn r) (withAimed a d e) k)
-aim-made {card} {h} {a} {k} {j} lengths-are p {d = d} {e} pairs-are aimed-is order-is descended filled-is handed =
+aim-made {card} {h} {a} {k} {j} lengths-are p {d = d} {e} pairs-are times-are aimed-is order-is descended filled-is handed =
     let here = passed-of a lengths-are p in
     let left = ap (λ (s : Answered). after (answeredIn s) (withAimed a d e) k) handed in
     let unasked-are : e ≡ replicate (length (a .aimed .estimates)) unasked =
@@ -153,19 +153,20 @@ aim-made {card} {h} {a} {k} {j} lengths-are p {d = d} {e} pairs-are aimed-is ord
   where
     downs : Good card (before (headerIn h) a) → d ≡ listed (mapOn card .vertices) (λ v. word (downTotalOf (mapOn card) (j .0) v))
     downs g =
-        descended-at order-is pairs-are descended .exact (roadsIn card) (a .built .ranks) (good-prepared g)
+        descended-at order-is pairs-are times-are descended .exact (roadsIn card) (a .built .ranks) (good-prepared g)
 
 -- ---- estimate: v is that of the junction j, and e are the estimates with those that it filled
 
 pub estimate-made : {card : List ℕ} {h : unit.Header} {a : Areas} {k : Lent} {l : Each ℕ} {j : ℕ} → lengths a ≡ l
-    → CallPassed card h l (Estimate j) → {ranks pairs order down estimates e : List ℕ} {v : Time}
-    → a .built .ranks ≡ ranks → a .built .pairs ≡ pairs → a .aimed ≡ record { down = down; estimates = estimates }
-    → order ≡ orderIn card
-    → estimates-of.Estimated order ranks pairs (h .sizes .pairs) down estimates e j (v .0)
+    → CallPassed card h l (Estimate j) → {ranks pairs times order down estimates e : List ℕ} {v : Time}
+    → a .built .ranks ≡ ranks → a .built .pairs ≡ pairs → a .built .times ≡ times
+    → a .aimed ≡ record { down = down; estimates = estimates } → order ≡ orderIn card
+    → estimates-of.Estimated order ranks pairs times (h .sizes .pairs) down estimates e j (v .0)
     → {r : Answered} → r ≡ record { header = h; answer = answers.Estimated v }
     → CallContract card (before (headerIn h) a) (calling (Estimate j) k) (after (answeredIn r) (withAimed a down e) k)
-estimate-made {card} {h} {a} {k} {j} lengths-are p {down = down} {e = e} {v} ranks-are pairs-are aimed-is order-is done {r} handed =
-    let here = estimated-at order-is ranks-are pairs-are aimed-is done in
+estimate-made {card} {h} {a} {k} {j} lengths-are p {down = down} {e = e} {v} ranks-are pairs-are times-are aimed-is order-is done {r}
+    handed =
+    let here = estimated-at order-is ranks-are pairs-are times-are aimed-is done in
     let left : after (answeredIn r) (withAimed a down e) k ≡ answered-with (v .0) e =
     ap (λ (s : Answered). after (answeredIn s) (withAimed a down e) k) handed
     ∙ ap (λ (c : Aimed (List ℕ)). answering (model.Estimated (v .0)) (leaving (before (headerIn h) a) (targetIn (h .target)) (a .live)
@@ -178,7 +179,7 @@ estimate-made {card} {h} {a} {k} {j} lengths-are p {down = down} {e = e} {v} ran
     answered-with t z = answering (model.Estimated t) (leaving (before (headerIn h) a) (targetIn (h .target)) (a .live)
         (withEstimates (a .aimed) z) (a .trip)) k
 
-    estimated : estimates-of.Estimated (orderIn card) (a .built .ranks) (a .built .pairs) (h .sizes .pairs)
+    estimated : estimates-of.Estimated (orderIn card) (a .built .ranks) (a .built .pairs) (a .built .times) (h .sizes .pairs)
         (a .aimed .down) (a .aimed .estimates) e j (v .0)
         → Good card (before (headerIn h) a) → answered-with (v .0) e ≡ made (cardMap card) (before (headerIn h) a) (Estimate j) k
     estimated d g =

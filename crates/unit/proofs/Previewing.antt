@@ -1,20 +1,21 @@
 -- A preview by what its questions and its two searches say: its questions (`preview-trips`, `preview-facts`), what was made
 -- (`preview-handed`), and its work area (`work-refused`, `work-made`). Assumes nothing.
 use mathlib.Core.Path.{_∙_, _≡_, ap, ap₂, refl, subst, sym}
-use mathlib.Core.Option.{none}
+use mathlib.Core.Option.{none, some}
 use mathlib.Core.List.{List}
-use Prim.Native.Nat.{ℕ}
+use Prim.Native.Nat.{_≤_, ℕ}
 use borrow.Author.Tests.{eqb-true, ltb-true}
 use lib.Dec.{eqb, ltb}
 use lib.ListN.{length, set}
+use native.Mathlib.Omega.{arith}
 use Rattle.graph.specs.Total.{Total}
 use Rattle.graph.specs.Search.{totalOf}
 use Rattle.graph.specs.Map.{Map}
 use Rattle.model.specs.Types.{Accepted, Answer, Estimated, Gone, Header, Lengths, NoClass, NoJunction, NoTarget, Previewed, Refused}
 use Rattle.model.specs.Types.{Stopped}
-use Rattle.model.specs.Limits.{classes}
+use Rattle.model.specs.Limits.{classes, mostTotal}
 use Rattle.model.specs.Layout.{accessIn, orderIn, roadsIn}
-use Rattle.model.specs.Word.{ofWord}
+use Rattle.model.specs.Word.{ofWord, word}
 use Rattle.model.specs.Card.{cardMap, mapOn}
 use Rattle.model.specs.Areas.{Areas}
 use Rattle.model.specs.State.{Lent, Step, answering}
@@ -27,6 +28,7 @@ use Rattle.model.specs.Calls.{Preview, calling, knownOf}
 use Rattle.model.specs.Contracts.{CallContract, after, baseOn, before}
 use Rattle.model.specs.Laws.{andThen-none, ask-none, kept-refl}
 use Rattle.model.specs.Good.{Good, met-good, set-good}
+use Rattle.unit_answers.specs.Signed.{held, held-is}
 use Rattle.unit_answers.specs.Shape.{answerIn}
 use Rattle.unit_answers.specs.declared.Answer as code-answer
 use Rattle.network.specs.Bodies.{mapIn}
@@ -93,6 +95,10 @@ preview-facts {card} {u} {v = v} {i} {t} {j} {w} p = parts card (headerIn u) v i
 
 -- ---- a preview that was made
 
+-- a total that a search tells, read in its word, is one that a signed number holds
+total-held : {w : ℕ} (x : Total) → w ≡ word x → ((t : ℕ) → x ≡ some t → t ≤ mostTotal) → held (ofWord w) ≡ x
+total-held x word-is fits = ap held (total-read x word-is fits) ∙ held-is x (record { below = λ t e. omega (arith, fits t e) })
+
 -- with searches at these times and at those
 module _ (u : unit.Header) (a : Areas) (now then : List ℕ) (j : ℕ) (k : Lent) where
   abbrev h : Header
@@ -116,12 +122,12 @@ module _ (u : unit.Header) (a : Areas) (now then : List ℕ) (j : ℕ) (k : Lent
   -- both searches found it on the map of what they were given
   found-is : {roads order e : List ℕ} {present new : ℕ}
       → FoundBoth (givenIn u a now roads order) then j z (a .aimed .estimates) e present new
-      → left-by (previewAnswer (ofWord present) (ofWord new)) e ≡ previewAt (mapIn roads order) (before h a) now then j k
+      → left-by (previewAnswer (held (ofWord present)) (held (ofWord new))) e ≡ previewAt (mapIn roads order) (before h a) now then j k
   found-is {roads} {order} d =
       let M = mapIn roads order in
       ap₂ left-by
-      (ap₂ previewAnswer (total-read (totalOf (searchOf M now j z)) (d .present-is) (d .present-fits))
-      (total-read (totalOf (searchOf M then j z)) (d .new-is) (d .new-fits)))
+      (ap₂ previewAnswer (total-held (totalOf (searchOf M now j z)) (d .present-is) (d .present-fits))
+      (total-held (totalOf (searchOf M then j z)) (d .new-is) (d .new-fits)))
       (d .estimates-are)
       ∙ made-is M
 
@@ -136,7 +142,7 @@ pub preview-handed : {card : List ℕ} {u : unit.Header} {a : Areas} {v i t j w 
     → roads ≡ roadsIn card → order ≡ orderIn card → access ≡ accessIn card → {e : List ℕ} {present new : ℕ}
     → FindsBoth (givenIn u a (metBy access v (a .live)) roads order) (metBy access v (set (a .live) i t)) (a .built .leaving)
     (a .built .groups) j z (a .aimed .estimates) e present new
-    → {x : code-answer.Answer} → answerIn x ≡ previewAnswer (ofWord present) (ofWord new)
+    → {x : code-answer.Answer} → answerIn x ≡ previewAnswer (held (ofWord present)) (held (ofWord new))
     → {r : Answered} → r ≡ record { header = u; answer = x }
     → CallContract card (before (headerIn u) a) (calling (Preview v i t j w) k)
     (after (answeredIn r) (withAimed a (a .aimed .down) e) k)
@@ -161,7 +167,7 @@ preview-handed {card} {u} {a} {v} {i} {t} {j} {w} {k} p target-is roads-are orde
         (a .aimed .estimates) e present new
 
     exactly : Good card (before (headerIn u) a)
-        → left-by u a now then j k (previewAnswer (ofWord present) (ofWord new)) e
+        → left-by u a now then j k (previewAnswer (held (ofWord present)) (held (ofWord new))) e
         ≡ previewMade (cardMap card) (before (headerIn u) a) v i t j k
     exactly g =
         let searched = on-card card u Searched target-is access-is roads-are order-is d in

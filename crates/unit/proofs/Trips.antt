@@ -136,20 +136,21 @@ metBy access v live = classTimes (accessOf access) v live
 pub met-length : (access : List ℕ) (v : ℕ) (live : List ℕ) → length (metBy access v live) ≡ length live
 met-length access v live = times-length (accessOf access) v live
 
-abbrev pub givenIn : unit.Header → Areas → (times roads order : List ℕ) → Given
-givenIn u a times roads order = givenOf (u .sizes) roads order (a .built .ranks) (a .built .pairs) times (a .aimed .down)
+abbrev pub givenIn : unit.Header → Areas → (met roads order : List ℕ) → Given
+givenIn u a met roads order =
+    givenOf (u .sizes) roads order (a .built .ranks) (a .built .pairs) (a .built .times) met (a .aimed .down)
 
 -- lengths and ranges; z is the target, and t entries stand in elapsed's place
 pub within : {card : List ℕ} {u : unit.Header} {a : Areas} {c : Asked} {k : Lent} {s : ℕ} → TripPassed card u a c k s → {z : ℕ}
     → z ≡ targetOf (targetIn (u .target)) → {roads order : List ℕ} → roads ≡ roadsIn card → order ≡ orderIn card
-    → {times : List ℕ} → length times ≡ length (a .live) → {t : ℕ} → t ≡ u .sizes .n
-    → Within (givenIn u a times roads order) (a .built .leaving) (a .built .groups) s z (length (a .aimed .estimates)) t
-within {a = a} p {z} target-is roads-are order-is times-are elapsed-is = record {
+    → {met : List ℕ} → length met ≡ length (a .live) → {t : ℕ} → t ≡ u .sizes .n
+    → Within (givenIn u a met roads order) (a .built .leaving) (a .built .groups) s z (length (a .aimed .estimates)) t
+within {a = a} p {z} target-is roads-are order-is met-are elapsed-is = record {
   start-in = p .starts .start;
   target-in = omega (arith, target-is, p .target);
   leaving-is = p .sizes .lengths .leaving;
   groups-are = p .sizes .lengths .groups;
-  sized = sized a (p .sizes) roads-are order-is times-are elapsed-is;
+  sized = sized a (p .sizes) roads-are order-is met-are elapsed-is;
 }
 
 -- ---- where a list of calls left the areas

@@ -69,20 +69,29 @@ abbrev pub SetPart : (card : List ℕ) → Header → Each ℕ → (live : Slice
 SetPart card h l live i t r = (a : Areas) → lengths a ≡ l → a .live ≡ live .entry .now
     → MeetsAlone card h (record { entry = a; exit = withLive a (live .exit .now) }) (Set i t) r
 
-abbrev pub AimPart : (card : List ℕ) → Header → Each ℕ → (pairs down estimates : Slice) → (junction : ℕ) → Answered → Type 0
-AimPart card h l pairs down estimates j r = (a : Areas) → lengths a ≡ l → a .built .pairs ≡ pairs .entry .now
+-- an aim is told the lengths of the areas that it is handed
+pub record AimLengths (l : Each ℕ) (pairs times down : List ℕ) : Type 0 where
+  pub pairs-are : l .built .pairs ≡ length pairs
+  pub times-are : l .built .times ≡ length times
+  pub down-is : l .aimed .down ≡ length down
+
+abbrev pub AimPart : (card : List ℕ) → Header → Each ℕ → (pairs times down estimates : Slice) → (junction : ℕ) → Answered → Type 0
+AimPart card h l pairs times down estimates j r = (a : Areas) → lengths a ≡ l
+    → a .built .pairs ≡ pairs .entry .now → a .built .times ≡ times .entry .now
     → a .aimed ≡ record { down = down .entry .now; estimates = estimates .entry .now }
     → MeetsAlone card h (record { entry = a; exit = withAimed a (down .exit .now) (estimates .exit .now) }) (Aim j) r
 
 -- an estimate is told the lengths of the areas that it is handed
-pub record EstimateLengths (l : Each ℕ) (ranks pairs down estimates : List ℕ) : Type 0 where
+pub record EstimateLengths (l : Each ℕ) (ranks pairs times down estimates : List ℕ) : Type 0 where
   pub ranks-are : l .built .ranks ≡ length ranks
   pub pairs-are : l .built .pairs ≡ length pairs
+  pub times-are : l .built .times ≡ length times
   pub down-is : l .aimed .down ≡ length down
   pub estimates-are : l .aimed .estimates ≡ length estimates
 
-abbrev pub EstimatePart : (card : List ℕ) → Header → Each ℕ → (ranks pairs down estimates : Slice) → (junction : ℕ) → Answered → Type 0
-EstimatePart card h l ranks pairs down estimates j r = (a : Areas) → lengths a ≡ l
-    → a .built .ranks ≡ ranks .entry .now → a .built .pairs ≡ pairs .entry .now
+abbrev pub EstimatePart : (card : List ℕ) → Header → Each ℕ → (ranks pairs times down estimates : Slice) → (junction : ℕ) → Answered
+    → Type 0
+EstimatePart card h l ranks pairs times down estimates j r = (a : Areas) → lengths a ≡ l
+    → a .built .ranks ≡ ranks .entry .now → a .built .pairs ≡ pairs .entry .now → a .built .times ≡ times .entry .now
     → a .aimed ≡ record { down = down .entry .now; estimates = estimates .entry .now }
     → MeetsAlone card h (record { entry = a; exit = withAimed a (down .entry .now) (estimates .exit .now) }) (Estimate j) r

@@ -14,7 +14,7 @@ ghost use Rattle.unit_answers.specs.Shape.{answerIn, callIn};
 ghost use Rattle.network.specs.Lending.{areas};
 ghost use Rattle.unit_questions.specs.Lending.{fitsBy, lengthsIn, lent};
 ghost use Rattle.unit.specs.Shape.{headerIn, targetIn};
-ghost use Rattle.unit.specs.Meets.{AimPart, EstimateLengths, EstimatePart, Meets, MeetsAlone, MeetsPreview, SetPart};
+ghost use Rattle.unit.specs.Meets.{AimLengths, AimPart, EstimateLengths, EstimatePart, Meets, MeetsAlone, MeetsPreview, SetPart};
 ghost use Rattle.unit.specs.Meets.{asks, asksTrip, asksWay};
 use network::Junction;
 use network::Refusal;
@@ -53,7 +53,7 @@ fn gone(total: Time, count: u32, roads: u32) -> Answer
     if total.is_none() {
         return Answer::Refused(Refusal::no_path(count));
     }
-    Answer::Gone(total.0 as u64, count, roads)
+    Answer::Gone(total.0, count, roads)
 }
 
 // ---- the questions, on numbers
@@ -263,19 +263,28 @@ impl Header {
         card: &[u8],
         l: Lengths,
         pairs: &[u32],
+        times: &[TimeWord],
         down: &mut [TimeWord],
         estimates: &mut [TimeWord],
         j: Junction,
     ) -> Answered
-        requires { ⌜ (l .pairs ≡ length (now pairs)) × (l .down ≡ length (now down)) ⌝ }
-        ensures { λ r. ⌜ AimPart (now (card .entry)) self (lengthsIn l) pairs down estimates (j .0) r ⌝ }
+        requires { ⌜ AimLengths (lengthsIn l) (now pairs) (now times) (now down) ⌝ }
+        ensures { λ r. ⌜ AimPart (now (card .entry)) self (lengthsIn l) pairs times down estimates (j .0) r ⌝ }
     {
         match self.aim_asked(card, l, j) {
             Verdict::Failed(q) => self.answered(Answer::Refused(q)),
             Verdict::Passed => {
                 let order = card_layout::order_of(card);
-                pairs_descents::down_totals(self.sizes.n, self.sizes.pairs, order, pairs, down, j);
-                areas::fill(estimates, Time::UNASKED.0);
+                pairs_descents::down_totals(
+                    self.sizes.n,
+                    self.sizes.pairs,
+                    order,
+                    pairs,
+                    times,
+                    down,
+                    j,
+                );
+                areas::fill_times(estimates, Time::UNASKED.0);
                 self.answering(Target::At(j), Answer::Accepted)
             }
         }
@@ -287,12 +296,13 @@ impl Header {
         l: Lengths,
         ranks: &[u32],
         pairs: &[u32],
+        times: &[TimeWord],
         down: &[TimeWord],
         estimates: &mut [TimeWord],
         j: Junction,
     ) -> Answered
-        requires { ⌜ EstimateLengths (lengthsIn l) (now ranks) (now pairs) (now down) (now estimates) ⌝ }
-        ensures { λ r. ⌜ EstimatePart (now (card .entry)) self (lengthsIn l) ranks pairs down estimates (j .0) r ⌝ }
+        requires { ⌜ EstimateLengths (lengthsIn l) (now ranks) (now pairs) (now times) (now down) (now estimates) ⌝ }
+        ensures { λ r. ⌜ EstimatePart (now (card .entry)) self (lengthsIn l) ranks pairs times down estimates (j .0) r ⌝ }
     {
         match self.estimate_asked(card, l, j) {
             Verdict::Failed(q) => self.answered(Answer::Refused(q)),
@@ -303,6 +313,7 @@ impl Header {
                     order,
                     ranks,
                     pairs,
+                    times,
                     down,
                     estimates,
                     j,
@@ -314,12 +325,13 @@ impl Header {
 
     // ---- the calls
 
-    // Sets a road's live time, from its base time to 1,000,000, or closed.
+    // Sets a road's live time, from its base time to 10,000,000, or closed.
     pub fn set(
         self,
         card: &[u8],
         ranks: &[u32],
         pairs: &[u32],
+        times: &[TimeWord],
         live: &mut [TimeWord],
         down: &[TimeWord],
         estimates: &[TimeWord],
@@ -329,12 +341,13 @@ impl Header {
         road: u32,
         time: Time,
     ) -> Answered
-        ensures { λ r. ⌜ MeetsAlone (now (card .entry)) self (areas ranks pairs live down estimates elapsed leaving groups)
+        ensures { λ r. ⌜ MeetsAlone (now (card .entry)) self (areas ranks pairs times live down estimates elapsed leaving groups)
             (Set road (time .0)) r ⌝ }
     {
         let l = unit_questions::lengths_of(
             ranks,
             pairs,
+            times,
             live,
             down,
             estimates,
@@ -351,6 +364,7 @@ impl Header {
         card: &[u8],
         ranks: &[u32],
         pairs: &[u32],
+        times: &[TimeWord],
         live: &[TimeWord],
         down: &mut [TimeWord],
         estimates: &mut [TimeWord],
@@ -359,12 +373,13 @@ impl Header {
         groups: &[u32],
         j: Junction,
     ) -> Answered
-        ensures { λ r. ⌜ MeetsAlone (now (card .entry)) self (areas ranks pairs live down estimates elapsed leaving groups)
+        ensures { λ r. ⌜ MeetsAlone (now (card .entry)) self (areas ranks pairs times live down estimates elapsed leaving groups)
             (Aim (j .0)) r ⌝ }
     {
         let l = unit_questions::lengths_of(
             ranks,
             pairs,
+            times,
             live,
             down,
             estimates,
@@ -372,7 +387,7 @@ impl Header {
             leaving,
             groups,
         );
-        self.aim_part(card, l, pairs, down, estimates, j)
+        self.aim_part(card, l, pairs, times, down, estimates, j)
     }
 
     // The estimate of a junction: the least base total to the target, or none.
@@ -381,6 +396,7 @@ impl Header {
         card: &[u8],
         ranks: &[u32],
         pairs: &[u32],
+        times: &[TimeWord],
         live: &[TimeWord],
         down: &[TimeWord],
         estimates: &mut [TimeWord],
@@ -389,12 +405,13 @@ impl Header {
         groups: &[u32],
         j: Junction,
     ) -> Answered
-        ensures { λ r. ⌜ MeetsAlone (now (card .entry)) self (areas ranks pairs live down estimates elapsed leaving groups)
+        ensures { λ r. ⌜ MeetsAlone (now (card .entry)) self (areas ranks pairs times live down estimates elapsed leaving groups)
             (Estimate (j .0)) r ⌝ }
     {
         let l = unit_questions::lengths_of(
             ranks,
             pairs,
+            times,
             live,
             down,
             estimates,
@@ -402,7 +419,7 @@ impl Header {
             leaving,
             groups,
         );
-        self.estimate_part(card, l, ranks, pairs, down, estimates, j)
+        self.estimate_part(card, l, ranks, pairs, times, down, estimates, j)
     }
 
     // The way of a class from a start to the target at the live times: total, count and roads, or 15 with the count. A road that is barred
@@ -412,6 +429,7 @@ impl Header {
         card: &[u8],
         ranks: &[u32],
         pairs: &[u32],
+        times: &[TimeWord],
         live: &[TimeWord],
         down: &[TimeWord],
         estimates: &mut [TimeWord],
@@ -423,12 +441,13 @@ impl Header {
         class: u32,
         start: Junction,
     ) -> Answered
-        ensures { λ r. ⌜ Meets (now (card .entry)) self (areas ranks pairs live down estimates elapsed leaving groups) (lent route log)
-            (Go class (start .0)) r ⌝ }
+        ensures { λ r. ⌜ Meets (now (card .entry)) self (areas ranks pairs times live down estimates elapsed leaving groups)
+            (lent route log) (Go class (start .0)) r ⌝ }
     {
         let l = unit_questions::lengths_of(
             ranks,
             pairs,
+            times,
             live,
             down,
             estimates,
@@ -453,6 +472,7 @@ impl Header {
                     card_layout::order_of(card),
                     ranks,
                     pairs,
+                    times,
                     card_layout::access_of(card),
                     live,
                     down,
@@ -475,6 +495,7 @@ impl Header {
         card: &[u8],
         ranks: &[u32],
         pairs: &[u32],
+        times: &[TimeWord],
         live: &[TimeWord],
         down: &[TimeWord],
         estimates: &mut [TimeWord],
@@ -487,12 +508,13 @@ impl Header {
         time: Time,
         start: Junction,
     ) -> Answered
-        ensures { λ r. ⌜ MeetsPreview (now (card .entry)) self (areas ranks pairs live down estimates elapsed leaving groups)
+        ensures { λ r. ⌜ MeetsPreview (now (card .entry)) self (areas ranks pairs times live down estimates elapsed leaving groups)
             (now (work .entry)) (now (work .exit)) class road (time .0) (start .0) r ⌝ }
     {
         let l = unit_questions::lengths_of(
             ranks,
             pairs,
+            times,
             live,
             down,
             estimates,
@@ -518,6 +540,7 @@ impl Header {
                     card_layout::order_of(card),
                     ranks,
                     pairs,
+                    times,
                     card_layout::access_of(card),
                     live,
                     down,
@@ -538,6 +561,7 @@ pub fn call(
     card: &[u8],
     ranks: &[u32],
     pairs: &[u32],
+    times: &[TimeWord],
     live: &mut [TimeWord],
     down: &mut [TimeWord],
     estimates: &mut [TimeWord],
@@ -548,7 +572,7 @@ pub fn call(
     log: &mut [u32],
     call: Call,
 ) -> Answered
-    ensures { λ r. ⌜ Meets (now (card .entry)) header (areas ranks pairs live down estimates elapsed leaving groups) (lent route log)
+    ensures { λ r. ⌜ Meets (now (card .entry)) header (areas ranks pairs times live down estimates elapsed leaving groups) (lent route log)
         (callIn call) r ⌝ }
 {
     match call {
@@ -556,6 +580,7 @@ pub fn call(
             card,
             ranks,
             pairs,
+            times,
             live,
             down,
             estimates,
@@ -569,6 +594,7 @@ pub fn call(
             card,
             ranks,
             pairs,
+            times,
             live,
             down,
             estimates,
@@ -581,6 +607,7 @@ pub fn call(
             card,
             ranks,
             pairs,
+            times,
             live,
             down,
             estimates,
@@ -593,6 +620,7 @@ pub fn call(
             card,
             ranks,
             pairs,
+            times,
             live,
             down,
             estimates,

@@ -3,8 +3,9 @@
 use mathlib.Core.Path.{_≡_, _∙_, ap}
 use mathlib.Core.Bool.{Bool, cond, false, true}
 use mathlib.Core.Option.{Option, none, some}
-use Prim.Native.Nat.{_<_, _^_, zero, suc, ℕ}
-use lib.Dec.{eqb, ltb}
+use Prim.Native.Nat.{_<_, _≤_, _^_, zero, suc, ℕ}
+use borrow.Author.Tests.{le-ltb, lt-ltb}
+use lib.Dec.{ltb}
 use lib.IntN.{_-ℤ_, negsuc, pos, ℤ}
 use mir.Syntax.{w64}
 use mir.Val.{SFits, ofZ, toZ}
@@ -12,9 +13,9 @@ use mir.ValLaws.{toZ-ofZ, toZ-pos}
 use native.Mathlib.Omega.{arith}
 use Rattle.graph.specs.Total.{Total, none-some, some-some}
 use Rattle.model.specs.Types as model
-use Rattle.model.specs.Word.{noneWord, ofWord}
+use Rattle.model.specs.Word.{Reads, noneWord, nothing, number, ofWord, ofWord-none, ofWord-some, reads}
 use Rattle.model.specs.Preview.{changeOf, previewAnswer}
-use Rattle.unit_answers.specs.Signed.{Fits, most}
+use Rattle.unit_answers.specs.Signed.{Fits, held, most}
 use Rattle.unit_answers.specs.Shape.{totalIn}
 use Rattle.unit_answers.specs.declared.Total as code
 use Rattle.unit_answers.specs.declared.Total.the-variants as total
@@ -44,13 +45,16 @@ none-fits e = record { below = λ t q. absurd (none-some e q) }
 pub some-fits : {x : Total} {a : ℕ} → x ≡ some a → a < most → Fits x
 some-fits e h = record { below = λ t q. rw (some-some q e) h }
 
-pub total-none : (x : ℕ) → eqb x noneWord ≡ true → none ≡ ofWord x
-unfolding ofWord
-total-none x e = rw e
+-- from 2^63 on, the mark none or not
+pub total-none : (x : ℕ) → x ≤ noneWord → most ≤ x → none ≡ held (ofWord x)
+total-none x le h = go (reads x le)
+  where
+    go : Reads x → none ≡ held (ofWord x)
+    go (nothing e) = rw (e, ofWord-none)
+    go (number k) = rw (ofWord-some x k, le-ltb x most h)
 
-pub total-some : (x : ℕ) → eqb x noneWord ≡ false → some x ≡ ofWord x
-unfolding ofWord
-total-some x e = rw e
+pub total-some : (x : ℕ) → x < most → some x ≡ held (ofWord x)
+total-some x h = rw (ofWord-some x (omega arith), lt-ltb x most h)
 
 -- ---- the change
 

@@ -5,7 +5,7 @@ ghost use lib.IntN.{_-ℤ_, pos};
 ghost use Rattle.model.specs.Word.{ofWord, word};
 ghost use Rattle.model.specs.Preview.{changeOf, previewAnswer};
 ghost use Rattle.unit_answers.specs.Shape.{answerIn, changeIn, totalIn};
-ghost use Rattle.unit_answers.specs.Signed.{Fits, most};
+ghost use Rattle.unit_answers.specs.Signed.{Fits, held, most};
 use network::Junction;
 use network::Refusal;
 use network::Time;
@@ -31,7 +31,7 @@ impl Total {
     {
         match self {
             Total::Of(t) => t,
-            Total::None => Time::NONE.0 as u64,
+            Total::None => Time::NONE.0,
         }
     }
 }
@@ -53,6 +53,9 @@ pub enum Answer {
 
 // ---- a preview's answer (document 02, A2)
 
+// 2^63: signed numbers of 64 bits end below it.
+const SIGNED_END: u64 = 9223372036854775808;
+
 // New total minus present total.
 pub fn difference(present: u64, new: u64) -> i64
     requires { ⌜ (present < most) × (new < most) ⌝ }
@@ -61,14 +64,14 @@ pub fn difference(present: u64, new: u64) -> i64
     (new as i64) - (present as i64)
 }
 
-// The total that a search answers.
+// The total that a search answers. One that a signed number does not hold, as only forged areas give, counts as none.
 fn total_of(t: Time) -> Total
-    ensures { λ r. ⌜ (totalIn r ≡ ofWord (t .0)) × Fits (totalIn r) ⌝ }
+    ensures { λ r. ⌜ (totalIn r ≡ held (ofWord (t .0))) × Fits (totalIn r) ⌝ }
 {
-    if t.is_none() {
+    if SIGNED_END <= t.0 {
         return Total::None;
     }
-    Total::Of(t.0 as u64)
+    Total::Of(t.0)
 }
 
 // The change, where both totals exist.
@@ -87,7 +90,7 @@ fn change_of(present: Total, new: Total) -> Change
 
 // The answer of a preview whose searches answered these totals.
 pub fn previewed(present: Time, new: Time) -> Answer
-    ensures { λ r. ⌜ answerIn r ≡ previewAnswer (ofWord (present .0)) (ofWord (new .0)) ⌝ }
+    ensures { λ r. ⌜ answerIn r ≡ previewAnswer (held (ofWord (present .0))) (held (ofWord (new .0))) ⌝ }
 {
     let a = total_of(present);
     let b = total_of(new);

@@ -188,7 +188,7 @@ fn answer_of(r: Answered) -> UnitAnswer
     match answer {
         Answer::Refused(q) => plain(header, q.question, q.place, 0, q.count, 0),
         Answer::Accepted => plain(header, 0, 0, 0, 0, 0),
-        Answer::Estimated(t) => plain(header, 0, 0, t.0 as u64, 0, 0),
+        Answer::Estimated(t) => plain(header, 0, 0, t.0, 0, 0),
         Answer::Gone(t, c, k) => plain(header, 0, 0, t, c, k),
         Answer::Previewed(a, b, c) => previewed(header, a.word(), b.word(), c),
     }
@@ -274,12 +274,13 @@ pub extern "C" fn card_write(roads: &[u32], order: &[u32], area: &mut [u8], plac
 
 // ---- preparing and the calls
 
-// Prepares a card on the eight areas.
+// Prepares a card on the nine areas.
 #[no_mangle]
 pub extern "C" fn unit_prepare(
     card: &[u8],
     ranks: &mut [u32],
     pairs: &mut [u32],
+    times: &mut [TimeWord],
     live: &mut [TimeWord],
     down: &mut [TimeWord],
     estimates: &mut [TimeWord],
@@ -287,13 +288,14 @@ pub extern "C" fn unit_prepare(
     leaving: &mut [u32],
     groups: &mut [u32],
 ) -> UnitAnswer
-    ensures { λ r. ⌜ Tells (λ x. Prepares (now (card .entry)) (areas ranks pairs live down estimates elapsed leaving groups)
+    ensures { λ r. ⌜ Tells (λ x. Prepares (now (card .entry)) (areas ranks pairs times live down estimates elapsed leaving groups)
         (answeredIn x)) r ⌝ }
 {
     answer_of(unit_switch_on::prepare(
         card,
         ranks,
         pairs,
+        times,
         live,
         down,
         estimates,
@@ -310,6 +312,7 @@ pub extern "C" fn unit_set(
     card: &[u8],
     ranks: &[u32],
     pairs: &[u32],
+    times: &[TimeWord],
     live: &mut [TimeWord],
     down: &[TimeWord],
     estimates: &[TimeWord],
@@ -319,14 +322,15 @@ pub extern "C" fn unit_set(
     road: u32,
     time: TimeWord,
 ) -> UnitAnswer
-    ensures { λ r. ⌜ Tells (MeetsAlone (now (card .entry)) (headerOf header) (areas ranks pairs live down estimates elapsed leaving groups)
-        (Set road time)) r ⌝ }
+    ensures { λ r. ⌜ Tells (MeetsAlone (now (card .entry)) (headerOf header)
+        (areas ranks pairs times live down estimates elapsed leaving groups) (Set road time)) r ⌝ }
 {
     let h = header_of(header);
     answer_of(h.set(
         card,
         ranks,
         pairs,
+        times,
         live,
         down,
         estimates,
@@ -345,6 +349,7 @@ pub extern "C" fn unit_aim(
     card: &[u8],
     ranks: &[u32],
     pairs: &[u32],
+    times: &[TimeWord],
     live: &[TimeWord],
     down: &mut [TimeWord],
     estimates: &mut [TimeWord],
@@ -353,14 +358,15 @@ pub extern "C" fn unit_aim(
     groups: &[u32],
     junction: u32,
 ) -> UnitAnswer
-    ensures { λ r. ⌜ Tells (MeetsAlone (now (card .entry)) (headerOf header) (areas ranks pairs live down estimates elapsed leaving groups)
-        (Aim junction)) r ⌝ }
+    ensures { λ r. ⌜ Tells (MeetsAlone (now (card .entry)) (headerOf header)
+        (areas ranks pairs times live down estimates elapsed leaving groups) (Aim junction)) r ⌝ }
 {
     let h = header_of(header);
     answer_of(h.aim(
         card,
         ranks,
         pairs,
+        times,
         live,
         down,
         estimates,
@@ -378,6 +384,7 @@ pub extern "C" fn unit_estimate(
     card: &[u8],
     ranks: &[u32],
     pairs: &[u32],
+    times: &[TimeWord],
     live: &[TimeWord],
     down: &[TimeWord],
     estimates: &mut [TimeWord],
@@ -386,14 +393,15 @@ pub extern "C" fn unit_estimate(
     groups: &[u32],
     junction: u32,
 ) -> UnitAnswer
-    ensures { λ r. ⌜ Tells (MeetsAlone (now (card .entry)) (headerOf header) (areas ranks pairs live down estimates elapsed leaving groups)
-        (Estimate junction)) r ⌝ }
+    ensures { λ r. ⌜ Tells (MeetsAlone (now (card .entry)) (headerOf header)
+        (areas ranks pairs times live down estimates elapsed leaving groups) (Estimate junction)) r ⌝ }
 {
     let h = header_of(header);
     answer_of(h.estimate(
         card,
         ranks,
         pairs,
+        times,
         live,
         down,
         estimates,
@@ -411,6 +419,7 @@ pub extern "C" fn unit_go(
     card: &[u8],
     ranks: &[u32],
     pairs: &[u32],
+    times: &[TimeWord],
     live: &[TimeWord],
     down: &[TimeWord],
     estimates: &mut [TimeWord],
@@ -422,7 +431,7 @@ pub extern "C" fn unit_go(
     class: u32,
     start: u32,
 ) -> UnitAnswer
-    ensures { λ r. ⌜ Tells (Meets (now (card .entry)) (headerOf header) (areas ranks pairs live down estimates elapsed leaving groups)
+    ensures { λ r. ⌜ Tells (Meets (now (card .entry)) (headerOf header) (areas ranks pairs times live down estimates elapsed leaving groups)
         (lent route log) (Go class start)) r ⌝ }
 {
     let h = header_of(header);
@@ -430,6 +439,7 @@ pub extern "C" fn unit_go(
         card,
         ranks,
         pairs,
+        times,
         live,
         down,
         estimates,
@@ -450,6 +460,7 @@ pub extern "C" fn unit_preview(
     card: &[u8],
     ranks: &[u32],
     pairs: &[u32],
+    times: &[TimeWord],
     live: &[TimeWord],
     down: &[TimeWord],
     estimates: &mut [TimeWord],
@@ -463,13 +474,15 @@ pub extern "C" fn unit_preview(
     start: u32,
 ) -> UnitAnswer
     ensures { λ r. ⌜ Tells (MeetsPreview (now (card .entry)) (headerOf header)
-        (areas ranks pairs live down estimates elapsed leaving groups) (now (work .entry)) (now (work .exit)) class road time start) r ⌝ }
+        (areas ranks pairs times live down estimates elapsed leaving groups) (now (work .entry)) (now (work .exit))
+        class road time start) r ⌝ }
 {
     let h = header_of(header);
     answer_of(h.preview(
         card,
         ranks,
         pairs,
+        times,
         live,
         down,
         estimates,
@@ -491,6 +504,7 @@ pub extern "C" fn unit_stops(
     card: &[u8],
     ranks: &[u32],
     pairs: &[u32],
+    times: &[TimeWord],
     live: &[TimeWord],
     down: &mut [TimeWord],
     estimates: &mut [TimeWord],
@@ -503,7 +517,7 @@ pub extern "C" fn unit_stops(
     stops: &[u32],
 ) -> UnitStops
     ensures { λ r. ⌜ TellsStops (MeetsStops (now (card .entry)) (headerOf header)
-        (areas ranks pairs live down estimates elapsed leaving groups) (lent route log) class (now (stops .entry))) r ⌝ }
+        (areas ranks pairs times live down estimates elapsed leaving groups) (lent route log) class (now (stops .entry))) r ⌝ }
 {
     let h = header_of(header);
     stopped_of(unit_stops::stops(
@@ -511,6 +525,7 @@ pub extern "C" fn unit_stops(
         card,
         ranks,
         pairs,
+        times,
         live,
         down,
         estimates,
@@ -526,7 +541,7 @@ pub extern "C" fn unit_stops(
 
 // ---- a script
 
-// Prepares a card on the eight areas and makes the calls of a script: a kind, and as many words as that call has. 0 road time is a set,
+// Prepares a card on the nine areas and makes the calls of a script: a kind, and as many words as that call has. 0 road time is a set,
 // 1 junction an aim, 2 junction an estimate, 3 class start r l a go, which is lent the first r entries of the route and l of the log, all
 // if there are fewer, 4 class road time start a preview, which is lent the work area, 5 class s r l and then s stops a list of stops, lent
 // as a go. Any other kind ends the script, and so does a call that is cut short. `out` gets 66 words for each answer: the question that
@@ -538,6 +553,7 @@ pub extern "C" fn unit_replay(
     card: &[u8],
     ranks: &mut [u32],
     pairs: &mut [u32],
+    times: &mut [TimeWord],
     live: &mut [TimeWord],
     down: &mut [TimeWord],
     estimates: &mut [TimeWord],
@@ -550,13 +566,14 @@ pub extern "C" fn unit_replay(
     script: &[u32],
     out: &mut [u64],
 ) -> UnitAnswer
-    ensures { λ r. ⌜ Tells (λ x. ReplayContract (now (card .entry)) (areas ranks pairs live down estimates elapsed leaving groups)
+    ensures { λ r. ⌜ Tells (λ x. ReplayContract (now (card .entry)) (areas ranks pairs times live down estimates elapsed leaving groups)
         (lent route log) (length (now (work .entry))) (now (script .entry)) (now (out .entry)) (now (out .exit)) (answeredIn x)) r ⌝ }
 {
     answer_of(unit_script::replay(
         card,
         ranks,
         pairs,
+        times,
         live,
         down,
         estimates,

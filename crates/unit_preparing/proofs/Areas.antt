@@ -44,6 +44,7 @@ module _ {roads live₀ live : List ℕ} {i : ℕ} (f : Filling roads live₀ li
 pub record Alike {A : Type 0} (x y : Each A) : Type 0 where
   pub ranks : x .built .ranks ≡ y .built .ranks
   pub pairs : x .built .pairs ≡ y .built .pairs
+  pub times : x .built .times ≡ y .built .times
   pub live : x .live ≡ y .live
   pub down : x .aimed .down ≡ y .aimed .down
   pub estimates : x .aimed .estimates ≡ y .aimed .estimates
@@ -53,7 +54,7 @@ pub record Alike {A : Type 0} (x y : Each A) : Type 0 where
 
 pub alike-same : {A : Type 0} {x y : Each A} → Alike x y → x ≡ y
 alike-same e = λ i.
-    areasOf (e .ranks i) (e .pairs i) (e .live i) (e .down i) (e .estimates i) (e .elapsed i) (e .leaving i) (e .groups i)
+    areasOf (e .ranks i) (e .pairs i) (e .times i) (e .live i) (e .down i) (e .estimates i) (e .elapsed i) (e .leaving i) (e .groups i)
 
 -- what `zeroed` leaves is told by the lengths
 abbrev pub zerosOf : Each ℕ → Areas

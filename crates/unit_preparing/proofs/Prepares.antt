@@ -12,7 +12,7 @@ use Rattle.model.specs.Word.{noneWord, unasked, word}
 use Rattle.model.specs.Bytes.{listed}
 use Rattle.model.specs.Layout.{orderIn, placeSize, roadSize, roadsIn}
 use Rattle.model.specs.Card.{cardRefusal, mapOn}
-use Rattle.model.specs.Areas.{Areas, Each, areasOf, freshAreas, groupsOf, leavingOf, lengths, lengthsFit, recordSize, recordsIn}
+use Rattle.model.specs.Areas.{Areas, Each, areasOf, freshAreas, groupsOf, leavingOf, lengths, lengthsFit, recordSize, recordsIn, timesIn}
 use Rattle.model.specs.State.{answering, areasRefusal, noneLent, prepare, roomRefusal, unprepared}
 use Rattle.model.specs.Contracts.{PrepareContract, before}
 use Rattle.model.specs.Laws.{andThen-none, ask-none}
@@ -65,8 +65,9 @@ module _ {card : List ℕ} {s : Sizes} {a : Areas} {roads order : List ℕ} (b :
 
   -- ---- the pairs do not fit: what is left has the lengths of what was lent, and becomes zeros
 
-  pub no-room : {pairs : List ℕ} {z : Contracted} → Contraction (mapIn roads order) (length (a .built .pairs)) pairs z → z ≡ Overflow
-      → {left : Each ℕ} → left ≡ lengths a → {y : Areas} → y ≡ zerosOf left → PrepareContract card a y (handedBack s Overflow)
+  pub no-room : {pairs times : List ℕ} {z : Contracted} → Contraction (mapIn roads order) (length (a .built .pairs)) pairs times z
+      → z ≡ Overflow → {left : Each ℕ} → left ≡ lengths a → {y : Areas} → y ≡ zerosOf left
+      → PrepareContract card a y (handedBack s Overflow)
   unfolding prepare roomRefusal
   no-room c overflows kept zeroed-are =
       let h = contraction-overflow c overflows in
@@ -113,11 +114,12 @@ module _ {card : List ℕ} {s : Sizes} {a : Areas} {roads order : List ℕ} (b :
       (subst₂ (λ (n : ℕ) (m : ℕ). GroupsMade roads n m leaving groups) (sym n-here) (sym m-here) made) in
       (leaving-is ∙ ap leavingOf map-here, groups-are ∙ ap groupsOf map-here)
 
-  pub with-room : {ranks pairs live down estimates elapsed leaving groups : List ℕ} {count : ℕ} → Prepared roads order ranks pairs count
-      → length pairs ≡ length (a .built .pairs) → live ≡ listed (length (a .live)) (baseIn roads)
+  pub with-room : {ranks pairs times live down estimates elapsed leaving groups : List ℕ} {count : ℕ}
+      → Prepared roads order ranks pairs times count → length pairs ≡ length (a .built .pairs)
+      → live ≡ listed (length (a .live)) (baseIn roads)
       → down ≡ replicate (length (a .aimed .down)) noneWord → estimates ≡ replicate (length (a .aimed .estimates)) unasked
       → elapsed ≡ replicate (length (a .trip .elapsed)) noneWord → GroupsMade roads (s .n) (s .m) leaving groups
-      → PrepareContract card a (areasOf ranks pairs live down estimates elapsed leaving groups) (handedBack s (Kept count))
+      → PrepareContract card a (areasOf ranks pairs times live down estimates elapsed leaving groups) (handedBack s (Kept count))
   unfolding prepare roomRefusal
   with-room p k live-is down-is estimates-are elapsed-is groups-made =
       let z = sized (b .accepts) in
@@ -130,6 +132,7 @@ module _ {card : List ℕ} {s : Sizes} {a : Areas} {roads order : List ℕ} (b :
       let fresh = alike-same {y = freshAreas M (length (a .built .pairs))} (record {
         ranks = p .ranks-are ∙ ap (λ (M : Map). listed (M .vertices) (rank M)) map-here;
         pairs = p .pairs-are ∙ ap₂ recordsIn map-here k;
+        times = p .times-are ∙ ap₂ timesIn map-here (p .same-room ∙ k);
         live = live-is ∙ lives;
         down = down-is ∙ ap (λ (n : ℕ). replicate n noneWord) (z .down);
         estimates = estimates-are ∙ ap (λ (n : ℕ). replicate n unasked) (z .estimates);

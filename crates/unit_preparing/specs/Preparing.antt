@@ -2,7 +2,7 @@
 use mathlib.Core.Path.{_≡_}
 use mathlib.Core.Option.{none}
 use mathlib.Core.List.{List}
-use Prim.Native.Nat.{_*_, _+_, ℕ}
+use Prim.Native.Nat.{ℕ}
 use lib.ListN.{length}
 use denote.Ref.{RefT}
 use denote.Triple.Both.{Both}
@@ -18,8 +18,8 @@ use Rattle.pairs_contraction.specs.declared.Contracted.{Contracted}
 use Rattle.pairs_contraction.specs.declared.Contracted.the-variants.{Kept, Overflow}
 
 -- the areas that a function is lent, as its `requires` names them
-abbrev pub held : (ranks pairs live down estimates elapsed leaving groups : RefT (List ℕ)) → Areas
-held r p l d e t g h = areasOf (r .now) (p .now) (l .now) (d .now) (e .now) (t .now) (g .now) (h .now)
+abbrev pub held : (ranks pairs times live down estimates elapsed leaving groups : RefT (List ℕ)) → Areas
+held r p q l d e t g h = areasOf (r .now) (p .now) (q .now) (l .now) (d .now) (e .now) (t .now) (g .now) (h .now)
 
 -- questions 1 to 7 pass, and the card has so many junctions, roads and bytes
 pub record Accepts (card : List ℕ) (s : Sizes) (a : Areas) : Type 0 where

@@ -28,6 +28,7 @@ fn fill_live(roads: &[u8], live: &mut [TimeWord])
 fn clear(
     ranks: &mut [u32],
     pairs: &mut [u32],
+    times: &mut [TimeWord],
     live: &mut [TimeWord],
     down: &mut [TimeWord],
     estimates: &mut [TimeWord],
@@ -35,14 +36,15 @@ fn clear(
     leaving: &mut [u32],
     groups: &mut [u32],
 )
-    ensures { λ _. ⌜ (let a = areas ranks pairs live down estimates elapsed leaving groups in a .exit ≡ zeroed (a .entry)) ⌝ }
+    ensures { λ _. ⌜ (let a = areas ranks pairs times live down estimates elapsed leaving groups in a .exit ≡ zeroed (a .entry)) ⌝ }
 {
     areas::fill(ranks, 0);
     areas::fill(pairs, 0);
-    areas::fill(live, 0);
-    areas::fill(down, 0);
-    areas::fill(estimates, 0);
-    areas::fill(elapsed, 0);
+    areas::fill_times(times, 0);
+    areas::fill_times(live, 0);
+    areas::fill_times(down, 0);
+    areas::fill_times(estimates, 0);
+    areas::fill_times(elapsed, 0);
     areas::fill(leaving, 0);
     areas::fill(groups, 0);
 }
@@ -54,6 +56,7 @@ pub fn prepare_areas(
     card: &[u8],
     ranks: &mut [u32],
     pairs: &mut [u32],
+    times: &mut [TimeWord],
     live: &mut [TimeWord],
     down: &mut [TimeWord],
     estimates: &mut [TimeWord],
@@ -61,17 +64,18 @@ pub fn prepare_areas(
     leaving: &mut [u32],
     groups: &mut [u32],
 ) -> Contracted
-    requires { ⌜ Accepts (now card) s (held ranks pairs live down estimates elapsed leaving groups) ⌝ }
-    ensures { λ z. ⌜ Prepares (now (card .entry)) (areas ranks pairs live down estimates elapsed leaving groups) (handedBack s z) ⌝ }
+    requires { ⌜ Accepts (now card) s (held ranks pairs times live down estimates elapsed leaving groups) ⌝ }
+    ensures { λ z. ⌜ Prepares (now (card .entry)) (areas ranks pairs times live down estimates elapsed leaving groups) (handedBack s z) ⌝ }
 {
     let roads = card_layout::roads_of(card);
     let order = card_layout::order_of(card);
     pairs_contraction::fill_ranks(order, ranks);
-    match pairs_contraction::contract(roads, order, ranks, pairs) {
+    match pairs_contraction::contract(roads, order, ranks, pairs, times) {
         Contracted::Overflow => {
             clear(
                 ranks,
                 pairs,
+                times,
                 live,
                 down,
                 estimates,
@@ -83,9 +87,9 @@ pub fn prepare_areas(
         }
         Contracted::Kept(count) => {
             fill_live(roads, live);
-            areas::fill(down, Time::NONE.0);
-            areas::fill(estimates, Time::UNASKED.0);
-            areas::fill(elapsed, Time::NONE.0);
+            areas::fill_times(down, Time::NONE.0);
+            areas::fill_times(estimates, Time::UNASKED.0);
+            areas::fill_times(elapsed, Time::NONE.0);
             road_groups::group_roads(roads, s.n, s.m, leaving, groups);
             Contracted::Kept(count)
         }

@@ -24,7 +24,8 @@ untouched l = record { entry = l; exit = l }
 -- ---- lengths
 
 abbrev pub lengthsIn : Lengths → Each ℕ
-lengthsIn l = areasOf (l .ranks) (l .pairs) (l .live) (l .down) (l .estimates) (l .elapsed) (l .leaving) (l .groups)
+lengthsIn l =
+    areasOf (l .ranks) (l .pairs) (l .times) (l .live) (l .down) (l .estimates) (l .elapsed) (l .leaving) (l .groups)
 
 -- 9, of a header in range and a card whose table names its bodies
 abbrev pub fitsBy : Header → (card : List ℕ) → Each ℕ → Bool

@@ -20,6 +20,7 @@ use network::TimeWord;
 pub struct Lengths {
     pub ranks: usize,
     pub pairs: usize,
+    pub times: usize,
     pub live: usize,
     pub down: usize,
     pub estimates: usize,
@@ -32,6 +33,7 @@ pub struct Lengths {
 pub fn lengths_of(
     ranks: &[u32],
     pairs: &[u32],
+    times: &[TimeWord],
     live: &[TimeWord],
     down: &[TimeWord],
     estimates: &[TimeWord],
@@ -39,11 +41,12 @@ pub fn lengths_of(
     leaving: &[u32],
     groups: &[u32],
 ) -> Lengths
-    ensures { λ r. ⌜ lengthsIn r ≡ lengths (areas ranks pairs live down estimates elapsed leaving groups .entry) ⌝ }
+    ensures { λ r. ⌜ lengthsIn r ≡ lengths (areas ranks pairs times live down estimates elapsed leaving groups .entry) ⌝ }
 {
     Lengths {
         ranks: ranks.len(),
         pairs: pairs.len(),
+        times: times.len(),
         live: live.len(),
         down: down.len(),
         estimates: estimates.len(),
@@ -53,13 +56,14 @@ pub fn lengths_of(
     }
 }
 
-// Words of records, with room for so many pairs.
-fn room_fits(pairs: u32, room: usize) -> bool
-    ensures { λ r. ⌜ r ≡ roomFits pairs room ⌝ }
+// Words of records, of ranks and of times as many, with room for so many pairs.
+fn room_fits(count: u32, pairs: usize, times: usize) -> bool
+    ensures { λ r. ⌜ r ≡ roomFits count pairs times ⌝ }
 {
-    (room % network::RECORD == 0)
-        & (network::RECORD * (pairs as usize) <= room)
-        & (room <= network::MOST_PAIR_WORDS)
+    (times == pairs)
+        & (pairs % network::RECORD == 0)
+        & (network::RECORD * (count as usize) <= pairs)
+        & (pairs <= network::MOST_PAIR_WORDS)
 }
 
 // Question 7, and of 9 what it says of the areas.
@@ -69,7 +73,7 @@ pub fn lengths_fit(s: Sizes, l: Lengths) -> bool
     let n = s.n as usize;
     let m = s.m as usize;
     (l.ranks == n)
-        & room_fits(s.pairs, l.pairs)
+        & room_fits(s.pairs, l.pairs, l.times)
         & (l.live == m)
         & (l.down == n)
         & (l.estimates == n)

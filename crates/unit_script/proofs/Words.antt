@@ -12,7 +12,7 @@ use native.Mathlib.Decide.{decLt}
 use native.Mathlib.Omega.{arith}
 use Rattle.graph.specs.Total.{Tested, decide}
 use Rattle.model.specs.Calls.{Go, Plain, Preview, Set, Stops}
-use Rattle.unit_script.specs.Words.{Lending, callAt, endAt, spelled, stopsAt, withAll, wordsOf}
+use Rattle.unit_script.specs.Words.{Lending, callAt, endAt, spelled, stopsAt, timeOf, withAll, wordsOf}
 
 -- ---- the words of a call
 
@@ -29,29 +29,30 @@ none-of {kind = suc (suc (suc (suc (suc zero))))} stops a b c d e f = absurd (f 
 none-of {kind = suc (suc (suc (suc (suc (suc k)))))} stops a b c d e f = refl
 
 -- a call of a kind is what its words spell
-module _ (one two three four : ℕ) (stops : List ℕ) (l : Lending) where
-  pub spells-set : {kind t : ℕ} → kind ≡ 0 → t ≡ two → withAll l (Set one t) ≡ spelled kind one two three four stops l
+module _ (one two three four five : ℕ) (stops : List ℕ) (l : Lending) where
+  pub spells-set : {kind t : ℕ} → kind ≡ 0 → t ≡ timeOf two three → withAll l (Set one t) ≡ spelled kind one two three four five stops l
   spells-set e f = rw (e, f)
 
-  pub spells : {kind k : ℕ} → kind ≡ k → spelled k one two three four stops l ≡ spelled kind one two three four stops l
+  pub spells : {kind k : ℕ} → kind ≡ k → spelled k one two three four five stops l ≡ spelled kind one two three four five stops l
   spells e = rw e
 
-  pub spells-preview : {kind t : ℕ} → kind ≡ 4 → t ≡ three
-      → withAll l (Preview one two t four (l .work)) ≡ spelled kind one two three four stops l
+  pub spells-preview : {kind t : ℕ} → kind ≡ 4 → t ≡ timeOf three four
+      → withAll l (Preview one two t five (l .work)) ≡ spelled kind one two three four five stops l
   spells-preview e f = rw (e, f)
 
   module _ {kind i j : ℕ} (route-is : i ≡ min three (l .route)) (log-is : j ≡ min four (l .log)) where
-    pub spells-go : kind ≡ 3 → _≡_ {A = Plain} (record { asked = Go one two; route = i; log = j }) (spelled kind one two three four stops l)
+    pub spells-go : kind ≡ 3
+        → _≡_ {A = Plain} (record { asked = Go one two; route = i; log = j }) (spelled kind one two three four five stops l)
     spells-go e = rw (e, route-is, log-is)
 
     pub spells-stops : kind ≢ 0 → kind ≢ 1 → kind ≢ 2 → kind ≢ 4 → kind ≢ 3
-        → _≡_ {A = Plain} (record { asked = Stops one stops; route = i; log = j }) (spelled kind one two three four stops l)
+        → _≡_ {A = Plain} (record { asked = Stops one stops; route = i; log = j }) (spelled kind one two three four five stops l)
     spells-stops a b c d e =
         ap₂ (λ (x : ℕ) (y : ℕ). record { asked = Stops one stops; route = x; log = y }) route-is log-is ∙ go kind a b c d e
       where
         go : (k : ℕ) → k ≢ 0 → k ≢ 1 → k ≢ 2 → k ≢ 4 → k ≢ 3
             → _≡_ {A = Plain} (record { asked = Stops one stops; route = min three (l .route); log = min four (l .log) })
-            (spelled k one two three four stops l)
+            (spelled k one two three four five stops l)
         go zero a b c d e = absurd (a refl)
         go (suc zero) a b c d e = absurd (b refl)
         go (suc (suc zero)) a b c d e = absurd (c refl)
@@ -60,14 +61,14 @@ module _ (one two three four : ℕ) (stops : List ℕ) (l : Lending) where
         go (suc (suc (suc (suc (suc k))))) a b c d e = refl
 
 -- it is lent no more entries than there are
-spelled-fits : (kind one two three four : ℕ) (stops : List ℕ) (l : Lending)
-    → (spelled kind one two three four stops l .route ≤ l .route) × (spelled kind one two three four stops l .log ≤ l .log)
-spelled-fits zero one two three four stops l = (omega arith, omega arith)
-spelled-fits (suc zero) one two three four stops l = (omega arith, omega arith)
-spelled-fits (suc (suc zero)) one two three four stops l = (omega arith, omega arith)
-spelled-fits (suc (suc (suc zero))) one two three four stops l = (omega arith, omega arith)
-spelled-fits (suc (suc (suc (suc zero)))) one two three four stops l = (omega arith, omega arith)
-spelled-fits (suc (suc (suc (suc (suc k))))) one two three four stops l = (omega arith, omega arith)
+spelled-fits : (kind one two three four five : ℕ) (stops : List ℕ) (l : Lending)
+    → (spelled kind one two three four five stops l .route ≤ l .route) × (spelled kind one two three four five stops l .log ≤ l .log)
+spelled-fits zero one two three four five stops l = (omega arith, omega arith)
+spelled-fits (suc zero) one two three four five stops l = (omega arith, omega arith)
+spelled-fits (suc (suc zero)) one two three four five stops l = (omega arith, omega arith)
+spelled-fits (suc (suc (suc zero))) one two three four five stops l = (omega arith, omega arith)
+spelled-fits (suc (suc (suc (suc zero)))) one two three four five stops l = (omega arith, omega arith)
+spelled-fits (suc (suc (suc (suc (suc k))))) one two three four five stops l = (omega arith, omega arith)
 
 -- ---- at a place of a script
 
@@ -105,18 +106,18 @@ pub call-fits : (script : List ℕ) (at : ℕ) (l : Lending) {p : Plain} → p �
 call-fits script at l e =
     subst (λ (q : Plain). (q .route ≤ l .route) × (q .log ≤ l .log)) (sym e)
     (spelled-fits (getD script at 0) (getD script (at + 1) 0) (getD script (at + 2) 0) (getD script (at + 3) 0) (getD script (at + 4) 0)
-    (stopsAt script at) l)
+    (getD script (at + 5) 0) (stopsAt script at) l)
 
-call-of : {kind one two three four kind′ one′ two′ three′ four′ : ℕ}
-    → kind ≡ kind′ → one ≡ one′ → two ≡ two′ → three ≡ three′ → four ≡ four′ → (stops : List ℕ) (l : Lending) {p : Plain}
-    → p ≡ spelled kind one two three four stops l → p ≡ spelled kind′ one′ two′ three′ four′ stops l
-call-of a b c d e stops l p-is = p-is ∙ rw (a, b, c, d, e)
+call-of : {kind one two three four five kind′ one′ two′ three′ four′ five′ : ℕ} → kind ≡ kind′ → one ≡ one′ → two ≡ two′
+    → three ≡ three′ → four ≡ four′ → five ≡ five′ → (stops : List ℕ) (l : Lending) {p : Plain}
+    → p ≡ spelled kind one two three four five stops l → p ≡ spelled kind′ one′ two′ three′ four′ five′ stops l
+call-of a b c d e f stops l p-is = p-is ∙ rw (a, b, c, d, e, f)
 
 -- the call there, of the words from there on
-pub call-there : (script : List ℕ) (at : ℕ) (l : Lending) {kind one two three four : ℕ} {p : Plain} → kind ≡ getD script (at + 0) 0
+pub call-there : (script : List ℕ) (at : ℕ) (l : Lending) {kind one two three four five : ℕ} {p : Plain} → kind ≡ getD script (at + 0) 0
     → one ≡ getD script (at + 1) 0 → two ≡ getD script (at + 2) 0 → three ≡ getD script (at + 3) 0 → four ≡ getD script (at + 4) 0
-    → p ≡ spelled kind one two three four (stopsAt script at) l → p ≡ callAt script at l
-call-there script at l a b c d e p-is = call-of (a ∙ kind-at script at) b c d e (stopsAt script at) l p-is
+    → five ≡ getD script (at + 5) 0 → p ≡ spelled kind one two three four five (stopsAt script at) l → p ≡ callAt script at l
+call-there script at l a b c d e f p-is = call-of (a ∙ kind-at script at) b c d e f (stopsAt script at) l p-is
 
 -- ---- the stops of a list
 

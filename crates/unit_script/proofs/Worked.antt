@@ -5,6 +5,7 @@ use mathlib.Core.Option.{none, some}
 use mathlib.Core.List.{List, [], _++_, _∷_}
 use Prim.Native.Nat.{_*_, _-_, ℕ}
 use lib.ListN.{replicate}
+use Rattle.model.specs.Word.{noneWord}
 use Rattle.model.specs.Limits.{mostLegs}
 use Rattle.model.specs.Preview.{previewAnswer}
 use Rattle.model.specs.Stops.{stopsAnswer}
@@ -20,9 +21,10 @@ abbrev whole : Asked → Plain
 whole a = record { asked = a; route = 2; log = 3 }
 
 -- set, aim, estimate, go of class 6, which asks for one entry of the route and for more of the log than there are, and preview of class 2
-each-call : scripted (0 ∷ 5 ∷ 60 ∷ 1 ∷ 7 ∷ 2 ∷ 8 ∷ 3 ∷ 6 ∷ 9 ∷ 1 ∷ 100 ∷ 4 ∷ 2 ∷ 5 ∷ 61 ∷ 9 ∷ []) beside 0 9
+-- with a time of more than 32 bits
+each-call : scripted (0 ∷ 5 ∷ 60 ∷ 0 ∷ 1 ∷ 7 ∷ 2 ∷ 8 ∷ 3 ∷ 6 ∷ 9 ∷ 1 ∷ 100 ∷ 4 ∷ 2 ∷ 5 ∷ 61 ∷ 2 ∷ 9 ∷ []) beside 0 9
     ≡ whole (Set 5 60) ∷ whole (Aim 7) ∷ whole (Estimate 8) ∷ record { asked = Go 6 9; route = 1; log = 3 }
-    ∷ whole (Preview 2 5 61 9 8) ∷ []
+    ∷ whole (Preview 2 5 8589934653 9 8) ∷ []
 each-call = refl
 
 -- a kind that is none ends a script, whatever follows
@@ -33,8 +35,12 @@ unknown-kind = refl
 cut-short-call : scripted (1 ∷ 7 ∷ 3 ∷ 6 ∷ 9 ∷ 1 ∷ []) beside 0 9 ≡ whole (Aim 7) ∷ []
 cut-short-call = refl
 
-cut-short-preview : scripted (1 ∷ 7 ∷ 4 ∷ 2 ∷ 5 ∷ 61 ∷ []) beside 0 9 ≡ whole (Aim 7) ∷ []
+cut-short-preview : scripted (1 ∷ 7 ∷ 4 ∷ 2 ∷ 5 ∷ 61 ∷ 0 ∷ []) beside 0 9 ≡ whole (Aim 7) ∷ []
 cut-short-preview = refl
+
+-- a set lacks the upper word of its time
+cut-short-set : scripted (1 ∷ 7 ∷ 0 ∷ 5 ∷ 60 ∷ []) beside 0 9 ≡ whole (Aim 7) ∷ []
+cut-short-set = refl
 
 no-room : scripted (1 ∷ 7 ∷ 1 ∷ 8 ∷ []) beside 0 1 ≡ whole (Aim 7) ∷ []
 no-room = refl
@@ -57,14 +63,14 @@ no-stops = refl
 abbrev no-legs-from : (k : ℕ) → List ℕ
 no-legs-from k = replicate (2 * mostLegs - 2 * k) 0
 
--- a change of 5 seconds down is a word in two's complement; where a total is none there is no change
+-- a change of 5 down is a word in two's complement; where a total is none there is no change
 five-down : answerWords (previewAnswer (some 25) (some 20)) ≡ (0 ∷ 25 ∷ 20 ∷ 18446744073709551611 ∷ []) ++ no-legs-from 0
 five-down = refl
 
-no-new-total : answerWords (previewAnswer (some 25) none) ≡ (0 ∷ 25 ∷ 4294967295 ∷ 0 ∷ []) ++ no-legs-from 0
+no-new-total : answerWords (previewAnswer (some 25) none) ≡ (0 ∷ 25 ∷ noneWord ∷ 0 ∷ []) ++ no-legs-from 0
 no-new-total = refl
 
--- two legs of 20 seconds, of two roads and of one
+-- two legs of 20, of two roads and of one
 two-legs : answerWords (stopsAnswer true (record { total = 20; roads = 2 } ∷ record { total = 20; roads = 1 } ∷ []))
     ≡ (0 ∷ 40 ∷ 0 ∷ 2 ∷ 20 ∷ 2 ∷ 20 ∷ 1 ∷ []) ++ no-legs-from 2
 two-legs = refl

@@ -17,22 +17,27 @@ use Rattle.unit_script.specs.declared.Scripted.{Scripted}
 use Rattle.unit_script.specs.declared.Made.{Made}
 
 -- ---- a call: its kind, and as many words as that call has
---      0 road time
+--      0 road time time′
 --      1 junction
 --      2 junction
 --      3 class start route log
---      4 class road time start
+--      4 class road time time′ start
 --      5 class stops route log stop ..
+--    a time is 64 bits wide and takes two words, the lower one first
 
 -- how many words a call has, its kind with them; a list of stops says in its third word how many it has; 0 for a kind that is none
 abbrev pub wordsOf : (kind stops : ℕ) → ℕ
-wordsOf zero stops = 3
+wordsOf zero stops = 4
 wordsOf (suc zero) stops = 2
 wordsOf (suc (suc zero)) stops = 2
 wordsOf (suc (suc (suc zero))) stops = 5
-wordsOf (suc (suc (suc (suc zero)))) stops = 5
+wordsOf (suc (suc (suc (suc zero)))) stops = 6
 wordsOf (suc (suc (suc (suc (suc zero))))) stops = 5 + stops
 wordsOf (suc (suc (suc (suc (suc (suc k)))))) stops = 0
+
+-- the time of two words
+abbrev pub timeOf : (lower upper : ℕ) → ℕ
+timeOf lower upper = lower + 4294967296 * upper
 
 -- how many entries the areas have that are lent to the calls of a script
 pub record Lending : Type 0 where
@@ -44,17 +49,17 @@ pub record Lending : Type 0 where
 abbrev pub withAll : Lending → Asked → Plain
 withAll l a = record { asked = a; route = l .route; log = l .log }
 
--- the call that a kind and four words spell, with the stops behind them, beside areas of so many entries: the last two words of a go and
+-- the call that a kind and five words spell, with the stops behind them, beside areas of so many entries: the last two words of a go and
 -- of a list of stops say how many entries of route and log it is lent, all of an area that has fewer; any other call is lent all of both,
 -- and leaves them; a preview is lent the whole work area
-abbrev pub spelled : (kind one two three four : ℕ) → (stops : List ℕ) → Lending → Plain
-spelled zero one two three four stops l = withAll l (Set one two)
-spelled (suc zero) one two three four stops l = withAll l (Aim one)
-spelled (suc (suc zero)) one two three four stops l = withAll l (Estimate one)
-spelled (suc (suc (suc zero))) one two three four stops l =
+abbrev pub spelled : (kind one two three four five : ℕ) → (stops : List ℕ) → Lending → Plain
+spelled zero one two three four five stops l = withAll l (Set one (timeOf two three))
+spelled (suc zero) one two three four five stops l = withAll l (Aim one)
+spelled (suc (suc zero)) one two three four five stops l = withAll l (Estimate one)
+spelled (suc (suc (suc zero))) one two three four five stops l =
     record { asked = Go one two; route = min three (l .route); log = min four (l .log) }
-spelled (suc (suc (suc (suc zero)))) one two three four stops l = withAll l (Preview one two three four (l .work))
-spelled (suc (suc (suc (suc (suc k))))) one two three four stops l =
+spelled (suc (suc (suc (suc zero)))) one two three four five stops l = withAll l (Preview one two (timeOf three four) five (l .work))
+spelled (suc (suc (suc (suc (suc k))))) one two three four five stops l =
     record { asked = Stops one stops; route = min three (l .route); log = min four (l .log) }
 
 -- the code's form of what is asked, beside a work area of so many entries and with these stops
@@ -87,7 +92,7 @@ stopsAt script at = take (getD script (at + 2) 0) (drop (at + 5) script)
 abbrev pub callAt : (script : List ℕ) → (at : ℕ) → Lending → Plain
 callAt script at =
     spelled (getD script at 0) (getD script (at + 1) 0) (getD script (at + 2) 0) (getD script (at + 3) 0) (getD script (at + 4) 0)
-    (stopsAt script at)
+    (getD script (at + 5) 0) (stopsAt script at)
 
 -- ---- answers
 

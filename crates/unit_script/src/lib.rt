@@ -12,7 +12,7 @@ ghost use Rattle.unit.specs.Shape.{answeredIn, headerIn};
 ghost use Rattle.unit_stops.specs.Shape.{stoppingIn};
 ghost use Rattle.unit_stops.specs.Legs.{Rest};
 ghost use Rattle.unit_script.specs.Words.{answerSize, answerWords, changeWord, legsWords, madeWords, putAt, roomIn};
-ghost use Rattle.unit_script.specs.Words.{callAt, endAt, scriptedIn, spelled, stopsAt, wordsOf};
+ghost use Rattle.unit_script.specs.Words.{callAt, endAt, scriptedIn, spelled, stopsAt, timeOf, wordsOf};
 ghost use Rattle.unit_script.specs.Script.{MakeContract, OneContract, ReplayContract, isNext};
 use network::Junction;
 use network::Time;
@@ -44,18 +44,23 @@ struct Scripted {
     log: usize,
 }
 
-// Set: `0 road time`.
-const SET_WORDS: usize = 3;
+// A time takes two words, the lower one first.
+
+// Set: `0 road time time`.
+const SET_WORDS: usize = 4;
 // Aim: `1 junction`.
 const AIM_WORDS: usize = 2;
 // Estimate: `2 junction`.
 const ESTIMATE_WORDS: usize = 2;
 // Go: `3 class start route log`.
 const GO_WORDS: usize = 5;
-// Preview: `4 class road time start`.
-const PREVIEW_WORDS: usize = 5;
+// Preview: `4 class road time time start`.
+const PREVIEW_WORDS: usize = 6;
 // Stops: `5 class stops route log`, and then so many stops.
 const STOPS_WORDS: usize = 5;
+
+// So many numbers a word of a script tells.
+const WORD: TimeWord = 4294967296;
 
 // How many words a call has, its kind with them, by its kind and its third word; 0 for a kind that is none.
 fn words_of(kind: u32, stops: u32) -> usize
@@ -101,14 +106,30 @@ fn lending(call: Call, route: usize, log: usize) -> Scripted
     }
 }
 
-// The call that a kind and four words spell, beside areas of so many entries. A go and a list of stops are lent as many of them as the last
+// The time of two words.
+fn time_of(lower: u32, upper: u32) -> Time
+    ensures { λ r. ⌜ r .0 ≡ timeOf lower upper ⌝ }
+{
+    Time::of_word(lower as TimeWord + WORD * (upper as TimeWord))
+}
+
+// The call that a kind and five words spell, beside areas of so many entries. A go and a list of stops are lent as many of them as the last
 // two words say, all of an area that has fewer; any other call is lent all, and leaves them.
-fn spell(kind: u32, one: u32, two: u32, three: u32, four: u32, route: usize, log: usize) -> Scripted
+fn spell(
+    kind: u32,
+    one: u32,
+    two: u32,
+    three: u32,
+    four: u32,
+    five: u32,
+    route: usize,
+    log: usize,
+) -> Scripted
     ensures { λ r. ⌜ ((w : ℕ) (stops : List ℕ)
-        → scriptedIn r w stops ≡ spelled kind one two three four stops (record { route = route; log = log; work = w })) ⌝ }
+        → scriptedIn r w stops ≡ spelled kind one two three four five stops (record { route = route; log = log; work = w })) ⌝ }
 {
     if kind == 0 {
-        return lending(Call::Set(one, Time::of_word(two)), route, log);
+        return lending(Call::Set(one, time_of(two, three)), route, log);
     }
     if kind == 1 {
         return lending(Call::Aim(Junction(one)), route, log);
@@ -118,7 +139,7 @@ fn spell(kind: u32, one: u32, two: u32, three: u32, four: u32, route: usize, log
     }
     if kind == 4 {
         return Scripted {
-            asked: Asked::Preview(one, two, Time::of_word(three), Junction(four)),
+            asked: Asked::Preview(one, two, time_of(three, four), Junction(five)),
             route: route,
             log: log,
         };
@@ -170,6 +191,7 @@ fn call_at(script: &[u32], at: usize, route: usize, log: usize) -> Scripted
         word_at(script, at, 2),
         word_at(script, at, 3),
         word_at(script, at, 4),
+        word_at(script, at, 5),
         route,
         log,
     )
@@ -350,6 +372,7 @@ fn make_call(
     card: &[u8],
     ranks: &[u32],
     pairs: &[u32],
+    times: &[TimeWord],
     live: &mut [TimeWord],
     down: &mut [TimeWord],
     estimates: &mut [TimeWord],
@@ -363,7 +386,7 @@ fn make_call(
     c: Scripted,
 ) -> Made
     requires { ⌜ (c .route ≤ length (now route)) × (c .log ≤ length (now log)) ⌝ }
-    ensures { λ r. ⌜ OneContract (now (card .entry)) (headerIn header) (areas ranks pairs live down estimates elapsed leaving groups)
+    ensures { λ r. ⌜ OneContract (now (card .entry)) (headerIn header) (areas ranks pairs times live down estimates elapsed leaving groups)
         (lent route log) (scriptedIn c (length (now (work .entry))) (now (stops .entry))) (headerIn (r .header)) (madeWords r) ⌝ }
 {
     let asked = c.asked;
@@ -375,6 +398,7 @@ fn make_call(
             card,
             ranks,
             pairs,
+            times,
             live,
             down,
             estimates,
@@ -389,6 +413,7 @@ fn make_call(
             card,
             ranks,
             pairs,
+            times,
             live,
             down,
             estimates,
@@ -406,6 +431,7 @@ fn make_call(
             card,
             ranks,
             pairs,
+            times,
             live,
             down,
             estimates,
@@ -426,6 +452,7 @@ fn make_calls(
     card: &[u8],
     ranks: &[u32],
     pairs: &[u32],
+    times: &[TimeWord],
     live: &mut [TimeWord],
     down: &mut [TimeWord],
     estimates: &mut [TimeWord],
@@ -438,7 +465,7 @@ fn make_calls(
     script: &[u32],
     out: &mut [u64],
 ) -> Header
-    ensures { λ h. ⌜ MakeContract (now (card .entry)) (headerIn start) (areas ranks pairs live down estimates elapsed leaving groups)
+    ensures { λ h. ⌜ MakeContract (now (card .entry)) (headerIn start) (areas ranks pairs times live down estimates elapsed leaving groups)
         (lent route log) (length (now (work .entry))) (now (script .entry)) (now (out .entry)) (now (out .exit)) (headerIn h) ⌝ }
 {
     let room = room_in(out.len());
@@ -452,6 +479,7 @@ fn make_calls(
             card,
             ranks,
             pairs,
+            times,
             live,
             down,
             estimates,
@@ -478,6 +506,7 @@ pub fn replay(
     card: &[u8],
     ranks: &mut [u32],
     pairs: &mut [u32],
+    times: &mut [TimeWord],
     live: &mut [TimeWord],
     down: &mut [TimeWord],
     estimates: &mut [TimeWord],
@@ -490,13 +519,14 @@ pub fn replay(
     script: &[u32],
     out: &mut [u64],
 ) -> Answered
-    ensures { λ r. ⌜ ReplayContract (now (card .entry)) (areas ranks pairs live down estimates elapsed leaving groups) (lent route log)
-        (length (now (work .entry))) (now (script .entry)) (now (out .entry)) (now (out .exit)) (answeredIn r) ⌝ }
+    ensures { λ r. ⌜ ReplayContract (now (card .entry)) (areas ranks pairs times live down estimates elapsed leaving groups)
+        (lent route log) (length (now (work .entry))) (now (script .entry)) (now (out .entry)) (now (out .exit)) (answeredIn r) ⌝ }
 {
     let prepared = unit_switch_on::prepare(
         card,
         ranks,
         pairs,
+        times,
         live,
         down,
         estimates,
@@ -511,6 +541,7 @@ pub fn replay(
         card,
         ranks,
         pairs,
+        times,
         live,
         down,
         estimates,

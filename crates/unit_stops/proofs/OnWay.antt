@@ -5,7 +5,6 @@ use mathlib.Core.Bool.{true}
 use mathlib.Core.Option.{none, some}
 use mathlib.Core.List.{List, List·Memᴰ·head, List·Memᴰ·tail, [], _++_, _∷_, append-assoc, append-nil}
 use Prim.Native.Nat.{_*_, _+_, _-_, _<_, _≤_, min, suc, zero, ℕ}
-use borrow.Author.Tests.{le-ltb}
 use lib.ListN.{drop, drop-of-length-le, getD, length, length-drop, set, take, take-append-drop}
 use lib.Seq.{append-snoc, drop-append-add, drop-cons, getD-set-other, getD-set-same, length-take-le, take-append-add}
 use native.Mathlib.Nat.{mul-le-mul-right, not-suc-le-zero}
@@ -16,6 +15,7 @@ use Rattle.graph.specs.Bound.{CostsAtMost}
 use Rattle.graph.specs.Search.{routeOf, totalOf}
 use Rattle.graph.specs.Stops.{Below}
 use Rattle.graph.specs.Map.{Map, liveNet, timeOf-bound}
+use Rattle.model.specs.Word.{ofWord-some, unasked}
 use Rattle.model.specs.Types.{Accepted, Answer, Estimated, Gone, Leg, NoLeg, Previewed, Refused, Stopped}
 use Rattle.model.specs.Limits.{mostStops, mostTime, mostTotal}
 use Rattle.model.specs.LimitLaws.{totals-fit}
@@ -28,7 +28,8 @@ use Rattle.model.specs.Calls.{Left}
 use Rattle.model.specs.Accept.{card-facts}
 use Rattle.model.specs.Good.{Good, StopsPassed, aim-good, leg-good, met-good, settable-most}
 use Rattle.model.specs.GoProof.{SameLengths, go-lengths, route-short, total-is}
-use Rattle.unit_stops.specs.Shape.{largest, legsFrom, sumIn}
+use Rattle.network.specs.Width.{fit-in}
+use Rattle.unit_stops.specs.Shape.{legsFrom, sumIn}
 use Rattle.unit_stops.proofs.OneLeg.{LegDone}
 
 -- ---- stops
@@ -159,7 +160,9 @@ module _ {card : List ℕ} {s : State} (g : Good card s) where
 
 -- a sum of few totals is formed
 sum-is : {i whole t : ℕ} → i < mostStops → whole ≤ i * mostTotal → t ≤ mostTotal → sumIn whole t ≡ whole + t
-sum-is {i} {whole} {t} li small fits = rw (le-ltb (largest - whole) t (omega (arith, li, small, fits)))
+sum-is {i} {whole} {t} li small fits =
+    let low : whole + t < unasked = omega (arith, li, small, fits) in
+    rw (ofWord-some whole (omega (arith, low)), ofWord-some t (omega (arith, low)), fit-in (whole + t) low)
 
 -- ---- on the way
 

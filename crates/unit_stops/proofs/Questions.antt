@@ -1,4 +1,4 @@
--- What the functions that ask say, in the words of the definitions; and sums. Assumes nothing.
+-- What the functions that ask say, in the words of the definitions. Assumes nothing.
 use mathlib.Core.Path.{_∙_, _≡_, ap, ap₂, sym}
 use mathlib.Core.Logic.{_≢_}
 use mathlib.Core.Bool.{Bool, _&&_, false, true}
@@ -22,7 +22,6 @@ use Rattle.model.specs.Stops.{allBelow, stopsRefusal}
 use Rattle.model.specs.Calls.{Stops}
 use Rattle.unit_questions.specs.Lending.{fitsBy}
 use Rattle.unit.specs.Meets.{asks}
-use Rattle.unit_stops.specs.Shape.{largest, sumIn}
 
 -- ---- 12: the stops from i on decide, those before it being below n
 
@@ -75,11 +74,3 @@ pub stops-asks : (base : ℕ → Total) (h : Header) (card : List ℕ) (l : Each
     → x ≡ asks base h card l (Stops c stops) r k
 unfolding stopsRefusal
 stops-asks base h card l c stops r k e = e
-
--- ---- sums
-
-pub sum-over : (a b : ℕ) → largest - a < b → largest ≡ sumIn a b
-sum-over a b h = rw (lt-ltb (largest - a) b h)
-
-pub sum-within : (a b : ℕ) → b ≤ largest - a → a + b ≡ sumIn a b
-sum-within a b h = rw (le-ltb (largest - a) b h)

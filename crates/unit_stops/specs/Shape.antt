@@ -1,11 +1,12 @@
--- What a list of stops hands back, as the model's; and sums that stay within 64 bits. Definitions only.
-use mathlib.Core.Bool.{cond}
+-- What a list of stops hands back, as the model's; and the sum of two totals. Definitions only.
 use mathlib.Core.List.{List, [], _∷_}
-use Prim.Native.Nat.{_+_, _-_, suc, zero, ℕ}
-use lib.Dec.{ltb}
+use Prim.Native.Nat.{suc, zero, ℕ}
 use lib.ListN.{getD, replicate}
+use Rattle.graph.specs.Total.{_⊕_}
 use Rattle.model.specs.Types as model
+use Rattle.model.specs.Word.{ofWord, word}
 use Rattle.model.specs.Limits.{mostLegs}
+use Rattle.network.specs.Width.{fit}
 use Rattle.network.specs.Refusals.{refusalIn}
 use Rattle.unit_stops.specs.declared.Legs.{Legs}
 use Rattle.unit_stops.specs.declared.Stopping.{Stopping}
@@ -29,9 +30,6 @@ legCount (Stopped k whole) = k
 abbrev pub noLegs : Legs
 noLegs = record { totals = replicate mostLegs 0; roads = replicate mostLegs 0 }
 
--- the largest 64-bit number, and the sum of two up to it
-abbrev pub largest : ℕ
-largest = 18446744073709551615
-
+-- the sum of two totals by their words; the mark none where it does not fit
 abbrev pub sumIn : ℕ → ℕ → ℕ
-sumIn a b = cond (ltb (largest - a) b) largest (a + b)
+sumIn a b = word (fit (ofWord a ⊕ ofWord b))

@@ -18,6 +18,7 @@ use network::FEWEST_STOPS;
 use network::Junction;
 use network::MOST_STOPS;
 use network::Refusal;
+use network::Time;
 use network::TimeWord;
 use network::Verdict;
 use unit::Answered;
@@ -115,6 +116,7 @@ fn leg(
     card: &[u8],
     ranks: &[u32],
     pairs: &[u32],
+    times: &[TimeWord],
     live: &[TimeWord],
     down: &mut [TimeWord],
     estimates: &mut [TimeWord],
@@ -127,13 +129,14 @@ fn leg(
     from: Junction,
     to: Junction,
 ) -> Answered
-    ensures { λ r. ⌜ LegMade (now (card .entry)) (headerIn header) (areas ranks pairs live down estimates elapsed leaving groups)
+    ensures { λ r. ⌜ LegMade (now (card .entry)) (headerIn header) (areas ranks pairs times live down estimates elapsed leaving groups)
         (lent route log) class (from .0) (to .0) (answeredIn r) ⌝ }
 {
     let aimed = header.aim(
         card,
         ranks,
         pairs,
+        times,
         live,
         down,
         estimates,
@@ -147,6 +150,7 @@ fn leg(
         card,
         ranks,
         pairs,
+        times,
         live,
         down,
         estimates,
@@ -160,12 +164,11 @@ fn leg(
     )
 }
 
-// The sum of two totals; the largest number where it does not fit, which no list of calls makes.
+// The sum of two totals; the mark none where it does not fit, which no list of calls makes.
 fn sum(a: u64, b: u64) -> u64
     ensures { λ r. ⌜ r ≡ sumIn a b ⌝ }
 {
-    let most = 0xFFFF_FFFF_FFFF_FFFF;
-    if most - a < b { most } else { a + b }
+    Time::of_word(a).plus(Time::of_word(b)).word()
 }
 
 // So many entries on, at most to the end of an area of `most` entries.
@@ -199,6 +202,7 @@ fn journey(
     card: &[u8],
     ranks: &[u32],
     pairs: &[u32],
+    times: &[TimeWord],
     live: &[TimeWord],
     down: &mut [TimeWord],
     estimates: &mut [TimeWord],
@@ -211,7 +215,7 @@ fn journey(
     stops: &[u32],
 ) -> Stopped
     requires { ⌜ RoomFor (now stops) ⌝ }
-    ensures { λ r. ⌜ Journeys (now (card .entry)) (headerIn header) (areas ranks pairs live down estimates elapsed leaving groups)
+    ensures { λ r. ⌜ Journeys (now (card .entry)) (headerIn header) (areas ranks pairs times live down estimates elapsed leaving groups)
         (lent route log) class (now (stops .entry)) r ⌝ }
 {
     let mut totals = [0u64; MOST_LEGS];
@@ -230,6 +234,7 @@ fn journey(
             card,
             ranks,
             pairs,
+            times,
             live,
             down,
             estimates,
@@ -275,6 +280,7 @@ pub fn stops(
     card: &[u8],
     ranks: &[u32],
     pairs: &[u32],
+    times: &[TimeWord],
     live: &[TimeWord],
     down: &mut [TimeWord],
     estimates: &mut [TimeWord],
@@ -286,12 +292,13 @@ pub fn stops(
     class: u32,
     stops: &[u32],
 ) -> Stopped
-    ensures { λ r. ⌜ MeetsStops (now (card .entry)) header (areas ranks pairs live down estimates elapsed leaving groups)
+    ensures { λ r. ⌜ MeetsStops (now (card .entry)) header (areas ranks pairs times live down estimates elapsed leaving groups)
         (lent route log) class (now (stops .entry)) r ⌝ }
 {
     let l = unit_questions::lengths_of(
         ranks,
         pairs,
+        times,
         live,
         down,
         estimates,
@@ -306,6 +313,7 @@ pub fn stops(
             card,
             ranks,
             pairs,
+            times,
             live,
             down,
             estimates,

@@ -91,6 +91,7 @@ pub fn prepare(
     card: &[u8],
     ranks: &mut [u32],
     pairs: &mut [u32],
+    times: &mut [TimeWord],
     live: &mut [TimeWord],
     down: &mut [TimeWord],
     estimates: &mut [TimeWord],
@@ -98,11 +99,12 @@ pub fn prepare(
     leaving: &mut [u32],
     groups: &mut [u32],
 ) -> Answered
-    ensures { λ r. ⌜ Prepares (now (card .entry)) (areas ranks pairs live down estimates elapsed leaving groups) (answeredIn r) ⌝ }
+    ensures { λ r. ⌜ Prepares (now (card .entry)) (areas ranks pairs times live down estimates elapsed leaving groups) (answeredIn r) ⌝ }
 {
     let l = unit_questions::lengths_of(
         ranks,
         pairs,
+        times,
         live,
         down,
         estimates,
@@ -118,6 +120,7 @@ pub fn prepare(
                 card,
                 ranks,
                 pairs,
+                times,
                 live,
                 down,
                 estimates,

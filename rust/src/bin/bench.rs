@@ -3,8 +3,8 @@
 
 use harness::areas;
 use harness::both::Both;
-use harness::calls::{Calls, Previewed, Refusal, Stopped};
-use harness::card::{self, LONGEST, MOST_JUNCTIONS};
+use harness::calls::{Call, Calls, Previewed, Refusal, Stopped};
+use harness::card::{self, LONGEST, MOST_JUNCTIONS, MOST_ROADS};
 use harness::dijkstra;
 use harness::graph::Graph;
 use harness::maps::{self, Map, Streets};
@@ -15,7 +15,7 @@ use harness::search::{search, Search};
 use harness::text;
 use harness::time::{Time, NONE};
 use harness::traffic;
-use harness::unit::{self, Unit};
+use harness::unit::{self, LentAreas, Unit};
 use std::ffi::OsString;
 use std::fmt::{self, Display, Formatter};
 use std::hint::black_box;
@@ -635,7 +635,8 @@ struct Report {
 
 const ABOUT: &str = "\
 The proved unit beside plain Rust, in towns of 200 to 4,096 junctions: grids with missing and one-way streets, in least-degree
-orders. Times are µs a call; a ratio is the unit's time divided by the one before it, both of this run: the functions are called in
+orders. Times of roads are 64-bit words in all of these programs alike (A7); the unit tests of each sum that it fits before it adds, the
+others add. What is told are µs a call; a ratio is the unit's time divided by the one before it, both of this run: the functions are called in
 turn, and of each case the least of many runs counts. Made by
 
     rt check && rt staticlib unit_c && cargo run --release --offline --manifest-path rust/Cargo.toml --target-dir target/cargo --bin bench -- --write
@@ -646,10 +647,10 @@ none, in a least-degree one, and has a table of its own at the end, under its na
 - **Rust**: the same step as one would write it in Rust (`rust/src/router.rs`), over structures of its own. It lists the roads by tail in
   `prepare`, as the unit does; the rest the unit's areas have no place for: heads beside these roads, the roads by head, where the pairs of
   each rank begin, a list of the lower ranks that a row has pairs with, a binary heap.
-- **areas**: the same step in Rust over the unit's areas and nothing else (`rust/src/areas.rs`): records of four words in one
-  slice, where a bisection finds those of a rank; the order read from the card. With the arguments, the answer and the questions of the unit's
-  function: a header that goes in by value and comes back, so that a call waits for the one before; nine slices; question 9 on their
-  lengths. Of a `set`, which stores one word, that is nearly all; the methods under *Rust* are inlined and have none of it. Both
+- **areas**: the same step in Rust over the unit's areas and nothing else (`rust/src/areas.rs`): two ranks of each record in one
+  slice, where a bisection finds those of a rank, and its two times in another; the order read from the card. With the arguments, the answer
+  and the questions of the unit's function: a header that goes in by value and comes back, so that a call waits for the one before; ten
+  slices; question 9 on their lengths. Of a `set`, which stores one word, that is nearly all; the methods under *Rust* are inlined and have none of it. Both
   hand the header's words back as the header file says.
 - **Dijkstra**: Dijkstra's algorithm with a binary heap, which finds the total alone.
 - **A\\***: A\\* with each junction's least base total to the target handed to it free. It logs what the unit logs.
@@ -681,7 +682,8 @@ of a second go there at 5 % (34 µs, then 22 µs), until the words of the queue 
 
 /// Counts, taken by hand; to be taken again when the questions of a set change.
 const SET_GOES_INTO: &str = "
-What a `set` goes into: instructions a call (callgrind, 2026-11-17, all sets of a round in the town of 200; the same in that of 4,096).
+What a `set` goes into: instructions a call (callgrind, 2026-11-17, at landing 16, before A7's ninth area; all sets of a round in the town of
+200; the same in that of 4,096).
 
 |  | unit, landing 15 | unit | Rust on the areas |
 |:--|--:|--:|--:|
@@ -699,15 +701,42 @@ What a `set` goes into: instructions a call (callgrind, 2026-11-17, all sets of 
 - The twin's caller hands it three pointers fewer: LLVM leaves out those of areas that it does not read, which it cannot for an export.
 ";
 
+/// Two runs of landing 17, kept: the tree before it and the tree with it.
+const A7_COSTS: &str = "
+What A7's width costs: microseconds of the unit before A7 (landing 16) and since, in two runs one after the other on one machine.
+
+| step | 200 | 1,000 | 4,096 | Liechtenstein |
+|:--|--:|--:|--:|--:|
+| read | 0.548 to 0.548 | 2.62 to 2.62 | 10.8 to 10.8 | 4.81 to 4.81 |
+| write | 0.660 to 0.669 | 3.40 to 3.40 | 14.2 to 14.1 | 6.22 to 6.26 |
+| prepare | 21.3 to 22.9 | 373 to 394 | 3336 to 3450 | 525 to 548 |
+| aim | 0.667 to 0.720 | 4.61 to 4.95 | 30.6 to 32.6 | 3.30 to 3.54 |
+| one estimate after aim | 0.810 to 0.861 | 3.18 to 3.49 | 19.4 to 22.1 | 1.23 to 1.31 |
+| all n estimates after aim | 17.8 to 20.3 | 99.4 to 111 | 530 to 582 | 208 to 231 |
+| set | 0.0305 to 0.0320 | 0.0305 to 0.0321 | 0.0305 to 0.0321 | 0.0305 to 0.0321 |
+| preview | 3.90 to 4.00 | 14.1 to 15.0 | 67.3 to 73.4 | 28.5 to 29.7 |
+| preview again | 1.80 to 1.86 | 3.82 to 4.04 | 10.4 to 11.1 | 11.8 to 12.4 |
+| stops | 23.4 to 24.5 | 103 to 110 | 561 to 631 | 126 to 131 |
+| go, 0 % of roads changed | 2.97 to 3.03 | 10.8 to 11.5 | 51.4 to 56.5 | 16.3 to 16.9 |
+| again, 0 % of roads changed | 0.890 to 0.929 | 1.84 to 1.97 | 4.35 to 4.70 | 5.03 to 5.23 |
+| go, 1 % of roads changed | 2.94 to 3.03 | 12.0 to 12.8 | 71.3 to 73.4 | 21.1 to 21.9 |
+| again, 1 % of roads changed | 0.926 to 0.963 | 2.23 to 2.38 | 7.86 to 8.33 | 6.91 to 7.16 |
+| go, 5 % of roads changed | 4.33 to 4.46 | 14.6 to 15.3 | 67.4 to 72.4 | 55.0 to 56.7 |
+| again, 5 % of roads changed | 1.90 to 2.00 | 3.25 to 3.44 | 9.74 to 10.2 | 22.4 to 23.4 |
+| go, 10 % of roads barred | 2.84 to 2.99 | 20.7 to 21.5 | 118 to 123 | 73.2 to 74.8 |
+| again, 10 % of roads barred | 0.898 to 0.934 | 5.21 to 5.39 | 25.8 to 26.2 | 31.6 to 32.3 |
+";
+
 /// The largest town's ratios as earlier landings left them, in the columns of `Report::landings`.
 #[rustfmt::skip]
-const BEFORE: [[&str; 8]; 6] = [
+const BEFORE: [[&str; 8]; 7] = [
     ["8, before A1", "1.52", "2.65 (3.90)", "1.98 (2.84)", "1.57 (2.33)", "", "", ""],
     ["9, A1", "1.53", "0.892 (1.35)", "0.853 (1.30)", "0.833 (1.26)", "", "", ""],
     ["10, A2", "1.43", "0.889 (1.37)", "0.857 (1.25)", "0.775 (1.06)", "", "1.16 (1.20)", ""],
     ["11, A3", "1.47", "0.910 (1.48)", "0.790 (1.19)", "0.803 (1.16)", "", "1.14 (1.18)", "1.03 (0.819)"],
     ["12, A4", "1.54", "0.857 (1.27)", "0.820 (1.20)", "0.818 (1.19)", "", "1.05 (1.08)", "0.957 (0.758)"],
     ["13, A5", "1.57", "0.976 (1.45)", "1.00 (1.53)", "1.03 (1.56)", "", "1.30 (1.33)", "0.962 (0.764)"],
+    ["15, A6", "1.57", "0.895 (1.31)", "0.824 (1.25)", "0.815 (1.21)", "0.801 (1.12)", "1.17 (1.21)", "0.954 (0.755)"],
 ];
 
 impl Display for Report {
@@ -720,7 +749,9 @@ impl Display for Report {
         self.growth(f)?;
         f.write_str(GOES_INTO)?;
         f.write_str(SET_GOES_INTO)?;
+        f.write_str(A7_COSTS)?;
         self.landings(f)?;
+        Report::memory(f)?;
         for (name, file) in &self.files {
             let (n, m, pairs) = (file.map.n(), file.map.m(), file.pairs);
             write!(f, "\n## {name}\n\n{n} junctions, {m} roads, {pairs} pairs.\n\n")?;
@@ -817,6 +848,49 @@ impl Report {
         let [prepare, preview, stops] = ["prepare", "preview again", "stops"].map(ratio);
         writeln!(f, "| this run | {prepare} | {} | {preview} | {stops} |", again.join(" | "))
     }
+
+    /// What the areas of the largest unit take, and what they took before A7.
+    fn memory(f: &mut Formatter) -> fmt::Result {
+        let (n, m) = (MOST_JUNCTIONS, MOST_ROADS);
+        f.write_str("\nBytes of the areas of a unit with room for all that a card may have (4,096 junctions, 16,384 roads, ")?;
+        f.write_str("65,536 pairs), before A7\nand since. Until then all words had 32 bits, and a pair's four stood in one area.\n\n")?;
+        f.write_str("| area | words | bits | bytes | before A7 |\n|:--|--:|--:|--:|--:|\n")?;
+        let unit = Unit::new(&[], n, m, MOST_PAIRS);
+        let work =
+            LentAreas::of(Call::Preview { class: 0, road: 0, time: 0, start: 0, work: 2 * n });
+        let mut sums = [0; 2];
+        let areas = unit.areas().map(|(name, area)| (name, area.len(), area.width()));
+        let lent = ("work area of a preview", work.work.len(), size_of::<Time>());
+        for (i, (name, len, width)) in areas.into_iter().chain([lent]).enumerate() {
+            let before = match name {
+                "pairs" => 4 * 2 * len,
+                "pair times" => 0,
+                _ => 4 * len,
+            };
+            let bytes = width * len;
+            if i == areas.len() {
+                let [now, then] = sums.map(grouped);
+                writeln!(f, "| the unit's | | | {now} | {then} |")?;
+            }
+            let [words, now, then] = [len, bytes, before].map(grouped);
+            writeln!(f, "| {name} | {words} | {} | {now} | {then} |", 8 * width)?;
+            sums = [sums[0] + bytes, sums[1] + before];
+        }
+        Ok(())
+    }
+}
+
+/// A number with a comma before each three digits.
+fn grouped(number: usize) -> String {
+    let digits = number.to_string();
+    let (mut text, len) = (String::new(), digits.len());
+    for (i, digit) in digits.chars().enumerate() {
+        if i > 0 && (len - i) % 3 == 0 {
+            text.push(',');
+        }
+        text.push(digit);
+    }
+    text
 }
 
 /// A row of a table: a number, a step and numbers, the last of them two.
@@ -865,8 +939,6 @@ fn date() -> String {
 #[cfg(test)]
 mod tests {
     use super::*;
-    use harness::calls::Call;
-    use harness::card::MOST_ROADS;
 
     fn asked(arguments: &[&str]) -> Result<Asked, String> {
         Asked::of(arguments.iter().map(OsString::from))
@@ -930,7 +1002,7 @@ mod tests {
         for (text, message) in [
             ("order 0 1", "no road, so none to set"),
             ("", "no road and no order, so no junction"),
-            ("road 0 1 5\nroad 1 0", "line 2: a road has 3 numbers: TAIL HEAD SECONDS, not 2"),
+            ("road 0 1 5\nroad 1 0", "line 2: a road has 3 numbers: TAIL HEAD TENTHS, not 2"),
             ("road 0 4096 5", "line 1: junction 4096 is not below 4096"),
         ] {
             assert_eq!(fitting(text.as_bytes()), Err(message.to_string()), "{text:?}");
@@ -1005,12 +1077,40 @@ mod tests {
         });
         let report = Report { towns, files: vec![] }.to_string();
         let (_, table) = report.split_once("by landing").unwrap();
+        let (table, _) = table.split_once("\nBytes of the areas").unwrap();
         let rows: Vec<&str> = table.lines().filter(|line| line.starts_with('|')).collect();
         let columns = rows.iter().map(|row| row.matches('|').count());
         assert_eq!(columns.collect::<Vec<_>>(), [9; 3 + BEFORE.len()], "{table}");
         let last =
             "| this run | 1.50 (0.500) | 1.50 (0.500) |  |  |  | 1.50 (0.500) | 1.50 (0.500) |";
         assert_eq!(rows.last(), Some(&last));
+    }
+
+    /// 64-bit words for times, and 32-bit ones for all else; before A7 all had 32 bits.
+    #[test]
+    fn memory_in_the_report() {
+        struct Memory;
+        impl Display for Memory {
+            fn fmt(&self, f: &mut Formatter) -> fmt::Result {
+                Report::memory(f)
+            }
+        }
+        let table = Memory.to_string();
+        let rows: Vec<&str> = table.lines().filter(|line| line.starts_with('|')).skip(2).collect();
+        let want = [
+            "| ranks | 4,096 | 32 | 16,384 | 16,384 |",
+            "| pairs | 131,072 | 32 | 524,288 | 1,048,576 |",
+            "| pair times | 131,072 | 64 | 1,048,576 | 0 |",
+            "| live times | 16,384 | 64 | 131,072 | 65,536 |",
+            "| down totals | 4,096 | 64 | 32,768 | 16,384 |",
+            "| estimates | 4,096 | 64 | 32,768 | 16,384 |",
+            "| elapsed | 4,096 | 64 | 32,768 | 16,384 |",
+            "| leaving | 16,384 | 32 | 65,536 | 65,536 |",
+            "| groups | 4,097 | 32 | 16,388 | 16,388 |",
+            "| the unit's | | | 1,900,548 | 1,261,572 |",
+            "| work area of a preview | 8,192 | 64 | 65,536 | 32,768 |",
+        ];
+        assert_eq!(rows, want);
     }
 
     /// Files come after the towns and the growth, each with its name once and its own rows.

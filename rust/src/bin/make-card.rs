@@ -12,8 +12,8 @@ use std::path::{Path, PathBuf};
 use std::{env, fs, process};
 
 const USAGE: &str = "\
-make-card TEXT CARD     makes the card of a map: lines `road TAIL HEAD SECONDS`, with `classes 0,2-5` behind it if only
-                        these vehicle classes may use it, and, if you like, `order J J ..`
+make-card TEXT CARD     makes the card of a map: lines `road TAIL HEAD TENTHS`, its time in tenths of a second, with
+                        `classes 0,2-5` behind it if only these vehicle classes may use it, and, if you like, `order J J ..`
 make-card --text CARD   prints the lines of a card";
 
 /// What the program has room for: junctions, roads and pairs.

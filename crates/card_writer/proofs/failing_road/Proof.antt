@@ -22,10 +22,10 @@ abbrev at-loop : tie.In-loop Inv-loop μ-loop → tie.At-loop Inv-loop μ-loop
 at-loop c = c .before
 
 abbrev start : tie.In-loop Inv-loop μ-loop → tie.Start Inv-loop μ-loop
-start c = c .before .before .before .before
+start c = at-loop c .before .before .before
 
 abbrev in-loop : tie.After-road-ok Inv-loop μ-loop → tie.In-loop Inv-loop μ-loop
-in-loop c = c .before .before .before .before
+in-loop c = c .before .before .before .before .before
 
 -- the test of road i answers what question 5 says of it
 road-tested : (c : tie.After-road-ok Inv-loop μ-loop) →
@@ -34,7 +34,8 @@ road-tested : (c : tie.After-road-ok Inv-loop μ-loop) →
 road-tested c =
     let start = start (in-loop c) in
     let loop = at-loop (in-loop c) .loop in
-    road-known (rowsOf (start .args .roads .now) (start .args .order .now)) (loop .i) (loop .inv .n-is) refl refl refl (c .road-ok .ensures)
+    road-known (rowsOf (start .args .roads .now) (start .args .order .now)) (loop .i) (loop .inv .n-is) refl refl
+    (c .before .time-of .ensures) (c .road-ok .ensures)
 
 -- ---- the answers
 
@@ -73,6 +74,7 @@ failing-road-spec =
     (λ c. search needs)
     (λ c. search needs)
     (λ c. search needs)
+    (λ c κs. search needs)
     (λ c κs. search needs)
     returns
     (λ c. search needs)

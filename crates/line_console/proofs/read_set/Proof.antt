@@ -1,4 +1,5 @@
--- Two numbers are a set of the time that the second one is the word of (`set-is`); else the line is unreadable, by the definition of `two`.
+-- Two numbers are a set of the road that `in_range` makes of the first and of the time whose word is the second (`set-is`); else the line
+-- is unreadable, by the definition of `two`.
 use Rattle.line_console.proofs.Calls.{set-is}
 use borrow.Author.Needs.{needs}
 use Rattle.line_console.proofs.read_set.Statement.{statement}
@@ -6,9 +7,9 @@ use Rattle.line_console.proofs.read_set.Tie as tie
 
 returns : tie.Need-returns
 returns c =
-    let after-time = c .before .before in
+    let after-time = c .before .before .before in
     let after-road = after-time .before .before .before in
-    set-is (after-road .road .given .1) (after-time .time .given .1) (c .of-word .ensures)
+    set-is (after-road .road .given .1) (after-time .time .given .1) (c .before .in-range .ensures) (c .of-word .ensures)
 
 pub read-set-spec : {M : Type 1} → statement M
 read-set-spec =
@@ -16,6 +17,7 @@ read-set-spec =
     (tie.spec
     (λ c. search needs)
     (λ c. search needs)
+    (λ c κs. search needs)
     (λ c κs. search needs)
     (λ c. search needs)
     (λ c. search needs)

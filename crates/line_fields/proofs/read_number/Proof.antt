@@ -73,11 +73,10 @@ read-number-spec =
     returns-3
     returns-4
     (λ c. search needs)
-    (λ c. search needs)
-    (λ c. search needs)
     returns-5
     (λ c. search needs)
     (λ c. search needs)
-    loop-again
     (λ c. search needs)
+    (λ c. search needs)
+    loop-again
     returns-6)

@@ -1,5 +1,5 @@
 -- Each turn adds the records of one rank, and leaves what the next one asks (`Ready`). After the last rank all kept pairs stand in the
--- area, and the rest is cleared (`contract-end`); a row without room means that they do not fit (`contract-overflow`).
+-- two areas, and the rest is cleared (`contract-end`); a row without room means that they do not fit (`contract-overflow`).
 use Prim.Native.Nat.{_-_, _<_, _≤_, ℕ}
 use mathlib.Core.Path.{_∙_, refl}
 use mathlib.Core.List.{List}
@@ -26,15 +26,17 @@ record Contracting (roads ranks : List ℕ) (n : ℕ) (a₀ : Lent) (r count : �
   lengths : SameLengths a₀ a
   ready : ReadyIn (direct (netIn roads ranks)) (length ranks) r count a
 
-abbrev areas : (pairs cursor ahead ends soon ups downs : List ℕ) → Lent
-areas p c a e s u d = record { pairs = p; cursor = c; ahead = a; ends = e; soon = s; ups = u; downs = d }
+abbrev areas : (pairs times cursor ahead ends soon ups downs : List ℕ) → Lent
+areas p q c a e s u d = record { pairs = p; times = q; cursor = c; ahead = a; ends = e; soon = s; ups = u; downs = d }
 
 abbrev Inv-loop : tie.InvT-loop
-Inv-loop roads _ ranks pairs₀ n _ _ cursor₀ ahead₀ ends₀ soon₀ ups₀ downs₀ _ _ pairs cursor ahead ends soon ups downs count r =
-    Contracting roads ranks n (areas pairs₀ cursor₀ ahead₀ ends₀ soon₀ ups₀ downs₀) r count (areas pairs cursor ahead ends soon ups downs)
+Inv-loop roads _ ranks pairs₀ times₀ n _ _ cursor₀ ahead₀ ends₀ soon₀ ups₀ downs₀ _ _ pairs times cursor ahead ends soon ups downs count r =
+    Contracting roads ranks n (areas pairs₀ times₀ cursor₀ ahead₀ ends₀ soon₀ ups₀ downs₀) r count
+    (areas pairs times cursor ahead ends soon ups downs)
 
 abbrev μ-loop : tie.MeasureT-loop
-μ-loop roads _ ranks pairs₀ n _ _ cursor₀ ahead₀ ends₀ soon₀ ups₀ downs₀ _ _ pairs cursor ahead ends soon ups downs count r = n - r
+μ-loop roads _ ranks pairs₀ times₀ n _ _ cursor₀ ahead₀ ends₀ soon₀ ups₀ downs₀ _ _ pairs times cursor ahead ends soon ups downs count r =
+    n - r
 
 -- ---- the map, and its roads linked
 
@@ -42,7 +44,7 @@ given : (c : tie.Start Inv-loop μ-loop) → Given (c .args .roads .now) (c .arg
 given c = record { sound = c .pre .0; ranks-are = c .pre .1 }
 
 abbrev called : tie.After-link-roads Inv-loop μ-loop → tie.Start Inv-loop μ-loop
-called c = c .before .before .before .before .before .before .before
+called c = c .before .before .before .before .before .before .before .before
 
 -- the roads are linked by their rows
 linked : (c : tie.After-link-roads Inv-loop μ-loop) → let (_, (_, (first, (next, _)))) = c .link-roads .last in
@@ -69,30 +71,44 @@ rank-in : (c : tie.In-loop Inv-loop μ-loop) → c .before .loop .r < length (st
 rank-in c = omega (arith, c .loop-test .taken, ranks-number (given (start (c .before))))
 
 abbrev in-loop : tie.After-contract-row Inv-loop μ-loop → tie.In-loop Inv-loop μ-loop
-in-loop c = c .before .before .before .before .before .before .before .before .before .before
+in-loop c = c .before .before .before .before .before .before .before .before .before .before .before
 
 -- making its row changes no length
-lengths-kept : (c : tie.After-contract-row Inv-loop μ-loop) →
-    let l = in-loop c .before .loop in
-    let (_, (_, (_, (_, (_, (cursor, (ahead, (ends, (soon, (ups, (downs, (pairs, _)))))))))))) = c .contract-row .last in
-    SameLengths (areas (l .pairs) (l .cursor) (l .ahead) (l .ends) (l .soon) (l .ups) (l .downs))
-    (areas pairs cursor ahead ends soon ups downs)
+lengths-kept : (c : tie.After-contract-row Inv-loop μ-loop) → let l = in-loop c .before .loop in
+    let (_, (_, (_, (_, (_, (cursor, (ahead, (ends, (soon, (ups, (downs, (pairs, (times, _))))))))))))) = c .contract-row .last in
+    SameLengths (areas (l .pairs) (l .times) (l .cursor) (l .ahead) (l .ends) (l .soon) (l .ups) (l .downs))
+    (areas pairs times cursor ahead ends soon ups downs)
 lengths-kept c =
-    let (_, (_, (_, (_, (_, (cursor, (ahead, (ends, (soon, (ups, (downs, (pairs, _)))))))))))) = c .contract-row .kept in
-    record { pairs = pairs; cursor = cursor; ahead = ahead; ends = ends; soon = soon; ups = ups; downs = downs }
+    let (_, (_, (_, (_, (_, (cursor, (ahead, (ends, (soon, (ups, (downs, (pairs, (times, _))))))))))))) = c .contract-row .kept in
+    record { pairs = pairs; times = times; cursor = cursor; ahead = ahead; ends = ends; soon = soon; ups = ups; downs = downs }
+
+-- it does not fit
+abbrev overflowed : tie.After-enum-told Inv-loop μ-loop → tie.After-contract-row Inv-loop μ-loop
+overflowed c = c .before .before .before .before .before .before .before .before .before .before .before .before
+
+-- it does
+abbrev fitted : tie.After-known-told Inv-loop μ-loop → tie.After-contract-row Inv-loop μ-loop
+fitted c = c .before .before .before .before .before .before .before .before .before .before .before .before .before
+
+-- all rows are made, and the rest is cleared
+abbrev after-clear-from : tie.After-slice-known6 Inv-loop μ-loop → tie.After-clear-from Inv-loop μ-loop
+after-clear-from c = c .before .before .before .before
+
+abbrev after-loop : tie.After-clear-from Inv-loop μ-loop → tie.After-loop Inv-loop μ-loop
+after-loop c = c .before .before .before
 
 -- ---- the answers
 
 cast-n : tie.Need-cast-n Inv-loop μ-loop
 cast-n c =
-    let start = c .before .before .before .before in
+    let start = c .before .before .before .before .before in
     let number = ranks-number (given start) in
     let most = ranks-most (given start) in
     search needs
 
 link-roads-requires : tie.Need-link-roads-requires Inv-loop μ-loop
 link-roads-requires c κs =
-    let start = c .before .before .before .before .before .before in
+    let start = c .before .before .before .before .before .before .before in
     let map = given start in record {
       ranked = ranked map;
       firsts-in = long mostJunctions 0 (ranks-most map);
@@ -102,12 +118,12 @@ link-roads-requires c κs =
 
 loop-holds : tie.Need-loop-holds Inv-loop μ-loop
 loop-holds c =
-    let start = c .before .before .before .before .before .before .before .before .before in
-    record { to-go = search needs; lengths = lengths-same; ready = ready-start (given start) (start .pre .2) }
+    let start = c .before .before .before .before .before .before .before .before .before .before in
+    record { to-go = search needs; lengths = lengths-same; ready = ready-start (given start) (start .pre .2) (start .pre .3) }
 
 contract-row-requires : tie.Need-contract-row-requires Inv-loop μ-loop
 contract-row-requires c κs =
-    let in-loop = c .before .before .before .before .before .before .before .before .before in
+    let in-loop = c .before .before .before .before .before .before .before .before .before .before in
     let at-loop = in-loop .before in record {
       grouped = linked (after-link-roads at-loop);
       ready = at-loop .loop .inv .ready;
@@ -117,58 +133,66 @@ contract-row-requires c κs =
 
 same-length : tie.Need-same-length Inv-loop μ-loop
 same-length c =
-    let after-contract-row = c .before .before .before .before .before .before .before .before .before .before in
-    lengths-kept after-contract-row .pairs ∙ in-loop after-contract-row .before .loop .inv .lengths .pairs
+    let row-made = overflowed c in
+    lengths-kept row-made .pairs ∙ in-loop row-made .before .loop .inv .lengths .pairs
+
+same-length-2 : tie.Need-same-length-2 Inv-loop μ-loop
+same-length-2 c =
+    let row-made = overflowed c in
+    lengths-kept row-made .times ∙ in-loop row-made .before .loop .inv .lengths .times
 
 returns : tie.Need-returns Inv-loop μ-loop
 returns c =
-    let after-contract-row = c .before .before .before .before .before .before .before .before .before .before in
-    let in-loop = in-loop after-contract-row in
+    let row-made = overflowed c in
+    let in-loop = in-loop row-made in
     let at-loop = in-loop .before in
-    contract-overflow (given (start at-loop)) (rank-in in-loop)
-    (lengths-kept after-contract-row .pairs ∙ at-loop .loop .inv .lengths .pairs)
-    (after-contract-row .contract-row .ensures .overflow (c .enum-told .given .1))
+    contract-overflow (given (start at-loop)) (rank-in in-loop) (lengths-kept row-made .pairs ∙ at-loop .loop .inv .lengths .pairs)
+    (row-made .contract-row .ensures .overflow (c .enum-told .given .1))
 
 add-r : tie.Need-add-r Inv-loop μ-loop
 add-r c =
-    let after-contract-row = c .before .before .before .before .before .before .before .before .before .before .before in
-    let in-loop = in-loop after-contract-row in
+    let in-loop = in-loop (fitted c) in
     row-fits (rank-in in-loop) (ranks-most (given (start (in-loop .before))))
 
 loop-less : tie.Need-loop-less Inv-loop μ-loop
-loop-less c =
-    let after-contract-row = c .before .before .before .before .before .before .before .before .before .before .before in
-    less (in-loop after-contract-row .loop-test .taken)
+loop-less c = less (in-loop (fitted c) .loop-test .taken)
 
 loop-again : tie.Need-loop-again Inv-loop μ-loop
 loop-again c =
-    let after-contract-row = c .before .before .before .before .before .before .before .before .before .before .before in
-    let in-loop = in-loop after-contract-row in record {
+    let in-loop = in-loop (fitted c) in record {
       to-go = lt-next (in-loop .loop-test .taken);
-      lengths = lengths-on (in-loop .before .loop .inv .lengths) (lengths-kept after-contract-row);
-      ready = next-ready (after-contract-row .contract-row .ensures .kept _ (c .before .k .given .1));
+      lengths = lengths-on (in-loop .before .loop .inv .lengths) (lengths-kept (fitted c));
+      ready = next-ready (fitted c .contract-row .ensures .kept _ (c .before .k .given .1));
     }
 
 clear-from-requires : tie.Need-clear-from-requires Inv-loop μ-loop
 clear-from-requires c κs =
-    let at-loop = c .before .before in
-    at-loop .loop .inv .ready .holds .room
+    let at-loop = c .before .before .before in
+    let holds = at-loop .loop .inv .ready .holds in
+    (holds .room, holds .same-room)
 
-same-length-2 : tie.Need-same-length-2 Inv-loop μ-loop
-same-length-2 c =
-    let after-clear-from = c .before .before in
-    let at-loop = after-clear-from .before .before .before in
-    after-clear-from .clear-from .kept .0 ∙ at-loop .loop .inv .lengths .pairs
+same-length-3 : tie.Need-same-length-3 Inv-loop μ-loop
+same-length-3 c =
+    let after-clear-from = after-clear-from c in
+    let (pairs-kept, _) = after-clear-from .clear-from .kept in
+    pairs-kept ∙ after-loop after-clear-from .before .loop .inv .lengths .pairs
+
+same-length-4 : tie.Need-same-length-4 Inv-loop μ-loop
+same-length-4 c =
+    let after-clear-from = after-clear-from c in
+    let (_, (times-kept, _)) = after-clear-from .clear-from .kept in
+    times-kept ∙ after-loop after-clear-from .before .loop .inv .lengths .times
 
 returns-2 : tie.Need-returns-2 Inv-loop μ-loop
 returns-2 c =
-    let after-clear-from = c .before .before in
-    let after-loop = after-clear-from .before .before in
+    let after-clear-from = after-clear-from c in
+    let after-loop = after-loop after-clear-from in
     let at-loop = after-loop .before in
     let inv = at-loop .loop .inv in
     let map = given (start at-loop) in
+    let (pairs-cleared, times-cleared) = after-clear-from .clear-from .ensures in
     contract-end map (omega (arith, after-loop .loop-test .left, inv .to-go, ranks-number map)) (inv .lengths .pairs) (inv .ready)
-    (after-clear-from .clear-from .ensures)
+    pairs-cleared times-cleared
 
 pub contract-spec : {M : Type 1} → statement M
 contract-spec =
@@ -210,11 +234,13 @@ contract-spec =
     contract-row-requires
     (λ c. c .match .keys1)
     same-length
+    same-length-2
     returns
     (λ c. c .match .keys2)
     add-r
     loop-less
     loop-again
     clear-from-requires
-    same-length-2
+    same-length-3
+    same-length-4
     returns-2)

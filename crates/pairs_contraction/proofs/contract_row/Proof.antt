@@ -19,16 +19,20 @@ use Rattle.pairs_contraction.proofs.contract_row.Tie as tie
 -- ---- the places: the row is relaxed by its roads, passed over the lower ranks, and appended
 
 abbrev start : tie.After-relax-roads → tie.Start
-start c = c .before .before .before .before .before .before .before .before .before .before .before .before .before .before .before .before
+start c =
+    c .before .before .before .before .before .before .before .before .before .before .before .before .before .before .before
+    .before .before
 
 abbrev relaxed : tie.After-pass-lower → tie.After-relax-roads
-relaxed c = c .before .before .before .before .before .before .before .before .before .before .before .before .before .before
+relaxed c = c .before .before .before .before .before .before .before .before .before .before .before .before .before .before .before
 
 abbrev passed : tie.After-append-row → tie.After-pass-lower
-passed c = c .before .before .before .before .before .before .before .before .before .before .before .before .before .before .before .before
+passed c =
+    c .before .before .before .before .before .before .before .before .before .before .before .before .before .before .before
+    .before .before
 
 abbrev appended : tie.After-k → tie.After-append-row
-appended c = c .before .before .before .before .before .before .before .before
+appended c = c .before .before .before .before .before .before .before .before .before .before
 
 abbrev fitted : tie.After-begin-front → tie.After-k
 fitted c = c .before .before .before .before .before .before .before .before
@@ -49,30 +53,31 @@ rank s = s .args .at .0 .0
 
 abbrev lent : tie.Start → Lent
 lent s =
-    lentOf (s .args .pairs) (s .args .cursor) (s .args .ahead) (s .args .ends) (s .args .soon) (s .args .ups) (s .args .downs)
+    lentOf (s .args .pairs) (s .args .times) (s .args .cursor) (s .args .ahead) (s .args .ends) (s .args .soon) (s .args .ups)
+    (s .args .downs)
 
 abbrev lent-passed : tie.After-pass-lower → Lent
 lent-passed c =
     let a = lent (start (relaxed c)) in
-    let (_, (_, (_, (cursor, (ahead, (_, (soon, (ups, (downs, _))))))))) = c .pass-lower .last in
-    record { pairs = a .pairs; cursor = cursor; ahead = ahead; ends = a .ends; soon = soon; ups = ups; downs = downs }
+    let (_, (_, (_, (_, (cursor, (ahead, (_, (soon, (ups, (downs, _)))))))))) = c .pass-lower .last in
+    record { pairs = a .pairs; times = a .times; cursor = cursor; ahead = ahead; ends = a .ends; soon = soon; ups = ups; downs = downs }
 
 abbrev marks-passed : tie.After-pass-lower → List ℕ
 marks-passed c =
-    let (_, (_, (_, (_, (_, (_, (_, (_, (_, (touched, _)))))))))) = c .pass-lower .last in
+    let (_, (_, (_, (_, (_, (_, (_, (_, (_, (_, (touched, _))))))))))) = c .pass-lower .last in
     touched
 
 abbrev lent-appended : tie.After-append-row → Lent
 lent-appended c =
     let a = lent-passed (passed c) in
-    let (_, (_, (_, (_, (ups, (downs, (pairs, _))))))) = c .append-row .last in
-    record { pairs = pairs; cursor = a .cursor; ahead = a .ahead; ends = a .ends; soon = a .soon; ups = ups; downs = downs }
+    let (_, (_, (_, (_, (ups, (downs, (pairs, (times, _)))))))) = c .append-row .last in
+    record { pairs = pairs; times = times; cursor = a .cursor; ahead = a .ahead; ends = a .ends; soon = a .soon; ups = ups; downs = downs }
 
 abbrev lent-begun : tie.After-begin-front → Lent
 lent-begun c =
     let a = lent-appended (appended (fitted c)) in
     let (_, (_, (_, (_, (cursor, (ahead, (ends, (soon, _)))))))) = c .begin-front .last in
-    record { pairs = a .pairs; cursor = cursor; ahead = ahead; ends = ends; soon = soon; ups = a .ups; downs = a .downs }
+    record { pairs = a .pairs; times = a .times; cursor = cursor; ahead = ahead; ends = ends; soon = soon; ups = a .ups; downs = a .downs }
 
 -- ---- what is known there
 
@@ -85,17 +90,18 @@ lower c =
 
 -- its records stand in the area too, if they fit
 row-appended : (c : tie.After-append-row) → let s = called c in let a = lent-appended c in
-    RowAppended (weights s) (number s) (rank s) (a .ups) (a .downs) (a .pairs) (c .append-row .result)
+    RowAppended (weights s) (number s) (rank s) (a .ups) (a .downs) (a .pairs) (a .times) (c .append-row .result)
 row-appended c = c .append-row .ensures _ (row-times (called c .pre .ready) (lower (passed c)))
 
 -- no area has another length
 lengths-appended : (c : tie.After-append-row) → SameLengths (lent (called c)) (lent-appended c)
 lengths-appended c =
     let (_, (_, (_, (_, (_, (ups-relaxed, (downs-relaxed, _))))))) = relaxed (passed c) .relax-roads .kept in
-    let (_, (_, (_, (cursor-kept, (ahead-kept, (_, (soon-kept, (ups-passed, (downs-passed, _))))))))) = passed c .pass-lower .kept in
-    let (_, (_, (_, (_, (ups-taken, (downs-taken, (pairs-kept, _))))))) = c .append-row .kept in
+    let (_, (_, (_, (_, (cursor-kept, (ahead-kept, (_, (soon-kept, (ups-passed, (downs-passed, _)))))))))) = passed c .pass-lower .kept in
+    let (_, (_, (_, (_, (ups-taken, (downs-taken, (pairs-kept, (times-kept, _)))))))) = c .append-row .kept in
     record {
       pairs = pairs-kept;
+      times = times-kept;
       cursor = cursor-kept;
       ahead = ahead-kept;
       ends = refl;
@@ -110,6 +116,7 @@ lengths-begun c =
     let (_, (_, (_, (_, (cursor-kept, (ahead-kept, (ends-kept, (soon-kept, _)))))))) = c .begin-front .kept in
     record {
       pairs = so-far .pairs;
+      times = so-far .times;
       cursor = cursor-kept ∙ so-far .cursor;
       ahead = ahead-kept ∙ so-far .ahead;
       ends = ends-kept;
@@ -122,7 +129,8 @@ lengths-begun c =
 
 relax-roads-requires : tie.Need-relax-roads-requires
 relax-roads-requires c κs =
-    let start = c .before .before .before .before .before .before .before .before .before .before .before .before .before .before .before in
+    let after-r = c .before .before .before in
+    let start = after-r .before .before .before .before .before .before .before .before .before .before .before .before .before in
     let asked = start .pre in record {
       grouped = asked .grouped;
       rank-in = asked .rank-in;
@@ -133,13 +141,14 @@ relax-roads-requires c κs =
 
 pass-lower-requires : tie.Need-pass-lower-requires
 pass-lower-requires c κs =
-    let after-relax-roads = c .before .before .before .before .before .before .before .before .before .before .before .before .before in
+    let after-touched2 = c .before .before .before .before .before .before .before .before .before in
+    let after-relax-roads = after-touched2 .before .before .before .before .before in
     let asked = start after-relax-roads .pre in
     ((_, lower-start (asked .ready) (asked .rank-in) (after-relax-roads .relax-roads .ensures)), asked .ranks-high)
 
 append-row-requires : tie.Need-append-row-requires
 append-row-requires c κs =
-    let after-ahead = c .before .before .before .before .before .before .before .before .before .before .before .before in
+    let after-ahead = c .before .before .before .before .before .before .before .before .before .before .before .before .before in
     let after-pass-lower = after-ahead .before .before .before in
     let asked = start (relaxed after-pass-lower) .pre in
     let stage = lower after-pass-lower .stage in record {
@@ -150,6 +159,7 @@ append-row-requires c κs =
       downs-long = stage .downs-are .wide;
       records-in = asked .ready .holds .room;
       pairs-high = asked .ready .area;
+      same-room = asked .ready .holds .same-room;
     }
 
 ahead-at-requires : tie.Need-ahead-at-requires
@@ -171,7 +181,7 @@ begin-front-requires c κs =
 -- the records do not fit
 
 abbrev overflowed : tie.After-enum-told → tie.After-append-row
-overflowed c = c .before .before .before .before .before .before .before .before
+overflowed c = c .before .before .before .before .before .before .before .before .before .before
 
 same-length : tie.Need-same-length
 same-length c = lengths-appended (overflowed c) .cursor
@@ -194,6 +204,9 @@ same-length-6 c = lengths-appended (overflowed c) .downs
 same-length-7 : tie.Need-same-length-7
 same-length-7 c = lengths-appended (overflowed c) .pairs
 
+same-length-8 : tie.Need-same-length-8
+same-length-8 c = lengths-appended (overflowed c) .times
+
 returns : tie.Need-returns
 returns c =
     let after-append-row = overflowed c in
@@ -202,29 +215,32 @@ returns c =
 
 -- they do
 
-abbrev begun : tie.After-slice-known21 → tie.After-begin-front
+abbrev begun : tie.After-slice-known23 → tie.After-begin-front
 begun c = c .before .before .before .before .before .before .before .before
 
-same-length-8 : tie.Need-same-length-8
-same-length-8 c = lengths-begun (begun c) .cursor
-
 same-length-9 : tie.Need-same-length-9
-same-length-9 c = lengths-begun (begun c) .ahead
+same-length-9 c = lengths-begun (begun c) .cursor
 
 same-length-10 : tie.Need-same-length-10
-same-length-10 c = lengths-begun (begun c) .ends
+same-length-10 c = lengths-begun (begun c) .ahead
 
 same-length-11 : tie.Need-same-length-11
-same-length-11 c = lengths-begun (begun c) .soon
+same-length-11 c = lengths-begun (begun c) .ends
 
 same-length-12 : tie.Need-same-length-12
-same-length-12 c = lengths-begun (begun c) .ups
+same-length-12 c = lengths-begun (begun c) .soon
 
 same-length-13 : tie.Need-same-length-13
-same-length-13 c = lengths-begun (begun c) .downs
+same-length-13 c = lengths-begun (begun c) .ups
 
 same-length-14 : tie.Need-same-length-14
-same-length-14 c = lengths-begun (begun c) .pairs
+same-length-14 c = lengths-begun (begun c) .downs
+
+same-length-15 : tie.Need-same-length-15
+same-length-15 c = lengths-begun (begun c) .pairs
+
+same-length-16 : tie.Need-same-length-16
+same-length-16 c = lengths-begun (begun c) .times
 
 returns-2 : tie.Need-returns-2
 returns-2 c =
@@ -257,12 +273,14 @@ contract-row-spec =
     same-length-5
     same-length-6
     same-length-7
-    returns
     same-length-8
+    returns
     same-length-9
     same-length-10
     same-length-11
     same-length-12
     same-length-13
     same-length-14
+    same-length-15
+    same-length-16
     returns-2)

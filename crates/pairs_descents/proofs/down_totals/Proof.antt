@@ -10,27 +10,27 @@ use Rattle.pairs_descents.proofs.Descends.{descend-end, descend-start, 
 use Rattle.pairs_descents.proofs.down_totals.Statement.{statement}
 use Rattle.pairs_descents.proofs.down_totals.Tie as tie
 
-record Passing (n count : ℕ) (order pairs : List ℕ) (t i : ℕ) (down : List ℕ) : Type 0 where
+record Passing (n count : ℕ) (order pairs times : List ℕ) (t i : ℕ) (down : List ℕ) : Type 0 where
   to-go : i ≤ count
   down-is : length down ≡ n
-  descending : Descending n order pairs count t i down
+  descending : Descending n order pairs times count t i down
 
 abbrev Inv-loop : tie.InvT-loop
-Inv-loop n count order pairs down₀ t i₀ down i = Passing n count order pairs t i down
+Inv-loop n count order pairs times down₀ t i₀ down i = Passing n count order pairs times t i down
 
 abbrev μ-loop : tie.MeasureT-loop
-μ-loop n count order pairs down₀ t i₀ down i = count - i
+μ-loop n count order pairs times down₀ t i₀ down i = count - i
 
 abbrev start : tie.After-word Inv-loop μ-loop → tie.Start Inv-loop μ-loop
-start c = c .before .before .before .before .before .before .before .before .before .before
+start c = c .before .before .before .before .before .before .before .before .before .before .before
 
 loop-holds : tie.Need-loop-holds Inv-loop μ-loop
 loop-holds c =
-    let after-fill = c .before .before .before .before .before in
+    let after-fill-times = c .before .before .before .before .before in
     let asked = start c .pre in record {
       to-go = search needs;
       down-is = simp length-set (search needs);
-      descending = descend-start (asked .target-in) (asked .down-is) (after-fill .fill .ensures)
+      descending = descend-start (asked .target-in) (asked .down-is) (after-fill-times .fill-times .ensures)
           (c .word .ensures ∙ c .before .of-word .ensures);
     }
 

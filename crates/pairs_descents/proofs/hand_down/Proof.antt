@@ -12,7 +12,7 @@ use Rattle.pairs_descents.proofs.hand_down.Tie as tie
 -- ---- the two junctions of the record
 
 abbrev start : tie.After-junction-of → tie.Start
-start c = c .before .before .before .before .before .before .before
+start c = c .before .before .before .before .before .before .before .before
 
 lower-is : (c : tie.After-junction-of)
     → c .junction-of .result .0 ≡ lowerIn (start c .args .order .now) (start c .args .pairs .now) (start c .args .i)
@@ -26,12 +26,14 @@ after-junction-of c = c .before .before .before .before .before .before
 abbrev after-is-none : tie.After-junction-of2 → tie.After-is-none
 after-is-none c = c .before .before .before .before .before
 
-higher-is : (c : tie.After-junction-of2) → let s = start (after-junction-of (after-is-none c)) in
+abbrev start-2 : tie.After-junction-of2 → tie.Start
+start-2 c = start (after-junction-of (after-is-none c))
+
+higher-is : (c : tie.After-junction-of2) → let s = start-2 c in
     c .junction-of2 .result .0 ≡ higherIn (s .args .order .now) (s .args .pairs .now) (s .args .i)
 higher-is c =
-    let start = start (after-junction-of (after-is-none c)) in
     let after-high-of = c .before .before .before in
-    junction-at (start .args .order .now) (after-high-of .high-of .ensures) (c .junction-of2 .ensures)
+    junction-at (start-2 c .args .order .now) (after-high-of .high-of .ensures) (c .junction-of2 .ensures)
 
 -- ---- the answers
 
@@ -62,11 +64,16 @@ returns-5 c =
     let after-junction-of2 = c .before .before in
     no-higher (higher-is after-junction-of2) (c .if5 .taken)
 
+down-of-requires : tie.Need-down-of-requires
+down-of-requires c κs =
+    let after-junction-of2 = c .before .before .before .before .before in
+    start-2 after-junction-of2 .pre .times-in
+
 slice-write-down : tie.Need-slice-write-down
 slice-write-down c =
     let else5 = c .before .before .before .before .before .before in
     let after-junction-of2 = else5 .before .before in
-    omega (arith, else5 .if5 .left, start (after-junction-of (after-is-none after-junction-of2)) .pre .down-is)
+    omega (arith, else5 .if5 .left, start-2 after-junction-of2 .pre .down-is)
 
 returns-6 : tie.Need-returns-6
 returns-6 c =
@@ -100,7 +107,7 @@ hand-down-spec =
     (λ c. search needs)
     (λ c. search needs)
     (λ c κs. search needs)
-    (λ c κs. search needs)
+    down-of-requires
     (λ c κs. search needs)
     (λ c κs. search needs)
     (λ c. search needs)

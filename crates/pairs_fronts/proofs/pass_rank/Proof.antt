@@ -23,6 +23,7 @@ end-in c = let ((_, stage), below, _) = c .pre in in-fronts below (stage .inside
 
 met : (c : tie.Start) → Meeting (c .pre .0 .0) (c .args .n) (c .args .r .0) (c .args .v .0)
     (getD (c .args .cursor .now) (c .args .v .0) 0) (getD (c .args .ends .now) (c .args .v .0) 0) (c .args .pairs .now)
+    (c .args .times .now)
 met c = let ((_, stage), below, at-r) = c .pre in meeting stage below at-r
 
 next-high : (c : tie.Start) → getD (c .args .cursor .now) (c .args .v .0) 0 + 1 < 4294967296
@@ -31,7 +32,7 @@ next-high c = next-fits (met c .next-in) (met c .end-in) (c .pre .0 .1 .area)
 -- ---- the places after
 
 abbrev start : tie.After-relax-over → tie.Start
-start c = c .before .before .before .before .before .before .before .before .before .before .before .before .before .before
+start c = c .before .before .before .before .before .before .before .before .before .before .before .before .before .before .before
 
 abbrev after-relax-over : tie.After-ahead-at → tie.After-relax-over
 after-relax-over c = c .before .before .before .before .before .before .before
@@ -40,19 +41,19 @@ after-relax-over c = c .before .before .before .before .before .before .before
 
 slice-read-i : tie.Need-slice-read-i
 slice-read-i c =
-    let start = c .before .before .before .before .before .before .before .before .before in
+    let start = c .before .before .before .before .before .before .before .before .before .before in
     cursor-in start
 
 shared-slice-read-end : tie.Need-shared-slice-read-end
 shared-slice-read-end c =
-    let start = c .before .before .before .before .before .before .before .before .before .before in
+    let start = c .before .before .before .before .before .before .before .before .before .before .before in
     end-in start
 
 relax-over-requires : tie.Need-relax-over-requires
 relax-over-requires c κs =
-    let start = c .before .before .before .before .before .before .before .before .before .before .before .before .before in
+    let start = c .before .before .before .before .before .before .before .before .before .before .before .before .before .before in
     let ((_, stage), below, at-r) = start .pre in
-    (met start .next-in, met start .end-in, reached stage below at-r)
+    (met start .next-in, met start .end-in, stage .holds .same-room, reached stage below at-r)
 
 add-ahead-at : tie.Need-add-ahead-at
 add-ahead-at c =
@@ -80,13 +81,13 @@ same-length-2 : tie.Need-same-length-2
 same-length-2 c = length-set (start (after-relax-over c) .args .ahead .now) _ _
 
 same-length-3 : tie.Need-same-length-3
-same-length-3 c = let (_, (_, (_, (ups-kept, _)))) = after-relax-over c .relax-over .kept in ups-kept
+same-length-3 c = let (_, (_, (_, (_, (ups-kept, _))))) = after-relax-over c .relax-over .kept in ups-kept
 
 same-length-4 : tie.Need-same-length-4
-same-length-4 c = let (_, (_, (_, (_, (downs-kept, _))))) = after-relax-over c .relax-over .kept in downs-kept
+same-length-4 c = let (_, (_, (_, (_, (_, (downs-kept, _)))))) = after-relax-over c .relax-over .kept in downs-kept
 
 same-length-5 : tie.Need-same-length-5
-same-length-5 c = let (_, (_, (_, (_, (_, (touched-kept, _)))))) = after-relax-over c .relax-over .kept in touched-kept
+same-length-5 c = let (_, (_, (_, (_, (_, (_, (touched-kept, _))))))) = after-relax-over c .relax-over .kept in touched-kept
 
 returns : tie.Need-returns
 returns c =

@@ -12,20 +12,20 @@ use Rattle.pairs_fronts.proofs.relax_over.Statement.{statement}
 use Rattle.pairs_fronts.proofs.relax_over.Tie as tie
 
 -- the records after i and before j have relaxed the rows
-record RelaxingOver (pairs : List ℕ) (i end down up : ℕ) (ups₀ downs₀ touched₀ ups downs touched : List ℕ) (j : ℕ) : Type 0 where
+record RelaxingOver (pairs times : List ℕ) (i end down up : ℕ) (ups₀ downs₀ touched₀ ups downs touched : List ℕ) (j : ℕ) : Type 0 where
   after : i + 1 ≤ j
   within : j ≤ end
   ups-kept : length ups ≡ length ups₀
   downs-kept : length downs ≡ length downs₀
   touched-kept : length touched ≡ length touched₀
-  going : Going pairs (i + 1) end down up j ups₀ downs₀ touched₀ ups downs touched
+  going : Going pairs times (i + 1) end down up j ups₀ downs₀ touched₀ ups downs touched
 
 abbrev Inv-loop : tie.InvT-loop
-Inv-loop pairs i end ups₀ downs₀ touched₀ down up j₀ ups downs touched j =
-    RelaxingOver pairs i end (down .0) (up .0) ups₀ downs₀ touched₀ ups downs touched j
+Inv-loop pairs times i end ups₀ downs₀ touched₀ down up j₀ ups downs touched j =
+    RelaxingOver pairs times i end (down .0) (up .0) ups₀ downs₀ touched₀ ups downs touched j
 
 abbrev μ-loop : tie.MeasureT-loop
-μ-loop pairs i end ups₀ downs₀ touched₀ down up j₀ ups downs touched j = end - j
+μ-loop pairs times i end ups₀ downs₀ touched₀ down up j₀ ups downs touched j = end - j
 
 -- ---- once the high of record j is read
 
@@ -39,7 +39,7 @@ abbrev at-loop : tie.After-high-of Inv-loop μ-loop → tie.At-loop Inv-loop μ-
 at-loop c = c .before .before
 
 abbrev start : tie.After-high-of Inv-loop μ-loop → tie.Start Inv-loop μ-loop
-start c = c .before .before .before .before .before .before .before .before .before
+start c = at-loop c .before .before .before .before .before .before .before .before
 
 entries : (c : tie.After-high-of Inv-loop μ-loop)
     → Entries (c .high-of .result .0) (at-loop c .loop .ups) (at-loop c .loop .downs) (at-loop c .loop .touched)
@@ -47,7 +47,7 @@ entries c =
     let j = at-loop c .loop .j in
     let inv = at-loop c .loop .inv in
     let in-range = c .before .loop-test .taken in
-    let (_, _, reached) = start c .pre in record {
+    let (_, _, _, reached) = start c .pre in record {
       up-in = in-length (by-below (c .high-of .ensures) (reached .ups-in j (inv .after) in-range)) (inv .ups-kept);
       down-in = in-length (by-below (c .high-of .ensures) (reached .downs-in j (inv .after) in-range)) (inv .downs-kept);
       mark-in = in-blocks (by-below (c .high-of .ensures) (reached .marks-in j (inv .after) in-range)) (inv .touched-kept);
@@ -59,7 +59,7 @@ abbrev after-high-of : tie.After-down-of2 Inv-loop μ-loop → tie.After-high-of
 after-high-of c = c .before .before .before .before .before .before .before .before
 
 abbrev in-loop : tie.After-down-of2 Inv-loop μ-loop → tie.In-loop Inv-loop μ-loop
-in-loop c = c .before .before .before .before .before .before .before .before .before
+in-loop c = after-high-of c .before
 
 -- ---- the answers
 
@@ -89,7 +89,7 @@ mark-requires c κs =
 add-j-2 : tie.Need-add-j-2 Inv-loop μ-loop
 add-j-2 c =
     let after-down-of2 = c .before .before .before .before .before .before .before in
-    let (_, (_, (end-high, _))) = start (after-high-of after-down-of2) .good in
+    let (_, (_, (_, (end-high, _)))) = start (after-high-of after-down-of2) .good in
     record { fits = omega (arith, in-loop after-down-of2 .loop-test .taken, end-high) }
 
 loop-less : tie.Need-loop-less Inv-loop μ-loop

@@ -39,28 +39,28 @@ use Rattle.pairs_hierarchy.proofs.+estimate_rank+walk_pairs.Tie.{close}
 
 -- ---- what falls: twice the number of ranks above, and one more for the estimate, which calls the walk at its own rank
 
-abbrev μ-estimate-rank : Measures 4 rank-kinds.ps ℕ
+abbrev μ-estimate-rank : Measures 5 rank-kinds.ps ℕ
 μ-estimate-rank κs a =
-    let (n, (_, (_, (_, (_, (_, (r, _))))))) = a in
+    let (n, (_, (_, (_, (_, (_, (_, (r, _)))))))) = a in
     (n - r .0) + (n - r .0) + 1
 
-abbrev μ-walk-pairs : Measures 4 walk-kinds.ps ℕ
+abbrev μ-walk-pairs : Measures 5 walk-kinds.ps ℕ
 μ-walk-pairs κs a =
-    let (n, (_, (_, (_, (_, (_, (r, _))))))) = a in
+    let (n, (_, (_, (_, (_, (_, (_, (r, _)))))))) = a in
     (n - r .0) + (n - r .0)
 
 -- a call at measure t, and one below it
-abbrev rank-at : ℕ → In 4 rank-kinds.ps
-rank-at t = and 4 rank-kinds.ps (is 4 rank-kinds.ps μ-estimate-rank t) rank.Pre
+abbrev rank-at : ℕ → In 5 rank-kinds.ps
+rank-at t = and 5 rank-kinds.ps (is 5 rank-kinds.ps μ-estimate-rank t) rank.Pre
 
-abbrev rank-below : ℕ → In 4 rank-kinds.ps
-rank-below t = and 4 rank-kinds.ps (falls 4 rank-kinds.ps _<_ μ-estimate-rank t) rank.Pre
+abbrev rank-below : ℕ → In 5 rank-kinds.ps
+rank-below t = and 5 rank-kinds.ps (falls 5 rank-kinds.ps _<_ μ-estimate-rank t) rank.Pre
 
-abbrev walk-at : ℕ → In 4 walk-kinds.ps
-walk-at t = and 4 walk-kinds.ps (is 4 walk-kinds.ps μ-walk-pairs t) walk.Pre
+abbrev walk-at : ℕ → In 5 walk-kinds.ps
+walk-at t = and 5 walk-kinds.ps (is 5 walk-kinds.ps μ-walk-pairs t) walk.Pre
 
-abbrev walk-below : ℕ → In 4 walk-kinds.ps
-walk-below t = and 4 walk-kinds.ps (falls 4 walk-kinds.ps _<_ μ-walk-pairs t) walk.Pre
+abbrev walk-below : ℕ → In 5 walk-kinds.ps
+walk-below t = and 5 walk-kinds.ps (falls 5 walk-kinds.ps _<_ μ-walk-pairs t) walk.Pre
 
 -- ---- the estimate of a rank
 
@@ -92,7 +92,7 @@ abbrev After-walk-pairs : ℕ → Type 0
 After-walk-pairs t = rank-tie.After-walk-pairs (rank-calls t) (rank-at t) rank.Post
 
 abbrev rank-called : {t : ℕ} → After-known-of t → rank-tie.Start (rank-calls t) (rank-at t) rank.Post
-rank-called c = c .before .before .before .before .before .before
+rank-called c = c .before .before .before .before .before .before .before
 
 abbrev after-known-of : {t : ℕ} → After-junction-of t → After-known-of t
 after-known-of c = c .before .before .before
@@ -130,7 +130,7 @@ after-junction-of c = c .before .before .before .before .before
 slice-write-estimates : {t : ℕ} → rank-tie.Need-slice-write-estimates (rank-calls t) (rank-at t) rank.Post
 slice-write-estimates c =
     let after-junction-of = after-junction-of (after-walk-pairs c) in
-    let (_, (_, (_, (_, (_, (estimates-kept, _)))))) = after-walk-pairs c .walk-pairs .kept in
+    let (_, (_, (_, (_, (_, (_, (estimates-kept, _))))))) = after-walk-pairs c .walk-pairs .kept in
     let start = rank-called (after-known-of after-junction-of) in
     omega (arith, entry after-junction-of .0, estimates-kept, start .pre .1 .estimates-are)
 
@@ -139,7 +139,7 @@ rank-returns-2 c =
     let after-walk-pairs = after-walk-pairs c in
     let after-of-word = after-walk-pairs .before .before in
     let after-junction-of = after-junction-of after-walk-pairs in
-    let (_, (_, (_, (_, (_, (estimates-kept, _)))))) = after-walk-pairs .walk-pairs .kept in
+    let (_, (_, (_, (_, (_, (_, (estimates-kept, _))))))) = after-walk-pairs .walk-pairs .kept in
     let asked = rank-called (after-known-of after-junction-of) .pre .1 in
     computed (asked .rank-in) (after-junction-of .junction-of .ensures) (entry after-junction-of .1)
     (estimates-kept ∙ asked .estimates-are) (after-of-word .of-word .ensures) (after-walk-pairs .walk-pairs .ensures)
@@ -170,17 +170,17 @@ walk-calls t = (
 )
 
 -- the records below k are walked
-record Walking (n : ℕ) (order pairs : List ℕ) (count : ℕ) (down e₀ : List ℕ) (r own : ℕ) (e : List ℕ) (best k : ℕ) : Type 0 where
+record Walking (n : ℕ) (order pairs times : List ℕ) (count : ℕ) (down e₀ : List ℕ) (r own : ℕ) (e : List ℕ) (best k : ℕ) : Type 0 where
   to-go : k ≤ count
   length-kept : length e ≡ n
-  walked : Walked n order pairs count down e₀ e r own k best
+  walked : Walked n order pairs times count down e₀ e r own k best
 
 abbrev Inv-loop : walk-tie.InvT-loop
-Inv-loop n count order pairs down estimates₀ r best₀ k₀ estimates best k =
-    Walking n order pairs count down estimates₀ (r .0) (best₀ .0) estimates (best .0) k
+Inv-loop n count order pairs times down estimates₀ r best₀ k₀ estimates best k =
+    Walking n order pairs times count down estimates₀ (r .0) (best₀ .0) estimates (best .0) k
 
 abbrev μ-loop : walk-tie.MeasureT-loop
-μ-loop n count order pairs down estimates₀ r best₀ k₀ estimates best k = count - k
+μ-loop n count order pairs times down estimates₀ r best₀ k₀ estimates best k = count - k
 
 abbrev At-loop : ℕ → Type 0
 At-loop t = walk-tie.At-loop (walk-calls t) (walk-at t) walk.Post Inv-loop μ-loop
@@ -192,7 +192,7 @@ abbrev Then2 : ℕ → Type 0
 Then2 t = walk-tie.Then2 (walk-calls t) (walk-at t) walk.Post Inv-loop μ-loop
 
 abbrev walk-called : {t : ℕ} → At-loop t → walk-tie.Start (walk-calls t) (walk-at t) walk.Post Inv-loop μ-loop
-walk-called c = c .before .before .before .before .before .before
+walk-called c = c .before .before .before .before .before .before .before
 
 -- a record, once it is read
 abbrev after-low-of : {t : ℕ} → After-up-of t → walk-tie.After-low-of (walk-calls t) (walk-at t) walk.Post Inv-loop μ-loop
@@ -210,8 +210,8 @@ low c = after-low-of c .low-of .result .0
 abbrev high : {t : ℕ} → After-up-of t → ℕ
 high c = c .before .high-of .result .0
 
-record-read : {t : ℕ} (c : After-up-of t)
-    → RecordRead (walk-called (at-loop c) .args .pairs .now) (at-loop c .loop .k) (low c) (high c) (c .up-of .result .0)
+record-read : {t : ℕ} (c : After-up-of t) → let s = walk-called (at-loop c) in
+    RecordRead (s .args .pairs .now) (s .args .times .now) (at-loop c .loop .k) (low c) (high c) (c .up-of .result .0)
 record-read c = record { low-is = after-low-of c .low-of .ensures; high-is = c .before .high-of .ensures; up-is = c .up-of .ensures }
 
 one-more : {t : ℕ} (c : After-up-of t) → at-loop c .loop .k + 1 ≤ walk-called (at-loop c) .args .count
@@ -238,7 +238,7 @@ high-asked c =
 
 loop-holds : {t : ℕ} → walk-tie.Need-loop-holds (walk-calls t) (walk-at t) walk.Post Inv-loop μ-loop
 loop-holds c =
-    let start = c .before .before .before .before .before in
+    let start = c .before .before .before .before .before .before in
     let asked = start .pre .1 in record {
       to-go = c .start-of .ensures .bound;
       length-kept = asked .estimates-are;
@@ -269,18 +269,30 @@ estimate-rank-requires c κs =
         down-is = asked .down-is;
         estimates-are = at-loop .loop .inv .length-kept;
         records-in = asked .records-in;
+        times-in = asked .times-in;
         count-high = asked .count-high;
       },
     )
 
 -- the estimate of the high was asked
+abbrev After-estimate-rank : ℕ → Type 0
+After-estimate-rank t = walk-tie.After-estimate-rank (walk-calls t) (walk-at t) walk.Post Inv-loop μ-loop
+
+abbrev then2 : {t : ℕ} → After-estimate-rank t → Then2 t
+then2 c = c .before .before .before .before .before .before
+
+loop-less : {t : ℕ} → walk-tie.Need-loop-less (walk-calls t) (walk-at t) walk.Post Inv-loop μ-loop
+loop-less c =
+    let after-estimate-rank = c .before .before .before in
+    omega (arith, one-more (after-up-of (then2 after-estimate-rank)))
+
 loop-again : {t : ℕ} → walk-tie.Need-loop-again (walk-calls t) (walk-at t) walk.Post Inv-loop μ-loop
 loop-again c =
     let after-estimate-rank = c .before .before .before in
-    let then2 = after-estimate-rank .before .before .before .before .before .before in
+    let then2 = then2 after-estimate-rank in
     let after-up-of = after-up-of then2 in
     let inv = at-loop after-up-of .loop .inv in
-    let (_, (_, (_, (_, (_, (estimates-kept, _)))))) = after-estimate-rank .estimate-rank .kept in record {
+    let (_, (_, (_, (_, (_, (_, (estimates-kept, _))))))) = after-estimate-rank .estimate-rank .kept in record {
       to-go = one-more after-up-of;
       length-kept = estimates-kept ∙ inv .length-kept;
       walked = walk-take (walk-called (at-loop after-up-of) .pre .1 .rank-in) (inv .walked) (in-loop after-up-of .loop-test .taken)
@@ -367,7 +379,7 @@ pub +estimate-rank+walk-pairs-spec : {M : Type 1} → statement M
     (λ c κs. search needs)
     estimate-rank-requires
     (λ c κs. search needs)
-    (λ c. search needs)
+    loop-less
     loop-again
     (λ c κs. search needs)
     (λ c. search needs)

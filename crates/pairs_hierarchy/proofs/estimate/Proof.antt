@@ -6,7 +6,7 @@ use Rattle.pairs_hierarchy.proofs.estimate.Statement.{statement}
 use Rattle.pairs_hierarchy.proofs.estimate.Tie as tie
 
 abbrev start : tie.After-rank-of → tie.Start
-start c = c .before .before .before .before .before .before
+start c = c .before .before .before .before .before .before .before
 
 returns : tie.Need-returns
 returns c =

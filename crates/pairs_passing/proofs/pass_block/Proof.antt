@@ -18,17 +18,17 @@ record Scanning (n r from to : ℕ) (a₀ a : Lent) (bound v : ℕ) : Type 0 whe
   scanned : (w : Weights) → StageIn w n r from a₀ → ScannedIn w n r from v bound a
 
 abbrev Inv-loop : tie.InvT-loop
-Inv-loop pairs n r from to cursor₀ ahead₀ ends ups₀ downs₀ touched₀ bound₀ v₀ cursor ahead ups downs touched bound v =
-    Scanning n (r .0) from to (areas pairs cursor₀ ahead₀ ends ups₀ downs₀ touched₀) (areas pairs cursor ahead ends ups downs touched)
-    bound v
+Inv-loop pairs times n r from to cursor₀ ahead₀ ends ups₀ downs₀ touched₀ bound₀ v₀ cursor ahead ups downs touched bound v =
+    Scanning n (r .0) from to (areas pairs times cursor₀ ahead₀ ends ups₀ downs₀ touched₀)
+    (areas pairs times cursor ahead ends ups downs touched) bound v
 
 abbrev μ-loop : tie.MeasureT-loop
-μ-loop pairs n r from to cursor₀ ahead₀ ends ups₀ downs₀ touched₀ bound₀ v₀ cursor ahead ups downs touched bound v = to - v
+μ-loop pairs times n r from to cursor₀ ahead₀ ends ups₀ downs₀ touched₀ bound₀ v₀ cursor ahead ups downs touched bound v = to - v
 
 -- ---- in the loop
 
 abbrev start : tie.At-loop Inv-loop μ-loop → tie.Start Inv-loop μ-loop
-start c = c .before .before .before .before .before .before .before .before
+start c = c .before .before .before .before .before .before .before .before .before
 
 below-r : (c : tie.In-loop Inv-loop μ-loop) → c .before .loop .v < start (c .before) .args .r .0
 below-r c = lt-le (c .loop-test .taken) (start (c .before) .pre .2)
@@ -43,7 +43,7 @@ after-pass-rank c = c .before .before .before .before .before .before .before .b
 
 loop-holds : tie.Need-loop-holds Inv-loop μ-loop
 loop-holds c =
-    let start = c .before .before .before .before .before .before .before in
+    let start = c .before .before .before .before .before .before .before .before in
     record { from-low = le-same; in-block = start .pre .1; kept = kept-all; scanned = λ w s. scanned-start s }
 
 slice-read-high : tie.Need-slice-read-high Inv-loop μ-loop
@@ -70,7 +70,7 @@ loop-again c =
     let in-loop = in-loop (after-pass-rank c) in
     let inv = in-loop .before .loop .inv in
     let (high-is, staged) = passed .ensures in
-    let (_, (_, (_, (_, (cursor-kept, (ahead-kept, (_, (ups-kept, (downs-kept, (touched-kept, _)))))))))) = passed .kept in record {
+    let (_, (_, (_, (_, (_, (cursor-kept, (ahead-kept, (_, (ups-kept, (downs-kept, (touched-kept, _))))))))))) = passed .kept in record {
       from-low = le-more (inv .from-low);
       in-block = lt-next (in-loop .loop-test .taken);
       kept = kept-again (inv .kept) cursor-kept ahead-kept ups-kept downs-kept touched-kept;

@@ -22,11 +22,12 @@ record Lowering (n r : ℕ) (a₀ : Lent) (soon₀ : List ℕ) (a : Lent) (soon 
   lower : (w : Weights) → LowerIn w n r 0 a₀ soon₀ → LowerIn w n r v a soon
 
 abbrev Inv-loop : tie.InvT-loop
-Inv-loop pairs n r cursor₀ ahead₀ ends soon₀ ups₀ downs₀ touched₀ v₀ cursor ahead soon ups downs touched v =
-    Lowering n (r .0) (areas pairs cursor₀ ahead₀ ends ups₀ downs₀ touched₀) soon₀ (areas pairs cursor ahead ends ups downs touched) soon v
+Inv-loop pairs times n r cursor₀ ahead₀ ends soon₀ ups₀ downs₀ touched₀ v₀ cursor ahead soon ups downs touched v =
+    Lowering n (r .0) (areas pairs times cursor₀ ahead₀ ends ups₀ downs₀ touched₀) soon₀
+    (areas pairs times cursor ahead ends ups downs touched) soon v
 
 abbrev μ-loop : tie.MeasureT-loop
-μ-loop pairs n r cursor₀ ahead₀ ends soon₀ ups₀ downs₀ touched₀ v₀ cursor ahead soon ups downs touched v = r .0 - v
+μ-loop pairs times n r cursor₀ ahead₀ ends soon₀ ups₀ downs₀ touched₀ v₀ cursor ahead soon ups downs touched v = r .0 - v
 
 -- ---- in the loop: the block begins at v, and has its bound
 
@@ -34,7 +35,7 @@ abbrev at-loop : tie.Then1 Inv-loop μ-loop → tie.At-loop Inv-loop μ-loop
 at-loop c = c .before .before
 
 abbrev start : tie.Then1 Inv-loop μ-loop → tie.Start Inv-loop μ-loop
-start c = c .before .before .before .before .before .before .before .before .before .before .before
+start c = at-loop c .before .before .before .before .before .before .before .before .before .before
 
 even-here : (c : tie.Then1 Inv-loop μ-loop) → block * (at-loop c .loop .v / block) ≡ at-loop c .loop .v
 even-here c = at-loop c .loop .inv .even (c .if1 .taken)
@@ -102,7 +103,8 @@ loop-again c =
     let then1 = after-least .before in
     let inv = at-loop then1 .loop .inv in
     let passed = after-pass-block .pass-block in
-    let (_, (_, (_, (_, (_, (cursor-kept, (ahead-kept, (_, (ups-kept, (downs-kept, (touched-kept, _))))))))))) = passed .kept in record {
+    let (_, (_, (_, (_, (_, (_, (cursor-kept, (ahead-kept, (_, (ups-kept, (downs-kept, (touched-kept, _)))))))))))) = passed .kept in
+    record {
       in-rows = end-in after-least;
       even = end-even after-least;
       kept = kept-again (inv .kept) cursor-kept ahead-kept ups-kept downs-kept touched-kept;

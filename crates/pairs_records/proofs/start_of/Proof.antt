@@ -25,7 +25,7 @@ start c = c .before .before .before
 
 -- the last of the three records that are tested
 third-in : (c : tie.In-loop Inv-loop μ-loop)
-    → 4 * (at-loop c .loop .base + 3 * (at-loop c .loop .size / 4)) + 4 ≤ length (start c .args .pairs .now)
+    → 2 * (at-loop c .loop .base + 3 * (at-loop c .loop .size / 4)) + 2 ≤ length (start c .args .pairs .now)
 third-in c = omega (arith, c .loop-test .taken, at-loop c .loop .inv .fits, start c .pre .0)
 
 -- ---- after the three tests

@@ -1,4 +1,4 @@
--- The area begins with the records of the row up to h (`Appending`). Each turn takes in one rank, and appends its pair if that is kept
+-- The areas begin with the records of the row up to h (`Appending`). Each turn takes in one rank, and appends its pair if that is kept
 -- (`append-put`, `append-skip`); or a block that is not touched, which holds none (`append-over`). Full is answered where the next record
 -- has no room (`append-full`).
 use Prim.Native.Nat.{_*_, _+_, _-_, _<_, _≤_, ℕ}
@@ -8,6 +8,7 @@ use native.Mathlib.Omega.{arith}
 use lib.ListN.{length}
 use borrow.Author.Needs.{needs}
 use Rattle.graph.specs.Path.{Weights}
+use Rattle.model.specs.Areas.{recordSize}
 use Rattle.pairs_rows.specs.Steps.{count-fits, in-kept, less, lt-more, lt-next, min-le, over-above, over-less, room-in, room-next, room-out}
 use Rattle.pairs_storing.specs.Storing.{RowTimes}
 use Rattle.pairs_storing.proofs.Records.{Appending, Taken}
@@ -16,26 +17,27 @@ use Rattle.pairs_storing.proofs.append_row.Statement.{statement}
 use Rattle.pairs_storing.proofs.append_row.Tie as tie
 
 -- the highs below h are taken in
-record AppendingRow (touched : List ℕ) (n r count : ℕ) (ups₀ downs₀ pairs₀ ups downs pairs : List ℕ) (k h : ℕ) : Type 0 where
+record AppendingRow (touched : List ℕ) (n r count : ℕ) (ups₀ downs₀ pairs₀ times₀ ups downs pairs times : List ℕ) (k h : ℕ) : Type 0 where
   above : r < h
   within : h ≤ n
-  records-in : 4 * k ≤ length pairs₀
+  records-in : recordSize * k ≤ length pairs₀
   ups-kept : length ups ≡ length ups₀
   downs-kept : length downs ≡ length downs₀
   pairs-kept : length pairs ≡ length pairs₀
-  appending : (w : Weights) → RowTimes w n r count touched ups₀ downs₀ pairs₀ → Appending w n r h k ups₀ downs₀ ups downs pairs
+  times-kept : length times ≡ length times₀
+  appending : (w : Weights) → RowTimes w n r count touched ups₀ downs₀ pairs₀ times₀ → Appending w n r h k ups₀ downs₀ ups downs pairs times
 
 abbrev Inv-loop : tie.InvT-loop
-Inv-loop touched n r count ups₀ downs₀ pairs₀ k₀ h₀ ups downs pairs k h =
-    AppendingRow touched n (r .0) count ups₀ downs₀ pairs₀ ups downs pairs k h
+Inv-loop touched n r count ups₀ downs₀ pairs₀ times₀ k₀ h₀ ups downs pairs times k h =
+    AppendingRow touched n (r .0) count ups₀ downs₀ pairs₀ times₀ ups downs pairs times k h
 
 abbrev μ-loop : tie.MeasureT-loop
-μ-loop touched n r count ups₀ downs₀ pairs₀ k₀ h₀ ups downs pairs k h = n - h
+μ-loop touched n r count ups₀ downs₀ pairs₀ times₀ k₀ h₀ ups downs pairs times k h = n - h
 
 -- ---- in the loop: h has its two entries, and a place more can be counted
 
 abbrev start : tie.In-loop Inv-loop μ-loop → tie.Start Inv-loop μ-loop
-start c = c .before .before .before .before .before .before .before
+start c = c .before .before .before .before .before .before .before .before
 
 up-in : (c : tie.In-loop Inv-loop μ-loop) → c .before .loop .h < length (c .before .loop .ups)
 up-in c = in-kept (c .loop-test .taken) (start c .pre .ups-long) (c .before .loop .inv .ups-kept)
@@ -52,10 +54,10 @@ abbrev after-take-time2 : tie.After-is-kept Inv-loop μ-loop → tie.After-take-
 after-take-time2 c = c .before .before .before
 
 abbrev after-take-time : tie.After-is-kept Inv-loop μ-loop → tie.After-take-time Inv-loop μ-loop
-after-take-time c = c .before .before .before .before .before .before .before
+after-take-time c = after-take-time2 c .before .before .before .before
 
 abbrev in-loop : tie.After-is-kept Inv-loop μ-loop → tie.In-loop Inv-loop μ-loop
-in-loop c = c .before .before .before .before .before .before .before .before .before .before .before
+in-loop c = after-take-time c .before .before .before .before
 
 abbrev at-loop : tie.After-is-kept Inv-loop μ-loop → tie.At-loop Inv-loop μ-loop
 at-loop c = in-loop c .before
@@ -90,20 +92,30 @@ downs-kept c = after-take-time2 c .take-time2 .kept .0 ∙ at-loop c .loop .inv 
 abbrev after-is-kept : tie.Else3 Inv-loop μ-loop → tie.After-is-kept Inv-loop μ-loop
 after-is-kept c = c .before .before .before
 
-room : (c : tie.Else3 Inv-loop μ-loop) → 4 * at-loop (after-is-kept c) .loop .k + 4 ≤ length (at-loop (after-is-kept c) .loop .pairs)
+room : (c : tie.Else3 Inv-loop μ-loop)
+    → recordSize * at-loop (after-is-kept c) .loop .k + recordSize ≤ length (at-loop (after-is-kept c) .loop .pairs)
 room c = room-in _ (c .before .words-of .ensures) (c .if3 .left)
+
+-- and as much in the area of times
+times-room : (c : tie.Else3 Inv-loop μ-loop)
+    → recordSize * at-loop (after-is-kept c) .loop .k + recordSize ≤ length (at-loop (after-is-kept c) .loop .times)
+times-room c =
+    let start = start (in-loop (after-is-kept c)) in
+    let inv = at-loop (after-is-kept c) .loop .inv in
+    omega (arith, room c, inv .pairs-kept, inv .times-kept, start .pre .same-room)
 
 -- ---- the answers
 
 loop-holds : tie.Need-loop-holds Inv-loop μ-loop
 loop-holds c =
-    let start = c .before .before .before .before .before in record {
+    let start = c .before .before .before .before .before .before in record {
       above = search needs;
       within = lt-next (start .pre .rank-in);
       records-in = start .pre .records-in;
       ups-kept = refl;
       downs-kept = refl;
       pairs-kept = refl;
+      times-kept = refl;
       appending = λ w g. append-start g;
     }
 
@@ -140,6 +152,7 @@ loop-again c =
       ups-kept = inv .ups-kept;
       downs-kept = inv .downs-kept;
       pairs-kept = inv .pairs-kept;
+      times-kept = inv .times-kept;
       appending = λ w g. append-over g (inv .above) (in-loop .loop-test .taken) (c .least .ensures) (then1 .if1 .taken)
           (inv .appending w g);
     }
@@ -172,6 +185,11 @@ same-length-3 c =
     let after-is-kept = c .before .before .before in
     at-loop after-is-kept .loop .inv .pairs-kept
 
+same-length-4 : tie.Need-same-length-4 Inv-loop μ-loop
+same-length-4 c =
+    let after-is-kept = c .before .before .before in
+    at-loop after-is-kept .loop .inv .times-kept
+
 returns : tie.Need-returns Inv-loop μ-loop
 returns c =
     let then2 = c .before .before in
@@ -179,35 +197,43 @@ returns c =
     λ w g. append-full g (taken after-is-kept) (at-loop after-is-kept .loop .inv .appending w g) (then2 .if2 .taken)
     (room-out _ (c .before .words-of .ensures) (c .if3 .taken))
 
-put-record-requires : tie.Need-put-record-requires Inv-loop μ-loop
-put-record-requires c κs = room (c .before)
+put-ranks-requires : tie.Need-put-ranks-requires Inv-loop μ-loop
+put-ranks-requires c κs = room (c .before)
+
+put-times-requires : tie.Need-put-times-requires Inv-loop μ-loop
+put-times-requires c κs =
+    let else3 = c .before .before .before .before .before in
+    times-room else3
 
 add-k : tie.Need-add-k Inv-loop μ-loop
 add-k c =
-    let after-is-kept = c .before .before .before .before .before .before .before in
+    let after-is-kept = c .before .before .before .before .before .before .before .before .before .before .before in
     record { fits = count-high (in-loop after-is-kept) }
 
 loop-less-2 : tie.Need-loop-less-2 Inv-loop μ-loop
 loop-less-2 c =
-    let after-is-kept = c .before .before .before .before .before .before .before in
+    let after-is-kept = c .before .before .before .before .before .before .before .before .before .before .before in
     less (in-loop after-is-kept .loop-test .taken)
 
 loop-again-2 : tie.Need-loop-again-2 Inv-loop μ-loop
 loop-again-2 c =
-    let after-put-record = c .before .before in
-    let else3 = after-put-record .before .before in
+    let after-put-times = c .before .before in
+    let after-put-ranks = after-put-times .before .before .before .before in
+    let else3 = after-put-ranks .before .before in
     let then2 = else3 .before .before in
     let after-is-kept = then2 .before in
     let inv = at-loop after-is-kept .loop .inv in
-    let pairs-kept = after-put-record .put-record .kept .0 in record {
+    let pairs-kept = after-put-ranks .put-ranks .kept .0 in
+    let times-kept = after-put-times .put-times .kept .0 in record {
       above = lt-more (inv .above);
       within = lt-next (in-loop after-is-kept .loop-test .taken);
       records-in = room-next _ (room else3) (inv .pairs-kept);
       ups-kept = ups-kept after-is-kept;
       downs-kept = downs-kept after-is-kept;
       pairs-kept = pairs-kept ∙ inv .pairs-kept;
+      times-kept = times-kept ∙ inv .times-kept;
       appending = λ w g. append-put g (taken after-is-kept) (inv .appending w g) (then2 .if2 .taken)
-          (after-put-record .put-record .ensures) pairs-kept (room else3);
+          (after-put-ranks .put-ranks .ensures) pairs-kept (after-put-times .put-times .ensures) times-kept (room else3);
     }
 
 loop-less-3 : tie.Need-loop-less-3 Inv-loop μ-loop
@@ -223,17 +249,21 @@ loop-again-3 c =
       ups-kept = ups-kept after-is-kept;
       downs-kept = downs-kept after-is-kept;
       pairs-kept = inv .pairs-kept;
+      times-kept = inv .times-kept;
       appending = λ w g. append-skip g (taken after-is-kept) (inv .appending w g) (c .if2 .left);
     }
 
-same-length-4 : tie.Need-same-length-4 Inv-loop μ-loop
-same-length-4 c = c .before .loop .inv .ups-kept
-
 same-length-5 : tie.Need-same-length-5 Inv-loop μ-loop
-same-length-5 c = c .before .loop .inv .downs-kept
+same-length-5 c = c .before .loop .inv .ups-kept
 
 same-length-6 : tie.Need-same-length-6 Inv-loop μ-loop
-same-length-6 c = c .before .loop .inv .pairs-kept
+same-length-6 c = c .before .loop .inv .downs-kept
+
+same-length-7 : tie.Need-same-length-7 Inv-loop μ-loop
+same-length-7 c = c .before .loop .inv .pairs-kept
+
+same-length-8 : tie.Need-same-length-8 Inv-loop μ-loop
+same-length-8 c = c .before .loop .inv .times-kept
 
 returns-2 : tie.Need-returns-2 Inv-loop μ-loop
 returns-2 c =
@@ -266,14 +296,17 @@ append-row-spec =
     same-length
     same-length-2
     same-length-3
+    same-length-4
     returns
-    put-record-requires
+    put-ranks-requires
+    put-times-requires
     add-k
     loop-less-2
     loop-again-2
     loop-less-3
     loop-again-3
-    same-length-4
     same-length-5
     same-length-6
+    same-length-7
+    same-length-8
     returns-2)

@@ -1,17 +1,23 @@
--- The part after the records is filled as an area of its own.
+-- In either area the part after the records is filled as an area of its own (`rest-filled`).
 use Rattle.pairs_storing.proofs.Records.{rest-filled}
-use Prim.Native.Nat.{_*_}
+use native.Mathlib.Omega.{arith}
 use borrow.Author.Needs.{needs}
 use Rattle.pairs_storing.proofs.clear_from.Statement.{statement}
 use Rattle.pairs_storing.proofs.clear_from.Tie as tie
 
 returns : tie.Need-returns
 returns c =
-    let after-fill = c .before .before in
+    let after-fill-times = c .before .before in
+    let after-fill = after-fill-times .before .before .before .before in
     let after-words-of = after-fill .before .before in
-    let start = after-words-of .before .before in
-    rest-filled (4 * start .args .count) (after-words-of .words-of .result) (start .args .pairs .now) _ (after-words-of .words-of .ensures)
-    (after-fill .fill .ensures)
+    let start = after-words-of .before .before .before in
+    let (records-in, same-room) = start .pre in
+    let count = start .args .count in
+    let words-are = after-words-of .words-of .ensures in (
+      rest-filled count (after-words-of .words-of .result) (start .args .pairs .now) _ words-are records-in (after-fill .fill .ensures),
+      rest-filled count (after-words-of .words-of .result) (start .args .times .now) _ words-are (omega (arith, records-in, same-room))
+          (after-fill-times .fill-times .ensures),
+    )
 
 pub clear-from-spec : {M : Type 1} → statement M
 clear-from-spec =
@@ -23,5 +29,11 @@ clear-from-spec =
     (λ c. search needs)
     (λ c. search needs)
     (λ c κs. search needs)
+    (λ c. search needs)
+    (λ c. search needs)
+    (λ c. search needs)
+    (λ c. search needs)
+    (λ c κs. search needs)
+    (λ c. search needs)
     (λ c. search needs)
     returns)

@@ -27,13 +27,14 @@ record Talking (card : List ℕ) (first : Held) (l₀ : Talk) (chunk₀ line₀ 
       → Underway card first from start now (l .reader) chunk line
 
 abbrev Inv-loop : tie.InvT-loop
-Inv-loop file ranks pairs live₀ down₀ estimates₀ elapsed₀ leaving groups route₀ log₀ out₀ chunk₀ line₀ said l₀
+Inv-loop file ranks pairs times live₀ down₀ estimates₀ elapsed₀ leaving groups route₀ log₀ out₀ chunk₀ line₀ said l₀
     live down estimates elapsed route log out chunk line l =
-    Talking file (heldIn l₀ (areasOf ranks pairs live₀ down₀ estimates₀ elapsed₀ leaving groups) (lentOf route₀ log₀) out₀) l₀ chunk₀ line₀
-    (heldIn l (areasOf ranks pairs live down estimates elapsed leaving groups) (lentOf route log) out) l chunk line
+    Talking file (heldIn l₀ (areasOf ranks pairs times live₀ down₀ estimates₀ elapsed₀ leaving groups) (lentOf route₀ log₀) out₀) l₀
+    chunk₀ line₀
+    (heldIn l (areasOf ranks pairs times live down estimates elapsed leaving groups) (lentOf route log) out) l chunk line
 
 abbrev μ-loop : tie.MeasureT-loop
-μ-loop file ranks pairs live₀ down₀ estimates₀ elapsed₀ leaving groups route₀ log₀ out₀ chunk₀ line₀ said l₀
+μ-loop file ranks pairs times live₀ down₀ estimates₀ elapsed₀ leaving groups route₀ log₀ out₀ chunk₀ line₀ said l₀
     live down estimates elapsed route log out chunk line l = stepsLeft (l .reader)
 
 -- ---- the first turn
@@ -80,8 +81,8 @@ loop-again c =
     let in-loop = after-heard .before .before in
     let loop = in-loop .before .loop in
     let reply = after-answer-line .answer-line in
-    let (_, (_, (_, (_, (_, (live-kept, (down-kept, (estimates-kept, (elapsed-kept, _))))))))) = reply .kept in
-    let (_, (_, (_, (_, (_, (_, (_, (_, (_, (_, (_, (_, (_, (out, _)))))))))))))) = reply .last in record {
+    let (_, (_, (_, (_, (_, (_, (live-kept, (down-kept, (estimates-kept, (elapsed-kept, _)))))))))) = reply .kept in
+    let (_, (_, (_, (_, (_, (_, (_, (_, (_, (_, (_, (_, (_, (_, (out, _))))))))))))))) = reply .last in record {
       live-kept = live-kept ∙ loop .inv .live-kept;
       down-kept = down-kept ∙ loop .inv .down-kept;
       estimates-kept = estimates-kept ∙ loop .inv .estimates-kept;

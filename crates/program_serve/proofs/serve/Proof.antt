@@ -12,7 +12,7 @@ abbrev after-answer-lines : tie.After-slice-known18 → tie.After-answer-lines
 after-answer-lines c = c .before .before .before .before .before .before .before .before
 
 abbrev after-begin : tie.After-answer-lines → tie.After-begin
-after-begin c = c .before .before .before .before .before .before .before .before .before .before .before .before
+after-begin c = c .before .before .before .before .before .before .before .before .before .before .before .before .before
 
 abbrev after-live : tie.After-answer-lines → tie.After-live
 after-live c = after-begin c .before .before .before .before .before .before .before .before .before .before .before .before
@@ -21,7 +21,7 @@ abbrev after-open-card : tie.After-answer-lines → tie.After-open-card
 after-open-card c = after-live c .before .before .before
 
 abbrev at-hand : tie.After-open-card → tie.After-slice-known7
-at-hand c = c .before .before .before .before .before .before .before .before .before .before
+at-hand c = c .before .before .before .before .before .before .before .before .before .before .before
 
 abbrev start : tie.After-open-card → tie.Start
 start c = at-hand c .before .before .before .before .before .before .before .before
@@ -29,8 +29,8 @@ start c = at-hand c .before .before .before .before .before .before .before .bef
 abbrev lent : tie.Start → Areas
 lent c =
     let a = c .args in
-    areasOf (a .ranks .now) (a .pairs .now) (a .live .now) (a .down .now) (a .estimates .now) (a .elapsed .now) (a .leaving .now)
-    (a .groups .now)
+    areasOf (a .ranks .now) (a .pairs .now) (a .times .now) (a .live .now) (a .down .now) (a .estimates .now) (a .elapsed .now)
+    (a .leaving .now) (a .groups .now)
 
 -- ---- the areas keep their lengths, first while the card is opened, then while lines are answered
 
@@ -39,36 +39,36 @@ ranks-kept c = let (_, (ranks, _)) = after-open-card (after-answer-lines c) .ope
 
 live-kept : tie.Need-same-length-2
 live-kept c =
-    let (_, (_, (_, (first, _)))) = after-open-card (after-answer-lines c) .open-card .kept in
-    let (_, (_, (_, (_, (then, _))))) = after-answer-lines c .answer-lines .kept in
-    then ∙ first
-
-down-kept : tie.Need-same-length-3
-down-kept c =
     let (_, (_, (_, (_, (first, _))))) = after-open-card (after-answer-lines c) .open-card .kept in
     let (_, (_, (_, (_, (_, (then, _)))))) = after-answer-lines c .answer-lines .kept in
     then ∙ first
 
-estimates-kept : tie.Need-same-length-4
-estimates-kept c =
+down-kept : tie.Need-same-length-3
+down-kept c =
     let (_, (_, (_, (_, (_, (first, _)))))) = after-open-card (after-answer-lines c) .open-card .kept in
     let (_, (_, (_, (_, (_, (_, (then, _))))))) = after-answer-lines c .answer-lines .kept in
     then ∙ first
 
-elapsed-kept : tie.Need-same-length-5
-elapsed-kept c =
+estimates-kept : tie.Need-same-length-4
+estimates-kept c =
     let (_, (_, (_, (_, (_, (_, (first, _))))))) = after-open-card (after-answer-lines c) .open-card .kept in
     let (_, (_, (_, (_, (_, (_, (_, (then, _)))))))) = after-answer-lines c .answer-lines .kept in
     then ∙ first
 
+elapsed-kept : tie.Need-same-length-5
+elapsed-kept c =
+    let (_, (_, (_, (_, (_, (_, (_, (first, _)))))))) = after-open-card (after-answer-lines c) .open-card .kept in
+    let (_, (_, (_, (_, (_, (_, (_, (_, (then, _))))))))) = after-answer-lines c .answer-lines .kept in
+    then ∙ first
+
 leaving-kept : tie.Need-same-length-6
 leaving-kept c =
-    let (_, (_, (_, (_, (_, (_, (_, (leaving, _)))))))) = after-open-card (after-answer-lines c) .open-card .kept in
+    let (_, (_, (_, (_, (_, (_, (_, (_, (leaving, _))))))))) = after-open-card (after-answer-lines c) .open-card .kept in
     leaving
 
 groups-kept : tie.Need-same-length-7
 groups-kept c =
-    let (_, (_, (_, (_, (_, (_, (_, (_, (groups, _))))))))) = after-open-card (after-answer-lines c) .open-card .kept in
+    let (_, (_, (_, (_, (_, (_, (_, (_, (_, (groups, _)))))))))) = after-open-card (after-answer-lines c) .open-card .kept in
     groups
 
 -- ---- the answer
@@ -78,7 +78,7 @@ returns c =
     let after-answer-lines = after-answer-lines c in
     let after-open-card = after-open-card after-answer-lines in
     let opened = after-open-card .open-card .ensures in
-    let (_, (_, (_, (_, (_, (_, (_, (_, (_, (out, _)))))))))) = after-open-card .open-card .last in
+    let (_, (_, (_, (_, (_, (_, (_, (_, (_, (_, (out, _))))))))))) = after-open-card .open-card .last in
     λ lends.
     card-runs (lent (start after-open-card)) lends out (after-begin after-answer-lines .begin .ensures)
     (after-answer-lines .answer-lines .ensures) (opened .quiet) (opened .right lends)

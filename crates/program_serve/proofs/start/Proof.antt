@@ -17,32 +17,32 @@ ranks-part c = part junctionLimit _ (c .before .room-for .ensures .0)
 
 live-part : tie.Need-slice-aggregate-serve-2
 live-part c =
-    let after-room-for = c .before .before .before in
+    let after-room-for = c .before .before .before .before in
     part roadLimit _ (after-room-for .room-for .ensures .1)
 
 down-part : tie.Need-slice-aggregate-serve-3
 down-part c =
-    let after-room-for = c .before .before .before .before in
+    let after-room-for = c .before .before .before .before .before in
     part junctionLimit _ (after-room-for .room-for .ensures .0)
 
 estimates-part : tie.Need-slice-aggregate-serve-4
 estimates-part c =
-    let after-room-for = c .before .before .before .before .before in
+    let after-room-for = c .before .before .before .before .before .before in
     part junctionLimit _ (after-room-for .room-for .ensures .0)
 
 elapsed-part : tie.Need-slice-aggregate-serve-5
 elapsed-part c =
-    let after-room-for = c .before .before .before .before .before .before in
+    let after-room-for = c .before .before .before .before .before .before .before in
     part junctionLimit _ (after-room-for .room-for .ensures .0)
 
 leaving-part : tie.Need-slice-aggregate-serve-6
 leaving-part c =
-    let after-room-for = c .before .before .before .before .before .before .before in
+    let after-room-for = c .before .before .before .before .before .before .before .before in
     part roadLimit _ (after-room-for .room-for .ensures .1)
 
 groups-part : tie.Need-slice-aggregate-serve-7
 groups-part c =
-    let after-room-for = c .before .before .before .before .before .before .before .before in
+    let after-room-for = c .before .before .before .before .before .before .before .before .before in
     part-more junctionLimit _ (after-room-for .room-for .ensures .0)
 
 -- ---- the answer
@@ -50,17 +50,18 @@ groups-part c =
 returns : tie.Need-returns
 returns c =
     let after-serve = c .before .before .before .before .before .before .before in
-    let after-room-for = after-serve .before .before .before .before .before .before .before .before .before .before .before .before in
+    let after-groups = after-serve .before .before .before .before in
+    let after-room-for = after-groups .before .before .before .before .before .before .before .before .before in
     let start = after-room-for .before .before in
     let served = after-serve .serve in
     let size = after-room-for .room-for in
     let lent = lends (start .args .file .now) (size .ensures .0) (size .ensures .1) in
-    let (_, (ranks, (pairs, (live, (down, (estimates, (elapsed, (leaving, (groups, lent-last))))))))) = served .last in
+    let (_, (ranks, (pairs, (times, (live, (down, (estimates, (elapsed, (leaving, (groups, lent-last)))))))))) = served .last in
     let (route, (log, (out, _))) = lent-last in record {
       areas = lentAreas (size .result .n) (size .result .m);
       lends = lent;
       lent = lentOf (replicate junctionLimit 0) (replicate junctionLimit 0);
-      left = heldIn (served .result) (areasOf ranks pairs live down estimates elapsed leaving groups) (lentOf route log) out;
+      left = heldIn (served .result) (areasOf ranks pairs times live down estimates elapsed leaving groups) (lentOf route log) out;
       header = refl;
       runs = served .ensures lent;
     }

@@ -22,8 +22,8 @@ abbrev state : tie.Start → State
 state c =
     let a = c .args in
     before (headerIn (a .header))
-    (areasOf (a .ranks .now) (a .pairs .now) (a .live .now) (a .down .now) (a .estimates .now) (a .elapsed .now) (a .leaving .now)
-    (a .groups .now))
+    (areasOf (a .ranks .now) (a .pairs .now) (a .times .now) (a .live .now) (a .down .now) (a .estimates .now) (a .elapsed .now)
+    (a .leaving .now) (a .groups .now))
 
 abbrev lent : tie.Start → Lent
 lent c = lentOf (c .args .route .now) (c .args .log .now)
@@ -34,22 +34,22 @@ abbrev after-call : tie.After-write-answer → tie.After-call
 after-call c = c .before .before .before .before .before .before .before .before .before .before .before .before .before
 
 abbrev after-c : tie.After-call → tie.After-c
-after-c c = c .before .before .before .before .before .before .before .before .before
+after-c c = c .before .before .before .before .before .before .before .before .before .before
 
 roomy : (c : tie.After-call) → Roomy (lent (start (after-c c .before .before)))
-roomy c = (c .before .before .call-arg6 .given .0 .1, c .before .call-arg7 .given .0 .1)
+roomy c = (c .before .before .call-arg7 .given .0 .1, c .before .call-arg8 .given .0 .1)
 
 live-kept : tie.Need-same-length
-live-kept c = let (_, (_, (_, (_, (live, _))))) = after-call c .call .kept in live
+live-kept c = let (_, (_, (_, (_, (_, (live, _)))))) = after-call c .call .kept in live
 
 down-kept : tie.Need-same-length-2
-down-kept c = let (_, (_, (_, (_, (_, (down, _)))))) = after-call c .call .kept in down
+down-kept c = let (_, (_, (_, (_, (_, (_, (down, _))))))) = after-call c .call .kept in down
 
 estimates-kept : tie.Need-same-length-3
-estimates-kept c = let (_, (_, (_, (_, (_, (_, (estimates, _))))))) = after-call c .call .kept in estimates
+estimates-kept c = let (_, (_, (_, (_, (_, (_, (_, (estimates, _)))))))) = after-call c .call .kept in estimates
 
 elapsed-kept : tie.Need-same-length-4
-elapsed-kept c = let (_, (_, (_, (_, (_, (_, (_, (elapsed, _)))))))) = after-call c .call .kept in elapsed
+elapsed-kept c = let (_, (_, (_, (_, (_, (_, (_, (_, (elapsed, _))))))))) = after-call c .call .kept in elapsed
 
 -- ---- the answers
 
@@ -71,7 +71,7 @@ returns-2 c =
     let after-read-line = after-c .before .before in
     let start = start after-read-line in
     let roomy = roomy after-call in
-    let (_, (_, (_, (_, (_, (_, (_, (_, (_, (_, (route-kept, _))))))))))) = after-call .call .kept in
+    let (_, (_, (_, (_, (_, (_, (_, (_, (_, (_, (_, (route-kept, _)))))))))))) = after-call .call .kept in
     let (_, (_, (out-kept, _))) = c .write-answer .kept in (
       call-way (start .args .line .now) (after-read-line .read-line .ensures) (room (c .before .write-answer-arg3 .given .0 .1))
           (after-c .c .given .1) roomy (at-most (route-kept ∙ roomy .0)) (after-call .call .ensures) (c .write-answer .ensures),

@@ -16,7 +16,7 @@ abbrev after-prepare : tie.After-judge → tie.After-prepare
 after-prepare c = after-live c .before .before .before
 
 abbrev at-hand : tie.After-prepare → tie.After-slice-known7
-at-hand c = c .before .before .before .before .before .before .before .before .before
+at-hand c = c .before .before .before .before .before .before .before .before .before .before
 
 abbrev start : tie.After-prepare → tie.Start
 start c = at-hand c .before .before .before .before .before .before .before .before
@@ -24,8 +24,8 @@ start c = at-hand c .before .before .before .before .before .before .before .bef
 abbrev lent : tie.Start → Areas
 lent c =
     let a = c .args in
-    areasOf (a .ranks .now) (a .pairs .now) (a .live .now) (a .down .now) (a .estimates .now) (a .elapsed .now) (a .leaving .now)
-    (a .groups .now)
+    areasOf (a .ranks .now) (a .pairs .now) (a .times .now) (a .live .now) (a .down .now) (a .estimates .now) (a .elapsed .now)
+    (a .leaving .now) (a .groups .now)
 
 -- ---- the answers
 
@@ -36,22 +36,22 @@ ranks-kept : tie.Need-same-length
 ranks-kept c = let (_, (ranks, _)) = after-prepare c .prepare .kept in ranks
 
 live-kept : tie.Need-same-length-2
-live-kept c = let (_, (_, (_, (live, _)))) = after-prepare c .prepare .kept in live
+live-kept c = let (_, (_, (_, (_, (live, _))))) = after-prepare c .prepare .kept in live
 
 down-kept : tie.Need-same-length-3
-down-kept c = let (_, (_, (_, (_, (down, _))))) = after-prepare c .prepare .kept in down
+down-kept c = let (_, (_, (_, (_, (_, (down, _)))))) = after-prepare c .prepare .kept in down
 
 estimates-kept : tie.Need-same-length-4
-estimates-kept c = let (_, (_, (_, (_, (_, (estimates, _)))))) = after-prepare c .prepare .kept in estimates
+estimates-kept c = let (_, (_, (_, (_, (_, (_, (estimates, _))))))) = after-prepare c .prepare .kept in estimates
 
 elapsed-kept : tie.Need-same-length-5
-elapsed-kept c = let (_, (_, (_, (_, (_, (_, (elapsed, _))))))) = after-prepare c .prepare .kept in elapsed
+elapsed-kept c = let (_, (_, (_, (_, (_, (_, (_, (elapsed, _)))))))) = after-prepare c .prepare .kept in elapsed
 
 leaving-kept : tie.Need-same-length-6
-leaving-kept c = let (_, (_, (_, (_, (_, (_, (_, (leaving, _)))))))) = after-prepare c .prepare .kept in leaving
+leaving-kept c = let (_, (_, (_, (_, (_, (_, (_, (_, (leaving, _))))))))) = after-prepare c .prepare .kept in leaving
 
 groups-kept : tie.Need-same-length-7
-groups-kept c = let (_, (_, (_, (_, (_, (_, (_, (_, (groups, _))))))))) = after-prepare c .prepare .kept in groups
+groups-kept c = let (_, (_, (_, (_, (_, (_, (_, (_, (_, (groups, _)))))))))) = after-prepare c .prepare .kept in groups
 
 returns : tie.Need-returns
 returns c =

@@ -14,7 +14,8 @@ abbrev after-sizes : tie.After-advance → tie.After-sizes
 after-sizes c = c .before .before .before .before .before .before
 
 abbrev start-of : tie.After-sizes → tie.Start
-start-of c = c .before .before .before .before .before .before .before .before .before .before .before .before .before .before .before
+start-of c =
+    c .before .before .before .before .before .before .before .before .before .before .before .before .before .before .before .before
 
 abbrev start : tie.After-advance → tie.Start
 start c = start-of (after-sizes c)
@@ -27,12 +28,12 @@ entry c =
 
 abbrev exit : tie.After-advance → Written
 exit c =
-    let (_, (_, (_, (_, (_, (_, (_, (_, (_, (_, (_, (estimates, (elapsed, (log, (room, _))))))))))))))) = c .advance .last in
+    let (_, (_, (_, (_, (_, (_, (_, (_, (_, (_, (_, (_, (estimates, (elapsed, (log, (room, _)))))))))))))))) = c .advance .last in
     writtenOf estimates elapsed room log
 
 long : (c : tie.After-advance) → SameLengths (entry c) (exit c)
 long c =
-    let (_, (_, (_, (_, (_, (_, (_, (_, (_, (_, (_, (estimates, (elapsed, (log, (room, _))))))))))))))) = c .advance .kept in
+    let (_, (_, (_, (_, (_, (_, (_, (_, (_, (_, (_, (_, (estimates, (elapsed, (log, (room, _)))))))))))))))) = c .advance .kept in
     record { estimates-long = estimates; elapsed-long = elapsed; ways-long = room; log-long = log }
 
 abbrev after-advance : tie.After-is-none → tie.After-advance

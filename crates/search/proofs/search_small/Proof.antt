@@ -7,7 +7,7 @@ use Rattle.search.proofs.search_small.Tie as tie
 
 -- from where n is compared
 abbrev start : tie.After-struct-known → tie.Start
-start c = c .before .before .before .before .before .before .before .before .before .before .before .before .before .before
+start c = c .before .before .before .before .before .before .before .before .before .before .before .before .before .before .before
 
 search-in-requires : tie.Need-search-in-requires
 search-in-requires c κs =

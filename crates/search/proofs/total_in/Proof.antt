@@ -12,7 +12,7 @@ abbrev after-target : tie.After-advance → tie.After-target
 after-target c = c .before .before .before .before .before
 
 abbrev start-of : tie.After-target → tie.Start
-start-of c = c .before .before .before .before .before .before .before .before .before .before .before .before .before .before
+start-of c = c .before .before .before .before .before .before .before .before .before .before .before .before .before .before .before
 
 abbrev start : tie.After-advance → tie.Start
 start c = start-of (after-target c)
@@ -27,7 +27,7 @@ slice-read-of-word : tie.Need-slice-read-of-word
 slice-read-of-word c =
     let after-advance = c .before .before .before .before .before .before .before .before .before .before in
     let (within, _, _) = start after-advance .pre in
-    let (_, (_, (_, (_, (_, (_, (_, (_, (_, (_, (_, (_, (elapsed-kept, _))))))))))))) = after-advance .advance .kept in
+    let (_, (_, (_, (_, (_, (_, (_, (_, (_, (_, (_, (_, (_, (elapsed-kept, _)))))))))))))) = after-advance .advance .kept in
     below-kept (within .target-in) (within .sized .elapsed-is) elapsed-kept
 
 returns : tie.Need-returns

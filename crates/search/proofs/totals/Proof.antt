@@ -13,7 +13,7 @@ abbrev after-sizes : tie.After-least-total-arg2 → tie.After-sizes
 after-sizes c = c .before .before .before .before .before
 
 abbrev start : tie.After-least-total-arg2 → tie.Start
-start c = after-sizes c .before .before .before .before .before .before .before .before .before .before .before .before
+start c = after-sizes c .before .before .before .before .before .before .before .before .before .before .before .before .before
 
 -- ---- from where the second one is made
 
@@ -30,15 +30,15 @@ slice-aggregate-least-total c =
 least-total-requires : tie.Need-least-total-requires
 least-total-requires c κs =
     let start = start c in
-    let times = met (start .args .trip) (start .args .access .now) (start .args .live .now) in
-    within-again (start .pre .within) times refl refl (first-half (start .args .work .now) (start .pre .work-is))
+    let live = met (start .args .trip) (start .args .access .now) (start .args .live .now) in
+    within-again (start .pre .within) live refl refl (first-half (start .args .work .now) (start .pre .work-is))
 
 least-total-requires-2 : tie.Need-least-total-requires-2
 least-total-requires-2 c κs =
     let after-least-total = after-least-total c in
     let start = start (after-least-total .before) in
-    let (_, (_, (_, (_, (_, (_, (_, (_, (_, (_, (estimates-kept, (work-kept, _)))))))))))) = after-least-total .least-total .kept in
-    let (_, (_, (_, (_, (_, (_, (_, (_, (_, (_, (_, (half, _)))))))))))) = after-least-total .least-total .last in
+    let (_, (_, (_, (_, (_, (_, (_, (_, (_, (_, (_, (estimates-kept, (work-kept, _))))))))))))) = after-least-total .least-total .kept in
+    let (_, (_, (_, (_, (_, (_, (_, (_, (_, (_, (_, (_, (half, _))))))))))))) = after-least-total .least-total .last in
     let a = start .args in
     within-again (start .pre .within) (met (seenBy (a .trip) (a .view)) (a .access .now) (a .live .now))
     (views-long (a .trip) (a .view) (a .access .now) (a .live .now)) estimates-kept

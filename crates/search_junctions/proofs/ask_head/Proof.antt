@@ -12,7 +12,7 @@ use Rattle.search_junctions.proofs.ask_head.Tie as tie
 -- ---- the road, once its words are read
 
 abbrev start : tie.After-time-of → tie.Start
-start c = c .before .before .before .before .before .before .before .before .before .before
+start c = c .before .before .before .before .before .before .before .before .before .before .before
 
 abbrev after-head-of : tie.Else2 → tie.After-head-of
 after-head-of c = c .before .before .before
@@ -37,7 +37,7 @@ open-road c =
 
 time-of-requires : tie.Need-time-of-requires
 time-of-requires c κs =
-    let start = c .before .before .before .before .before .before .before .before .before in
+    let start = c .before .before .before .before .before .before .before .before .before .before in
     omega (arith, start .pre .0, start .pre .1 .live-is)
 
 returns : tie.Need-returns
@@ -69,6 +69,7 @@ estimate-requires c κs =
       down-is = lent .down-is;
       estimates-are = lent .estimates-are;
       records-in = lent .pairs-are;
+      times-in = lent .times-are;
       count-high = lent .count-high;
     }
 

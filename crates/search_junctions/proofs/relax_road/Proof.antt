@@ -52,10 +52,10 @@ returns-2 c =
 returns-3 : tie.Need-returns-3
 returns-3 c =
     let after-take = c .before .before in
-    let after-or-sum = after-take .before .before in
-    let after-of-word = after-or-sum .before in
+    let after-plus = after-take .before .before in
+    let after-of-word = after-plus .before in
     let else2 = after-of-word .before .before .before in
-    road-open (open-road else2) (after-of-word .of-word .ensures) (after-or-sum .or-sum .ensures) (after-take .take .ensures)
+    road-open (open-road else2) (after-of-word .of-word .ensures) (after-plus .plus .ensures) (after-take .take .ensures)
 
 pub relax-road-spec : {M : Type 1} → statement M
 relax-road-spec =

@@ -1,9 +1,5 @@
 -- The time is the upper part of the label's word.
-use mathlib.Core.Path.{_∙_, ap}
-use mathlib.Core.Option.{some}
-use Prim.Native.Nat.{ℕ}
-use Rattle.model.specs.Word.{word}
-use Rattle.network.specs.Width.{fit}
+use mathlib.Core.Path.{_∙_}
 use borrow.Author.Needs.{needs}
 use Rattle.search_labels.proofs.time_of.Statement.{statement}
 use Rattle.search_labels.proofs.time_of.Tie as tie
@@ -11,7 +7,7 @@ use Rattle.search_labels.proofs.time_of.Tie as tie
 returns : tie.Need-returns
 returns c =
     let (upper-is, _) = c .before .upper-of .ensures in
-    c .of-total .ensures ∙ ap (λ (t : ℕ). word (fit (some t))) upper-is
+    c .of-word .ensures ∙ upper-is
 
 pub time-of-spec : {M : Type 1} → statement M
 time-of-spec =

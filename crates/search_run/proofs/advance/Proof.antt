@@ -19,31 +19,32 @@ use Rattle.search_run.proofs.advance.Statement.{statement}
 use Rattle.search_run.proofs.advance.Tie as tie
 
 abbrev Inv-loop : tie.InvT-loop
-Inv-loop trip budget roads order ranks pairs access live down leaving groups estimates₀ elapsed₀ log₀ room₀ n most c₀ v₀
+Inv-loop trip budget roads order ranks pairs times access live down leaving groups estimates₀ elapsed₀ log₀ room₀ n most c₀ v₀
     estimates elapsed log room c v =
-    Running (givenOf (trip .sizes) roads order ranks pairs (met trip access live) down) leaving groups (trip .start .0)
+    Running (givenOf (trip .sizes) roads order ranks pairs times (met trip access live) down) leaving groups (trip .start .0)
     (trip .target .0) most
     (standOf estimates₀ elapsed₀ log₀ room₀ c₀ v₀) (standOf estimates elapsed log room c v)
 
 abbrev μ-loop : tie.MeasureT-loop
-μ-loop trip budget roads order ranks pairs access live down leaving groups estimates₀ elapsed₀ log₀ room₀ n most c₀ v₀
+μ-loop trip budget roads order ranks pairs times access live down leaving groups estimates₀ elapsed₀ log₀ room₀ n most c₀ v₀
     estimates elapsed log room c v = most - c
 
 -- ---- before the loop
 
 abbrev start-of : tie.After-ask-start Inv-loop μ-loop → tie.Start Inv-loop μ-loop
-start-of c = c .before .before .before .before .before .before .before .before .before .before .before .before .before .before .before
+start-of c =
+    c .before .before .before .before .before .before .before .before .before .before .before .before .before .before .before .before
 
 -- ---- at the head of the loop
 
 abbrev after-smaller : tie.At-loop Inv-loop μ-loop → tie.After-smaller Inv-loop μ-loop
 after-smaller c = c .before .before .before
 
-abbrev after-fill : tie.At-loop Inv-loop μ-loop → tie.After-fill Inv-loop μ-loop
-after-fill c = after-smaller c .before .before .before
+abbrev after-fill-times : tie.At-loop Inv-loop μ-loop → tie.After-fill-times Inv-loop μ-loop
+after-fill-times c = after-smaller c .before .before .before
 
 abbrev after-begin : tie.At-loop Inv-loop μ-loop → tie.After-begin Inv-loop μ-loop
-after-begin c = after-fill c .before .before .before .before
+after-begin c = after-fill-times c .before .before .before .before
 
 abbrev after-ask-start : tie.At-loop Inv-loop μ-loop → tie.After-ask-start Inv-loop μ-loop
 after-ask-start c = after-begin c .before .before .before .before
@@ -57,11 +58,11 @@ sizes c = start c .args .trip .sizes
 -- the areas are as long as they came
 estimates-long : (c : tie.At-loop Inv-loop μ-loop) → length (c .loop .estimates) ≡ length (start c .args .estimates .now)
 estimates-long c =
-    let (_, (_, (_, (_, (_, (estimates-kept, _)))))) = after-ask-start c .ask-start .kept in
+    let (_, (_, (_, (_, (_, (_, (estimates-kept, _))))))) = after-ask-start c .ask-start .kept in
     c .loop .inv .estimates-long ∙ estimates-kept
 
 elapsed-long : (c : tie.At-loop Inv-loop μ-loop) → length (c .loop .elapsed) ≡ length (start c .args .elapsed .now)
-elapsed-long c = c .loop .inv .elapsed-long ∙ after-fill c .fill .kept .0
+elapsed-long c = c .loop .inv .elapsed-long ∙ after-fill-times c .fill-times .kept .0
 
 room-long : (c : tie.At-loop Inv-loop μ-loop) → length (c .loop .room) ≡ length (start c .args .room .now)
 room-long c =
@@ -119,7 +120,7 @@ after-ask c = c .before .before .before .before .before
 
 ask-start-requires : tie.Need-ask-start-requires Inv-loop μ-loop
 ask-start-requires c κs =
-    let start = c .before .before .before .before .before .before .before .before .before .before .before .before .before .before in
+    let start = c .before .before .before .before .before .before .before .before .before .before .before .before .before .before .before in
     (start .pre .within .start-in, pairs-in (start .pre .within .sized) refl)
 
 begin-requires : tie.Need-begin-requires Inv-loop μ-loop
@@ -131,8 +132,8 @@ begin-requires c κs =
 choose-requires : tie.Need-choose-requires Inv-loop μ-loop
 choose-requires c κs =
     let after-smaller = c .before in
-    let after-fill = after-smaller .before .before .before in
-    let after-begin = after-fill .before .before .before .before in
+    let after-fill-times = after-smaller .before .before .before in
+    let after-begin = after-fill-times .before .before .before .before in
     let after-ask-start = after-begin .before .before .before .before in
     let start = start-of after-ask-start in
     let (_, (room-kept, _)) = after-begin .begin .kept in
@@ -141,8 +142,8 @@ choose-requires c κs =
 loop-holds : tie.Need-loop-holds Inv-loop μ-loop
 loop-holds c =
     let after-smaller = c .before .before in
-    let after-fill = after-smaller .before .before .before in
-    let after-begin = after-fill .before .before .before .before in
+    let after-fill-times = after-smaller .before .before .before in
+    let after-begin = after-fill-times .before .before .before .before in
     let after-ask-start = after-begin .before .before .before .before in
     let right = after-begin .begin .ensures .room in
     running-start (first-inside right (omega (arith, start-of after-ask-start .pre .within .start-in)) (c .choose .ensures)) right
@@ -239,7 +240,7 @@ relax-requires c κs =
     let after-ask = c .before .before .before .before in
     let after-put = after-put after-ask in
     let at-loop = in-loop after-put .before in
-    let (_, (_, (_, (_, (_, (_, (_, (_, (estimates-kept, _))))))))) = after-ask .ask .kept in (
+    let (_, (_, (_, (_, (_, (_, (_, (_, (_, (estimates-kept, _)))))))))) = after-ask .ask .kept in (
       reading (start at-loop .pre .within .sized) (estimates-kept ∙ estimates-long at-loop),
       room-settled (after-put .put .kept .0) (after-put .put .ensures) (at-loop .loop .inv .right),
     )
@@ -264,7 +265,7 @@ loop-again-2 c =
     let after-put = after-put after-ask in
     let in-loop = in-loop after-put in
     let from-is = after-time-of after-put .time-of .ensures in
-    let (_, (_, (_, (_, (_, (_, (_, (_, (estimates-kept, _))))))))) = after-ask .ask .kept in
+    let (_, (_, (_, (_, (_, (_, (_, (_, (_, (estimates-kept, _)))))))))) = after-ask .ask .kept in
     let (_, (_, (_, (_, (_, (room-kept, _)))))) = after-relax .relax .kept in
     running-on (in-loop .before .loop .inv) (turn in-loop) (after-word after-put .word .ensures ∙ from-is) (after-put .put .kept .0)
     (after-put .put .ensures) (sym (after-is-goal .is-goal .ensures) ∙ else1 .if1 .left) (after-group-at after-ask .group-at .ensures)
@@ -277,7 +278,8 @@ returns c =
     let blank = blank-of (lends .within .sized .n-high) (lends .fresh) refl (pairs-in (lends .within .sized) refl) in
     let begins = begins-first (lends .within .start-in) blank (after-ask-start at-loop .ask-start .ensures)
     (after-begin at-loop .begin .ensures) in
-    advances lends begins (after-fill at-loop .fill .ensures) (at-loop .before .choose .ensures) (after-smaller at-loop .smaller .ensures)
+    advances lends begins (after-fill-times at-loop .fill-times .ensures) (at-loop .before .choose .ensures)
+    (after-smaller at-loop .smaller .ensures)
     (at-loop .loop .inv) (c .loop-test .left)
 
 pub advance-spec : {M : Type 1} → statement M

@@ -13,21 +13,24 @@ returns : tie.Need-returns
 returns c =
     let after-set = c .before .before in
     let after-call = after-set .before .before .before .before .before .before in
-    let start = after-call .before .before .before .before .before .before .before .before .before .before .before .before .before in
+    let start = after-call
+    .before .before .before .before .before .before .before .before .before .before .before .before .before .before in
     as-asked (after-call .call .given .1) (after-set .set .ensures (lent start))
 
 returns-2 : tie.Need-returns-2
 returns-2 c =
     let after-aim = c .before .before .before .before in
     let after-call2 = after-aim .before .before .before .before .before .before in
-    let start = after-call2 .before .before .before .before .before .before .before .before .before .before .before .before .before in
+    let start = after-call2
+    .before .before .before .before .before .before .before .before .before .before .before .before .before .before in
     as-asked (after-call2 .call2 .given .1) (after-aim .aim .ensures (lent start))
 
 returns-3 : tie.Need-returns-3
 returns-3 c =
     let after-estimate = c .before .before in
     let after-call3 = after-estimate .before .before .before .before .before .before in
-    let start = after-call3 .before .before .before .before .before .before .before .before .before .before .before .before .before in
+    let start = after-call3
+    .before .before .before .before .before .before .before .before .before .before .before .before .before .before in
     as-asked (after-call3 .call3 .given .1) (after-estimate .estimate .ensures (lent start))
 
 returns-4 : tie.Need-returns-4

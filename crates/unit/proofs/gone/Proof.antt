@@ -15,9 +15,9 @@ returns c =
 
 returns-2 : tie.Need-returns-2
 returns-2 c =
-    let after-is-none = c .before .before in
+    let after-is-none = c .before in
     let a = after-is-none .before .args in
-    gone-some (a .total .0) (a .count) (a .roads) (after-is-none .is-none .ensures) (c .before .if1 .left)
+    gone-some (a .total .0) (a .count) (a .roads) (after-is-none .is-none .ensures) (c .if1 .left)
 
 pub gone-spec : {M : Type 1} → statement M
-gone-spec = tie.close (tie.spec (λ c κs. search needs) (λ c κs. search needs) returns (λ c. search needs) returns-2)
+gone-spec = tie.close (tie.spec (λ c κs. search needs) (λ c κs. search needs) returns returns-2)

@@ -19,7 +19,7 @@ returns-2 c =
 
 returns-3 : tie.Need-returns-3
 returns-3 c =
-    let after-answer2 = c .before .before .before in
+    let after-answer2 = c .before .before in
     let after-words-of = after-answer2 .before .before in
     c .plain3 .ensures ∙ answer-told (after-words-of .words-of .ensures) (after-answer2 .answer2 .given .1)
 
@@ -46,7 +46,6 @@ answer-of-spec =
     (λ c κs. search needs)
     (λ c. search needs)
     (λ c κs. search needs)
-    (λ c. search needs)
     (λ c. search needs)
     (λ c κs. search needs)
     (λ c. search needs)

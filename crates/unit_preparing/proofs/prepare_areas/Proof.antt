@@ -1,6 +1,6 @@
 -- The two bodies are sound and have the card's map (`bodies`), so ranks and contraction are that map's. Where its pairs do not fit, all
 -- areas have their lengths still and become zeros (`no-room`); where they fit, each of the others is filled by its own call (`with-room`).
-use mathlib.Core.Path.{refl}
+use mathlib.Core.Path.{_∙_, refl}
 use Rattle.model.specs.Areas.{Areas}
 use Rattle.pairs_contraction.specs.Contraction.{contraction-prepared}
 use Rattle.unit_preparing.specs.Preparing.{held}
@@ -14,10 +14,10 @@ use Rattle.unit_preparing.proofs.prepare_areas.Tie as tie
 -- ---- the areas that were lent, and the two bodies of the card
 
 abbrev areas : tie.Start → Areas
-areas c = let a = c .args in held (a .ranks) (a .pairs) (a .live) (a .down) (a .estimates) (a .elapsed) (a .leaving) (a .groups)
+areas c = let a = c .args in held (a .ranks) (a .pairs) (a .times) (a .live) (a .down) (a .estimates) (a .elapsed) (a .leaving) (a .groups)
 
 abbrev start : tie.After-roads-of → tie.Start
-start c = c .before .before .before .before .before .before .before .before .before .before
+start c = c .before .before .before .before .before .before .before .before .before .before .before
 
 bodies : (c : tie.After-order-of) → let s = start (c .before) in
     Bodies (s .args .card .now) (s .args .s) (areas s) (c .before .roads-of .result .now) (c .order-of .result .now)
@@ -34,42 +34,46 @@ fill-ranks-requires c κs = let b = bodies (c .before) in ((_, sound b), order-l
 
 contract-requires : tie.Need-contract-requires
 contract-requires c κs =
-    let after-fill-ranks = c .before .before .before .before in
+    let after-fill-ranks = c .before .before .before .before .before in
     let after-order-of = after-fill-ranks .before .before in
     let b = bodies after-order-of in
-    (sound b, after-fill-ranks .fill-ranks .ensures (after-order-of .before .roads-of .result .now), sized (b .accepts) .pairs-high)
+    let ranks-are = after-fill-ranks .fill-ranks .ensures (after-order-of .before .roads-of .result .now) in
+    let lengths = sized (b .accepts) in
+    (sound b, ranks-are, lengths .pairs-high, lengths .times)
 
 -- ---- once the pairs are contracted
 
 abbrev after-fill-ranks : tie.After-contract → tie.After-fill-ranks
-after-fill-ranks c = c .before .before .before .before .before
+after-fill-ranks c = c .before .before .before .before .before .before
 
 abbrev after-order-of : tie.After-contract → tie.After-order-of
 after-order-of c = after-fill-ranks c .before .before
 
 fill-live-requires : tie.Need-fill-live-requires
 fill-live-requires c κs =
-    let after-contract = c .before .before .before .before .before .before in
+    let after-contract = c .before .before .before .before .before .before .before .before in
     roads-long (bodies (after-order-of after-contract))
 
 group-roads-requires : tie.Need-group-roads-requires
 group-roads-requires c κs =
-    let after-fill = c .before .before .before .before .before .before .before .before .before .before .before .before in
-    let after-contract = after-fill .before .before .before .before .before .before .before .before .before .before .before in
+    let after-fill-times = c .before .before .before .before .before .before .before .before .before .before .before .before in
+    let after-count = after-fill-times .before .before .before .before .before .before .before in
+    let after-contract = after-count .before .before .before .before .before .before in
     groups-asked (bodies (after-order-of after-contract))
 
 -- they do not fit
 returns : tie.Need-returns
 returns c =
     let after-live = c .before .before .before .before .before .before .before .before .before .before .before in
-    let after-clear = after-live .before .before .before .before .before in
-    let after-enum-told = after-clear .before .before .before .before .before .before .before .before .before in
-    let after-contract = after-enum-told .before .before .before .before in
+    let after-clear = after-live .before .before .before .before .before .before .before in
+    let after-enum-told = after-clear .before .before .before .before .before .before .before .before .before .before in
+    let after-contract = after-enum-told .before .before .before .before .before .before in
     let (_, (ranks-kept, _)) = after-fill-ranks after-contract .fill-ranks .kept in
-    let (_, (_, (_, (pairs-kept, _)))) = after-contract .contract .kept in
+    let (_, (_, (_, (pairs-kept, (times-kept, _))))) = after-contract .contract .kept in
     let lengths-kept = alike-same (record {
       ranks = ranks-kept;
       pairs = pairs-kept;
+      times = times-kept;
       live = refl;
       down = refl;
       estimates = refl;
@@ -84,19 +88,21 @@ returns c =
 returns-2 : tie.Need-returns-2
 returns-2 c =
     let after-group-roads = c .before .before .before .before in
-    let after-fill3 = after-group-roads .before .before .before .before .before in
-    let after-fill2 = after-fill3 .before .before .before .before in
-    let after-fill = after-fill2 .before .before .before .before in
-    let after-fill-live = after-fill .before .before .before .before in
+    let after-fill-times3 = after-group-roads .before .before .before .before .before in
+    let after-fill-times2 = after-fill-times3 .before .before .before .before in
+    let after-fill-times = after-fill-times2 .before .before .before .before in
+    let after-fill-live = after-fill-times .before .before .before .before in
     let after-count = after-fill-live .before .before .before in
-    let after-contract = after-count .before .before .before .before in
+    let after-contract = after-count .before .before .before .before .before .before in
     let after-roads-of = after-order-of after-contract .before in
     let b = bodies (after-order-of after-contract) in
     let ranks-are = after-fill-ranks after-contract .fill-ranks .ensures (after-roads-of .roads-of .result .now) in
-    let (_, (_, (_, (pairs-kept, _)))) = after-contract .contract .kept in
-    let made = contraction-prepared (sound b) ranks-are pairs-kept (after-count .count .given .1) (after-contract .contract .ensures) in
-    with-room b made pairs-kept (after-fill-live .fill-live .ensures) (after-fill .fill .ensures) (after-fill2 .fill2 .ensures)
-    (after-fill3 .fill3 .ensures) (after-group-roads .group-roads .ensures)
+    let (_, (_, (_, (pairs-kept, (times-kept, _))))) = after-contract .contract .kept in
+    let times-long = times-kept ∙ sized (b .accepts) .times in
+    let made = contraction-prepared (sound b) ranks-are pairs-kept times-long (after-count .count .given .1)
+    (after-contract .contract .ensures) in
+    with-room b made pairs-kept (after-fill-live .fill-live .ensures) (after-fill-times .fill-times .ensures)
+    (after-fill-times2 .fill-times2 .ensures) (after-fill-times3 .fill-times3 .ensures) (after-group-roads .group-roads .ensures)
 
 pub prepare-areas-spec : {M : Type 1} → statement M
 prepare-areas-spec =
@@ -122,7 +128,9 @@ prepare-areas-spec =
     (λ c. search needs)
     (λ c. search needs)
     (λ c. search needs)
+    (λ c. search needs)
     returns
+    (λ c. search needs)
     (λ c. search needs)
     (λ c. search needs)
     (λ c. search needs)

@@ -1,4 +1,4 @@
--- The five words from the place on spell the call (`call-there`), whatever the length of the work area.
+-- The six words from the place on spell the call (`call-there`), whatever the length of the work area.
 use Rattle.unit_script.proofs.Words.{call-there}
 use borrow.Author.Needs.{needs}
 use Rattle.unit_script.proofs.call_at.Statement.{statement}
@@ -6,7 +6,8 @@ use Rattle.unit_script.proofs.call_at.Tie as tie
 
 returns : tie.Need-returns
 returns c w =
-    let after-word-at4 = c .before .before in
+    let after-word-at5 = c .before .before in
+    let after-word-at4 = after-word-at5 .before in
     let after-word-at3 = after-word-at4 .before in
     let after-word-at2 = after-word-at3 .before in
     let after-word-at = after-word-at2 .before in
@@ -14,12 +15,13 @@ returns c w =
     let a = start .args in
     call-there (a .script .now) (a .at) (record { route = a .route; log = a .log; work = w }) (after-word-at .word-at .ensures)
     (after-word-at2 .word-at2 .ensures) (after-word-at3 .word-at3 .ensures) (after-word-at4 .word-at4 .ensures)
-    (c .before .word-at5 .ensures) (c .spell .ensures w _)
+    (after-word-at5 .word-at5 .ensures) (c .before .word-at6 .ensures) (c .spell .ensures w _)
 
 pub call-at-spec : {M : Type 1} → statement M
 call-at-spec =
     tie.close
     (tie.spec
+    (λ c κs. search needs)
     (λ c κs. search needs)
     (λ c κs. search needs)
     (λ c κs. search needs)

@@ -13,8 +13,8 @@ use Rattle.unit_script.proofs.make_call.Tie as tie
 
 -- ---- where it is told which call it is
 
-abbrev start : tie.After-shared-slice-known6 → tie.Start
-start c = c .before .before .before .before .before .before .before .before .before .before .before .before .before
+abbrev start : tie.After-shared-slice-known7 → tie.Start
+start c = c .before .before .before .before .before .before .before .before .before .before .before .before .before .before
 
 abbrev after-asked : tie.After-call-arg5 → tie.After-asked
 after-asked c = c .before .before .before .before .before .before
@@ -57,7 +57,7 @@ returns c =
     let start = start (after-asked .before .before) in
     let (route-fits, log-fits) = start .pre in
     let (same, words) = c .of-answered .ensures in
-    let (_, (_, (_, (_, (_, (_, (_, (_, (_, (_, (route-kept, (log-kept, _)))))))))))) = call .kept in
+    let (_, (_, (_, (_, (_, (_, (_, (_, (_, (_, (_, (route-kept, (log-kept, _))))))))))))) = call .kept in
     lent-made (answeredIn (call .result)) (start .args .c) _ _ route-fits log-fits same words (after-asked .asked .given .1)
     (call .ensures) route-kept log-kept
 
@@ -102,7 +102,7 @@ returns-3 c =
     let start = start (after-asked3 .before .before) in
     let (route-fits, log-fits) = start .pre in
     let (same, words) = c .of-stopped .ensures in
-    let (_, (_, (_, (_, (_, (_, (_, (_, (_, (_, (route-kept, (log-kept, _)))))))))))) = stops .kept in
+    let (_, (_, (_, (_, (_, (_, (_, (_, (_, (_, (_, (route-kept, (log-kept, _))))))))))))) = stops .kept in
     lent-made (handed (stops .result)) (start .args .c) _ _ route-fits log-fits same words (after-asked3 .asked3 .given .1)
     (stops .ensures .call) route-kept log-kept
 

@@ -15,20 +15,22 @@ use Rattle.unit_script.proofs.make_calls.Statement.{statement}
 use Rattle.unit_script.proofs.make_calls.Tie as tie
 
 abbrev Inv-loop : tie.InvT-loop
-Inv-loop card ranks pairs live₀ down₀ estimates₀ elapsed₀ leaving groups route₀ log₀ work₀ script out₀ room h₀ at₀ k₀
+Inv-loop card ranks pairs times live₀ down₀ estimates₀ elapsed₀ leaving groups route₀ log₀ work₀ script out₀ room h₀ at₀ k₀
     live down estimates elapsed route log work out h at k =
     AtTurn card script work₀ work room at k out₀ out
-    (holding (headerIn h₀) (areasOf ranks pairs live₀ down₀ estimates₀ elapsed₀ leaving groups) (lentOf route₀ log₀))
-    (holding (headerIn h) (areasOf ranks pairs live down estimates elapsed leaving groups) (lentOf route log))
+    (holding (headerIn h₀) (areasOf ranks pairs times live₀ down₀ estimates₀ elapsed₀ leaving groups) (lentOf route₀ log₀))
+    (holding (headerIn h) (areasOf ranks pairs times live down estimates elapsed leaving groups) (lentOf route log))
 
 abbrev μ-loop : tie.MeasureT-loop
-μ-loop card ranks pairs live₀ down₀ estimates₀ elapsed₀ leaving groups route₀ log₀ work₀ script out₀ room h₀ at₀ k₀
+μ-loop card ranks pairs times live₀ down₀ estimates₀ elapsed₀ leaving groups route₀ log₀ work₀ script out₀ room h₀ at₀ k₀
     live down estimates elapsed route log work out h at k = room - k
 
 -- ---- where a call is next
 
 abbrev start : tie.At-loop Inv-loop μ-loop → tie.Start Inv-loop μ-loop
-start c = c .before .before .before .before .before .before .before .before .before .before .before .before .before .before .before .before
+start c =
+    c .before .before .before .before .before .before .before .before .before .before .before .before .before .before .before
+    .before .before
 
 next-is : (c : tie.Then1 Inv-loop μ-loop) → let at-loop = c .before .before in
     isNext (start at-loop .args .script .now) (at-loop .loop .at) (at-loop .loop .k) (at-loop .before .room-in .result) ≡ true
@@ -56,7 +58,7 @@ abbrev then1 : tie.After-put-made-arg Inv-loop μ-loop → tie.Then1 Inv-loop μ
 then1 c = after-call-at (after-stops-at c) .before
 
 abbrev at-loop : tie.After-put-made-arg Inv-loop μ-loop → tie.At-loop Inv-loop μ-loop
-at-loop c = then1 c .before .before
+at-loop c = after-stops-at c .before .before .before .before .before .before .before .before .before .before .before
 
 -- ---- the answers
 
@@ -95,7 +97,7 @@ loop-again c =
     let stops-at = after-stops-at at-put .stops-at in
     let call-at = after-call-at (after-stops-at at-put) .call-at in
     let inv = at-loop at-put .loop .inv in
-    let (_, (_, (_, (_, (live-kept, (down-kept, (estimates-kept, (elapsed-kept, kept)))))))) = make-call .kept in
+    let (_, (_, (_, (_, (_, (live-kept, (down-kept, (estimates-kept, (elapsed-kept, kept))))))))) = make-call .kept in
     let (_, (_, (route-kept, (log-kept, (work-kept, _))))) = kept in
     let (words-kept, _) = after-put-made .put-made .kept in
     record {

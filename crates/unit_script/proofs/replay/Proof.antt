@@ -8,20 +8,21 @@ use Rattle.unit_script.proofs.replay.Tie as tie
 
 -- ---- where the calls have been made, and where the card was prepared
 
-abbrev after-route : tie.After-slice-known28 → tie.After-route
+abbrev after-route : tie.After-slice-known30 → tie.After-route
 after-route c = c .before .before .before .before .before .before .before
 
-abbrev after-make-calls : tie.After-slice-known28 → tie.After-make-calls
+abbrev after-make-calls : tie.After-slice-known30 → tie.After-make-calls
 after-make-calls c = after-route c .before .before .before .before .before .before .before .before .before
 
-abbrev after-header : tie.After-slice-known28 → tie.After-header
-after-header c = after-make-calls c .before .before .before .before .before .before .before .before .before .before .before .before .before
+abbrev after-header : tie.After-slice-known30 → tie.After-header
+after-header c =
+    after-make-calls c .before .before .before .before .before .before .before .before .before .before .before .before .before .before
 
-abbrev after-live : tie.After-slice-known28 → tie.After-live
+abbrev after-live : tie.After-slice-known30 → tie.After-live
 after-live c = after-header c .before .before .before .before .before .before .before .before .before .before .before .before
 
-abbrev after-prepare : tie.After-slice-known28 → tie.After-prepare
-after-prepare c = after-live c .before .before .before .before .before
+abbrev after-prepare : tie.After-slice-known30 → tie.After-prepare
+after-prepare c = after-live c .before .before .before .before .before .before .before
 
 -- ---- the areas keep their lengths, first while the card is prepared, then while the calls are made
 
@@ -31,35 +32,38 @@ ranks-kept c = let (_, (ranks, _)) = after-prepare c .prepare .kept in ranks
 pairs-kept : tie.Need-same-length-2
 pairs-kept c = let (_, (_, (pairs, _))) = after-prepare c .prepare .kept in pairs
 
-live-kept : tie.Need-same-length-3
-live-kept c =
-    let (_, (_, (_, (first, _)))) = after-prepare c .prepare .kept in
-    let (_, (_, (_, (_, (then, _))))) = after-make-calls c .make-calls .kept in
-    then ∙ first
+times-kept : tie.Need-same-length-3
+times-kept c = let (_, (_, (_, (times, _)))) = after-prepare c .prepare .kept in times
 
-down-kept : tie.Need-same-length-4
-down-kept c =
+live-kept : tie.Need-same-length-4
+live-kept c =
     let (_, (_, (_, (_, (first, _))))) = after-prepare c .prepare .kept in
     let (_, (_, (_, (_, (_, (then, _)))))) = after-make-calls c .make-calls .kept in
     then ∙ first
 
-estimates-kept : tie.Need-same-length-5
-estimates-kept c =
+down-kept : tie.Need-same-length-5
+down-kept c =
     let (_, (_, (_, (_, (_, (first, _)))))) = after-prepare c .prepare .kept in
     let (_, (_, (_, (_, (_, (_, (then, _))))))) = after-make-calls c .make-calls .kept in
     then ∙ first
 
-elapsed-kept : tie.Need-same-length-6
-elapsed-kept c =
+estimates-kept : tie.Need-same-length-6
+estimates-kept c =
     let (_, (_, (_, (_, (_, (_, (first, _))))))) = after-prepare c .prepare .kept in
     let (_, (_, (_, (_, (_, (_, (_, (then, _)))))))) = after-make-calls c .make-calls .kept in
     then ∙ first
 
-leaving-kept : tie.Need-same-length-7
-leaving-kept c = let (_, (_, (_, (_, (_, (_, (_, (leaving, _)))))))) = after-prepare c .prepare .kept in leaving
+elapsed-kept : tie.Need-same-length-7
+elapsed-kept c =
+    let (_, (_, (_, (_, (_, (_, (_, (first, _)))))))) = after-prepare c .prepare .kept in
+    let (_, (_, (_, (_, (_, (_, (_, (_, (then, _))))))))) = after-make-calls c .make-calls .kept in
+    then ∙ first
 
-groups-kept : tie.Need-same-length-8
-groups-kept c = let (_, (_, (_, (_, (_, (_, (_, (_, (groups, _))))))))) = after-prepare c .prepare .kept in groups
+leaving-kept : tie.Need-same-length-8
+leaving-kept c = let (_, (_, (_, (_, (_, (_, (_, (_, (leaving, _))))))))) = after-prepare c .prepare .kept in leaving
+
+groups-kept : tie.Need-same-length-9
+groups-kept c = let (_, (_, (_, (_, (_, (_, (_, (_, (_, (groups, _)))))))))) = after-prepare c .prepare .kept in groups
 
 -- ---- the answer
 
@@ -77,6 +81,7 @@ replay-spec =
     (λ c κs. search needs)
     ranks-kept
     pairs-kept
+    times-kept
     live-kept
     down-kept
     estimates-kept

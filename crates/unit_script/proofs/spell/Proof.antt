@@ -28,28 +28,28 @@ returns c w stops =
     let start = then1 .before in
     let a = start .args in
     c .lending .ensures w stops
-    ∙ spells-set (a .one) (a .two) (a .three) (a .four) stops (beside start w) (then1 .if1 .taken) (c .before .of-word .ensures)
+    ∙ spells-set (a .one) (a .two) (a .three) (a .four) (a .five) stops (beside start w) (then1 .if1 .taken) (c .before .time-of .ensures)
 
 returns-2 : tie.Need-returns-2
 returns-2 c w stops =
     let then2 = c .before in
     let start = then2 .before .before in
     let a = start .args in
-    c .lending2 .ensures w stops ∙ spells (a .one) (a .two) (a .three) (a .four) stops (beside start w) (then2 .if2 .taken)
+    c .lending2 .ensures w stops ∙ spells (a .one) (a .two) (a .three) (a .four) (a .five) stops (beside start w) (then2 .if2 .taken)
 
 returns-3 : tie.Need-returns-3
 returns-3 c w stops =
     let else1 = c .before .before .before in
     let start = else1 .before in
     let a = start .args in
-    c .lending3 .ensures w stops ∙ spells (a .one) (a .two) (a .three) (a .four) stops (beside start w) (c .before .if3 .taken)
+    c .lending3 .ensures w stops ∙ spells (a .one) (a .two) (a .three) (a .four) (a .five) stops (beside start w) (c .before .if3 .taken)
 
 returns-4 : tie.Need-returns-4
 returns-4 c w stops =
     let then4 = c .before in
     let start = start (then4 .before) in
     let a = start .args in
-    spells-preview (a .one) (a .two) (a .three) (a .four) stops (beside start w) (then4 .if4 .taken) (c .of-word2 .ensures)
+    spells-preview (a .one) (a .two) (a .three) (a .four) (a .five) stops (beside start w) (then4 .if4 .taken) (c .time-of2 .ensures)
 
 returns-5 : tie.Need-returns-5
 returns-5 c w stops =
@@ -58,7 +58,7 @@ returns-5 c w stops =
     let start = start (else4 lent .before) in
     let a = start .args in
     c .lending4 .ensures w stops
-    ∙ spells-go (a .one) (a .two) (a .three) (a .four) stops (beside start w) (after-at-most lent .at-most .ensures)
+    ∙ spells-go (a .one) (a .two) (a .three) (a .four) (a .five) stops (beside start w) (after-at-most lent .at-most .ensures)
     (lent .at-most2 .ensures) (then5 .if5 .taken)
 
 returns-6 : tie.Need-returns-6
@@ -68,7 +68,7 @@ returns-6 c w stops =
     let else2 = else3 .before in
     let start = start else3 in
     let a = start .args in
-    spells-stops (a .one) (a .two) (a .three) (a .four) stops (beside start w) (after-at-most lent .at-most .ensures)
+    spells-stops (a .one) (a .two) (a .three) (a .four) (a .five) stops (beside start w) (after-at-most lent .at-most .ensures)
     (lent .at-most2 .ensures) (else2 .before .if1 .left) (else2 .if2 .left) (else3 .if3 .left) (else4 lent .if4 .left) (c .if5 .left)
 
 pub spell-spec : {M : Type 1} → statement M

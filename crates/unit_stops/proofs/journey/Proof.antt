@@ -1,7 +1,9 @@
 -- Each turn makes one leg on the part of the route area behind the roads so far, and notes its total and number of roads (`turn-again`); a
 -- leg without a path ends the list (`turn-lost`), and so does the last stop (`turn-end`).
 use mathlib.Core.Path.{_∙_}
-use Prim.Native.Nat.{_-_, _<_}
+use Prim.Native.Nat.{_*_, _-_, _<_}
+use mir.Syntax.{w64}
+use mir.Val.{Fits}
 use borrow.Author.Needs.{needs}
 use native.Mathlib.Omega.{arith}
 use Rattle.model.specs.Limits.{mostLegs}
@@ -14,21 +16,21 @@ use Rattle.unit_stops.proofs.journey.Statement.{statement}
 use Rattle.unit_stops.proofs.journey.Tie as tie
 
 abbrev Inv-loop : tie.InvT-loop
-Inv-loop card ranks pairs live down₀ estimates₀ elapsed₀ leaving groups route₀ log₀ class stops totals₀ roads₀ number h₀ whole₀ at₀
+Inv-loop card ranks pairs times live down₀ estimates₀ elapsed₀ leaving groups route₀ log₀ class stops totals₀ roads₀ number h₀ whole₀ at₀
     i₀ down estimates elapsed route log totals roads h whole at i =
     AtLeg card class stops number
-    (before (headerIn h₀) (areasOf ranks pairs live down₀ estimates₀ elapsed₀ leaving groups)) (lentOf route₀ log₀)
-    (before (headerIn h) (areasOf ranks pairs live down estimates elapsed leaving groups)) (lentOf route log)
+    (before (headerIn h₀) (areasOf ranks pairs times live down₀ estimates₀ elapsed₀ leaving groups)) (lentOf route₀ log₀)
+    (before (headerIn h) (areasOf ranks pairs times live down estimates elapsed leaving groups)) (lentOf route log)
     totals roads whole at i
 
 abbrev μ-loop : tie.MeasureT-loop
-μ-loop card ranks pairs live down₀ estimates₀ elapsed₀ leaving groups route₀ log₀ class stops totals₀ roads₀ number h₀ whole₀ at₀
+μ-loop card ranks pairs times live down₀ estimates₀ elapsed₀ leaving groups route₀ log₀ class stops totals₀ roads₀ number h₀ whole₀ at₀
     i₀ down estimates elapsed route log totals roads h whole at i = number - i
 
 -- ---- places
 
 abbrev start : tie.At-loop Inv-loop μ-loop → tie.Start Inv-loop μ-loop
-start c = c .before .before .before .before .before .before .before .before .before .before .before .before .before
+start c = c .before .before .before .before .before .before .before .before .before .before .before .before .before .before
 
 abbrev in-loop : tie.After-leg Inv-loop μ-loop → tie.In-loop Inv-loop μ-loop
 in-loop c = c .before .before .before .before .before .before .before .before
@@ -48,15 +50,25 @@ few c = omega (arith, c .loop-test .taken, start (c .before) .pre .many)
 
 -- ---- the answers
 
+-- the part of the route that a leg is lent begins within the route area, whose bytes have addresses
+abbrev turn : tie.After-leg-arg3 Inv-loop μ-loop → tie.At-loop Inv-loop μ-loop
+turn c = c .before .before .before .before .before .before
+
+route-part : (c : tie.After-leg-arg3 Inv-loop μ-loop) → Fits w64 (turn c .loop .at * 4)
+route-part c =
+    let at-loop = turn c in
+    let (_, (_, (_, (_, (_, (_, (_, (_, (_, (_, (_, (route-good, _)))))))))))) = start at-loop .good in
+    omega (arith, at-loop .loop .inv .within, at-loop .loop .inv .route, route-good)
+
 sub-number : tie.Need-sub-number Inv-loop μ-loop
 sub-number c =
-    let start = c .before .before .before .before .before .before .before .before .before .before .before .before in
+    let start = c .before .before .before .before .before .before .before .before .before .before .before .before .before in
     omega (arith, start .pre .few)
 
 further-requires : tie.Need-further-requires Inv-loop μ-loop
 further-requires c κs =
     let leg = found (c .before) in
-    let (_, (_, (_, (_, (_, (_, (_, (_, kept)))))))) = leg .leg .kept in
+    let (_, (_, (_, (_, (_, (_, (_, (_, (_, kept))))))))) = leg .leg .kept in
     let (_, (_, (route-kept, _))) = kept in
     let at-loop = in-loop leg .before in
     still-within (leg .leg .result) (in-loop leg .loop-test .taken) (at-loop .loop .inv) (leg .leg .ensures) route-kept
@@ -64,25 +76,25 @@ further-requires c κs =
 same-length : tie.Need-same-length Inv-loop μ-loop
 same-length c =
     let leg = lost (c .before .before) in
-    let (_, (_, (_, (_, (_, (down-kept, _)))))) = leg .leg .kept in
+    let (_, (_, (_, (_, (_, (_, (down-kept, _))))))) = leg .leg .kept in
     down-kept ∙ in-loop leg .before .loop .inv .down
 
 same-length-2 : tie.Need-same-length-2 Inv-loop μ-loop
 same-length-2 c =
     let leg = lost (c .before .before) in
-    let (_, (_, (_, (_, (_, (_, (estimates-kept, _))))))) = leg .leg .kept in
+    let (_, (_, (_, (_, (_, (_, (_, (estimates-kept, _)))))))) = leg .leg .kept in
     estimates-kept ∙ in-loop leg .before .loop .inv .estimates
 
 same-length-3 : tie.Need-same-length-3 Inv-loop μ-loop
 same-length-3 c =
     let leg = lost (c .before .before) in
-    let (_, (_, (_, (_, (_, (_, (_, (elapsed-kept, _)))))))) = leg .leg .kept in
+    let (_, (_, (_, (_, (_, (_, (_, (_, (elapsed-kept, _))))))))) = leg .leg .kept in
     elapsed-kept ∙ in-loop leg .before .loop .inv .elapsed
 
 same-length-4 : tie.Need-same-length-4 Inv-loop μ-loop
 same-length-4 c =
     let leg = lost (c .before .before) in
-    let (_, (_, (_, (_, (_, (_, (_, (_, kept)))))))) = leg .leg .kept in
+    let (_, (_, (_, (_, (_, (_, (_, (_, (_, kept))))))))) = leg .leg .kept in
     let (_, (_, (route-kept, _))) = kept in
     let at-loop = in-loop leg .before in
     route-stays (leg .leg .result) (in-loop leg .loop-test .taken) (at-loop .loop .inv) (leg .leg .ensures) route-kept
@@ -90,7 +102,7 @@ same-length-4 c =
 same-length-5 : tie.Need-same-length-5 Inv-loop μ-loop
 same-length-5 c =
     let leg = lost (c .before .before) in
-    let (_, (_, (_, (_, (_, (_, (_, (_, kept)))))))) = leg .leg .kept in
+    let (_, (_, (_, (_, (_, (_, (_, (_, (_, kept))))))))) = leg .leg .kept in
     let (_, (_, (_, (log-kept, _)))) = kept in
     log-kept ∙ in-loop leg .before .loop .inv .log
 
@@ -107,7 +119,7 @@ loop-again c =
     let after-answer = c .before .before .before in
     let leg = found (c .before .before) in
     let at-loop = in-loop leg .before in
-    let (_, (_, (_, (_, (_, (down-kept, (estimates-kept, (elapsed-kept, kept)))))))) = leg .leg .kept in
+    let (_, (_, (_, (_, (_, (_, (down-kept, (estimates-kept, (elapsed-kept, kept))))))))) = leg .leg .kept in
     let (_, (_, (route-kept, (log-kept, _)))) = kept in
     turn-again (leg .leg .result) (in-loop leg .loop-test .taken) (at-loop .loop .inv) (leg .leg .ensures) (start at-loop .pre .many)
     (after-answer .answer .given .1) down-kept estimates-kept elapsed-kept route-kept log-kept (c .before .sum .ensures)
@@ -126,7 +138,7 @@ journey-spec =
     (λ c. search needs)
     (λ c. search needs)
     (λ c. search needs)
-    (λ c. search needs)
+    route-part
     (λ c. search needs)
     (λ c. search needs)
     (λ c. search needs)

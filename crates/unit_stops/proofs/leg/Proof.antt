@@ -6,7 +6,7 @@ use Rattle.unit_stops.proofs.leg.Statement.{statement}
 use Rattle.unit_stops.proofs.leg.Tie as tie
 
 abbrev start : tie.After-aim → tie.Start
-start c = c .before .before .before .before .before .before .before .before .before .before .before .before .before .before .before
+start c = c .before .before .before .before .before .before .before .before .before .before .before .before .before .before .before .before
 
 returns : tie.Need-returns
 returns c =

@@ -10,10 +10,11 @@ use Rattle.unit_stops.proofs.stops.Tie as tie
 -- ---- where the questions were asked, and where they have passed
 
 abbrev start : tie.After-lengths-of → tie.Start
-start c = c .before .before .before .before .before .before .before .before .before .before .before .before .before .before .before .before
+start c =
+    c .before .before .before .before .before .before .before .before .before .before .before .before .before .before .before
+    .before .before
 
-passed : (c : tie.After-enum-told) →
-    let after-lengths-of = c .before .before .before in
+passed : (c : tie.After-enum-told) → let after-lengths-of = c .before .before .before in
     let a = start after-lengths-of .args in
     ListPassed (a .card .now) (headerIn (a .header)) (lengthsIn (after-lengths-of .lengths-of .result)) (a .class)
     (a .stops .now) (lentOf (a .route .now) (a .log .now))

@@ -13,10 +13,10 @@ use Rattle.unit_switch_on.proofs.prepare.Tie as tie
 -- ---- the areas that were lent, and what the questions said of them
 
 abbrev areas : tie.Start → Areas
-areas c = let a = c .args in held (a .ranks) (a .pairs) (a .live) (a .down) (a .estimates) (a .elapsed) (a .leaving) (a .groups)
+areas c = let a = c .args in held (a .ranks) (a .pairs) (a .times) (a .live) (a .down) (a .estimates) (a .elapsed) (a .leaving) (a .groups)
 
 abbrev at-hand : tie.After-ask → tie.After-slice-known8
-at-hand c = c .before .before .before .before .before .before .before .before .before .before
+at-hand c = c .before .before .before .before .before .before .before .before .before .before .before .before
 
 abbrev start : tie.After-ask → tie.Start
 start c = at-hand c .before .before .before .before .before .before .before .before .before
@@ -37,14 +37,15 @@ returns c =
 
 prepare-areas-requires : tie.Need-prepare-areas-requires
 prepare-areas-requires c κs =
-    let after-s = c .before .before .before .before .before .before .before .before .before in
+    let after-s = c .before .before .before .before .before .before .before .before .before .before in
     said (after-s .before .before) (after-s .s .given .1)
 
 returns-2 : tie.Need-returns-2
 returns-2 c =
     let after-live = c .before .before .before .before .before .before .before .before .before .before .before .before in
-    let after-prepare-areas = after-live .before .before .before .before .before in
-    let after-ask = after-prepare-areas .before .before .before .before .before .before .before .before .before .before .before .before in
+    let after-prepare-areas = after-live .before .before .before .before .before .before .before in
+    let after-ask = after-prepare-areas
+    .before .before .before .before .before .before .before .before .before .before .before .before .before in
     let s = start after-ask in
     prepare-made (s .args .card .now) (areas s) (c .prepared .ensures) (after-prepare-areas .prepare-areas .ensures)
 
@@ -67,7 +68,9 @@ prepare-spec =
     (λ c. search needs)
     (λ c. search needs)
     (λ c. search needs)
+    (λ c. search needs)
     returns
+    (λ c. search needs)
     (λ c. search needs)
     (λ c. search needs)
     (λ c. search needs)

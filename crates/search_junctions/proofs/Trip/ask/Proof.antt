@@ -10,11 +10,11 @@ use Rattle.search_junctions.proofs.Trip.ask.Statement.{statement}
 use Rattle.search_junctions.proofs.Trip.ask.Tie as tie
 
 abbrev Inv-loop : tie.InvT-loop
-Inv-loop trip roads order ranks pairs access live down estimates₀ group m k₀ estimates k =
-    Asking (givenOf (trip .sizes) roads order ranks pairs (met trip access live) down) group k estimates₀ estimates
+Inv-loop trip roads order ranks pairs times access live down estimates₀ group m k₀ estimates k =
+    Asking (givenOf (trip .sizes) roads order ranks pairs times (met trip access live) down) group k estimates₀ estimates
 
 abbrev μ-loop : tie.MeasureT-loop
-μ-loop trip roads order ranks pairs access live down estimates₀ group m k₀ estimates k = length group - k
+μ-loop trip roads order ranks pairs times access live down estimates₀ group m k₀ estimates k = length group - k
 
 -- ---- the answers
 
@@ -22,14 +22,14 @@ ask-head-requires : tie.Need-ask-head-requires Inv-loop μ-loop
 ask-head-requires c κs =
     let then1 = c .before in
     let at-loop = then1 .before .before .before in
-    let start = at-loop .before .before .before .before .before .before .before .before .before .before in
+    let start = at-loop .before .before .before .before .before .before .before .before .before .before .before in
     (then1 .if1 .taken, estimates-kept (start .pre) (at-loop .loop .inv .long))
 
 loop-again : tie.Need-loop-again Inv-loop μ-loop
 loop-again c =
     let after-ask-head = c .before .before in
     let in-loop = after-ask-head .before .before .before .before in
-    let (_, (_, (_, (_, (_, (_, (_, (_, (estimates-kept, _))))))))) = after-ask-head .ask-head .kept in
+    let (_, (_, (_, (_, (_, (_, (_, (_, (_, (estimates-kept, _)))))))))) = after-ask-head .ask-head .kept in
     asking-turn (in-loop .loop-test .taken) (in-loop .before .loop .inv) estimates-kept (after-ask-head .ask-head .ensures)
 
 loop-again-2 : tie.Need-loop-again-2 Inv-loop μ-loop

@@ -14,7 +14,7 @@ use Rattle.unit.proofs.Header.aim_part.Tie as tie
 -- ---- no question refuses
 
 abbrev start : tie.After-aim-asked → tie.Start
-start c = c .before .before .before .before .before
+start c = c .before .before .before .before .before .before
 
 passed : (c : tie.After-enum-told) → let a = start (c .before .before) .args in
     CallPassed (a .card .now) (a .self) (lengthsIn (a .l)) (Aim (a .j .0))
@@ -27,31 +27,32 @@ passed c =
 down-totals-requires : tie.Need-down-totals-requires
 down-totals-requires c κs =
     let after-enum-told = c .before .before in
-    let (pairs-are, down-is) = start (after-enum-told .before .before) .pre in
+    let told = start (after-enum-told .before .before) .pre in
     let p = passed after-enum-told in
     let f = p .sizes in record {
       target-in = aim-below p;
       n-high = f .n-high;
       order-is = order-sized f (c .before .order-of .ensures);
-      down-is = sym down-is ∙ f .lengths .down;
-      records-in = omega (arith, f .lengths .room, pairs-are);
+      down-is = sym (told .down-is) ∙ f .lengths .down;
+      records-in = omega (arith, f .lengths .room, told .pairs-are);
+      times-in = omega (arith, f .lengths .room, f .lengths .times, told .times-are);
       count-high = pairs-few f;
     }
 
 returns : tie.Need-returns
-returns c b lengths-are pairs-are aimed-is k =
+returns c b lengths-are pairs-are times-are aimed-is k =
     let after-q = c .before .before in
     let after-aim-asked = after-q .before .before in
     let says = after-aim-asked .aim-asked .ensures (baseOn (start after-aim-asked .args .card .now)) in
     same-aimed (refused lengths-are (after-q .q .given .1) says (c .answered .ensures)) aimed-is
 
 returns-2 : tie.Need-returns-2
-returns-2 c b lengths-are pairs-are aimed-is k =
-    let after-fill = c .before .before .before in
-    let after-down-totals = after-fill .before .before .before .before in
+returns-2 c b lengths-are pairs-are times-are aimed-is k =
+    let after-fill-times = c .before .before .before in
+    let after-down-totals = after-fill-times .before .before .before .before in
     let after-order-of = after-down-totals .before .before in
-    aim-made lengths-are (passed (after-order-of .before)) pairs-are aimed-is (after-order-of .order-of .ensures)
-    (after-down-totals .down-totals .ensures) (after-fill .fill .ensures) (c .answering .ensures)
+    aim-made lengths-are (passed (after-order-of .before)) pairs-are times-are aimed-is (after-order-of .order-of .ensures)
+    (after-down-totals .down-totals .ensures) (after-fill-times .fill-times .ensures) (c .answering .ensures)
 
 pub aim-part-spec : {M : Type 1} → statement M
 aim-part-spec =

@@ -13,7 +13,7 @@ use Rattle.unit.proofs.Header.estimate_part.Tie as tie
 -- ---- no question refuses
 
 abbrev start : tie.After-estimate-asked → tie.Start
-start c = c .before .before .before .before .before .before
+start c = c .before .before .before .before .before .before .before
 
 passed : (c : tie.After-enum-told) → let a = start (c .before .before) .args in
     CallPassed (a .card .now) (a .self) (lengthsIn (a .l)) (Estimate (a .j .0))
@@ -37,22 +37,23 @@ estimate-requires c κs =
       down-is = sym (told .down-is) ∙ f .lengths .down;
       estimates-are = sym (told .estimates-are) ∙ f .lengths .estimates;
       records-in = omega (arith, f .lengths .room, told .pairs-are);
+      times-in = omega (arith, f .lengths .room, f .lengths .times, told .times-are);
       count-high = pairs-few f;
     }
 
 returns : tie.Need-returns
-returns c b lengths-are ranks-are pairs-are aimed-is k =
+returns c b lengths-are ranks-are pairs-are times-are aimed-is k =
     let after-q = c .before .before in
     let after-estimate-asked = after-q .before .before in
     let says = after-estimate-asked .estimate-asked .ensures (baseOn (start after-estimate-asked .args .card .now)) in
     same-aimed (refused lengths-are (after-q .q .given .1) says (c .answered .ensures)) aimed-is
 
 returns-2 : tie.Need-returns-2
-returns-2 c b lengths-are ranks-are pairs-are aimed-is k =
+returns-2 c b lengths-are ranks-are pairs-are times-are aimed-is k =
     let after-estimate = c .before .before .before in
     let after-order-of = after-estimate .before .before in
-    estimate-made lengths-are (passed (after-order-of .before)) ranks-are pairs-are aimed-is (after-order-of .order-of .ensures)
-    (after-estimate .estimate .ensures) (c .answered2 .ensures)
+    estimate-made lengths-are (passed (after-order-of .before)) ranks-are pairs-are times-are aimed-is
+    (after-order-of .order-of .ensures) (after-estimate .estimate .ensures) (c .answered2 .ensures)
 
 pub estimate-part-spec : {M : Type 1} → statement M
 estimate-part-spec =

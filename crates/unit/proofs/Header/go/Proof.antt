@@ -27,8 +27,8 @@ header s = headerIn (s .args .self)
 abbrev areas : tie.Start → Areas
 areas s =
     let a = s .args in
-    areasOf (a .ranks .now) (a .pairs .now) (a .live .now) (a .down .now) (a .estimates .now) (a .elapsed .now) (a .leaving .now)
-    (a .groups .now)
+    areasOf (a .ranks .now) (a .pairs .now) (a .times .now) (a .live .now) (a .down .now) (a .estimates .now) (a .elapsed .now)
+    (a .leaving .now) (a .groups .now)
 
 abbrev lent : tie.Start → Lent
 lent s = lentOf (s .args .route .now) (s .args .log .now)
@@ -36,7 +36,7 @@ lent s = lentOf (s .args .route .now) (s .args .log .now)
 -- ---- what the questions said
 
 abbrev start : tie.After-go-asked → tie.Start
-start c = c .before .before .before .before .before .before .before .before .before .before .before .before .before .before .before
+start c = c .before .before .before .before .before .before .before .before .before .before .before .before .before .before .before .before
 
 said : (c : tie.After-go-asked) → let s = start c in
     verdictIn (c .go-asked .result) ≡ tripVerdict (card s) (header s) (lengths (areas s)) (Go (s .args .class) (s .args .start .0)) (lent s)

@@ -26,8 +26,8 @@ header s = headerIn (s .args .self)
 abbrev areas : tie.Start → Areas
 areas s =
     let a = s .args in
-    areasOf (a .ranks .now) (a .pairs .now) (a .live .now) (a .down .now) (a .estimates .now) (a .elapsed .now) (a .leaving .now)
-    (a .groups .now)
+    areasOf (a .ranks .now) (a .pairs .now) (a .times .now) (a .live .now) (a .down .now) (a .estimates .now) (a .elapsed .now)
+    (a .leaving .now) (a .groups .now)
 
 abbrev asked : tie.Start → Asked
 asked s = let a = s .args in Preview (a .class) (a .road) (a .time .0) (a .start .0) (length (a .work .now))
@@ -35,7 +35,7 @@ asked s = let a = s .args in Preview (a .class) (a .road) (a .time .0) (a .start
 -- ---- what the questions said, whatever else is lent
 
 abbrev start : tie.After-preview-asked → tie.Start
-start c = c .before .before .before .before .before .before .before .before .before .before .before .before .before
+start c = c .before .before .before .before .before .before .before .before .before .before .before .before .before .before
 
 said : (c : tie.After-preview-asked) (k : Lent) → let s = start c in
     verdictIn (c .preview-asked .result) ≡ tripVerdict (card s) (header s) (lengths (areas s)) (asked s) k
@@ -81,7 +81,7 @@ returns-2 c =
     let after-order-of = after-access-of .before in
     let after-roads-of = after-order-of .before in
     let after-aimed-at = after-roads-of .before in
-    let (_, (_, (_, (_, (_, (_, (_, (_, (_, (_, (_, (_, (work-kept, _))))))))))))) = after-totals .totals .kept in
+    let (_, (_, (_, (_, (_, (_, (_, (_, (_, (_, (_, (_, (_, (work-kept, _)))))))))))))) = after-totals .totals .kept in
     record {
       call = λ k. preview-handed (passed (after-aimed-at .before .before) k) (after-aimed-at .aimed-at .ensures)
           (after-roads-of .roads-of .ensures) (after-order-of .order-of .ensures) (after-access-of .access-of .ensures)

@@ -15,11 +15,11 @@ returns : tie.Need-returns
 returns c =
     let after-set-part = c .before .before in
     let after-lengths-of = after-set-part .before .before in
-    let start = after-lengths-of .before .before .before .before .before .before .before .before .before .before .before in
+    let start = after-lengths-of .before .before .before .before .before .before .before .before .before .before .before .before in
     let a = start .args in
     after-set-part .set-part .ensures
-    (areasOf (a .ranks .now) (a .pairs .now) (a .live .now) (a .down .now) (a .estimates .now) (a .elapsed .now) (a .leaving .now)
-    (a .groups .now))
+    (areasOf (a .ranks .now) (a .pairs .now) (a .times .now) (a .live .now) (a .down .now) (a .estimates .now) (a .elapsed .now)
+    (a .leaving .now) (a .groups .now))
     (sym (after-lengths-of .lengths-of .ensures)) refl
 
 pub set-spec : {M : Type 1} → statement M
