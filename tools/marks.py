@@ -1,8 +1,10 @@
 #!/usr/bin/env python3
 """Holds that no mark of 32 bits is left as a time (document 02, A7: none and closed are 18,446,744,073,709,551,615, unasked one below). The status
-is 1, with a line for each place, where one of these stands in code, specs, tests, tools or documents:
+is 1, with a line for each place, where one of these stands in code, specs, proofs, wrong programs, tests, tools or documents (the runs in
+data/ are made by tools/scenarios.py):
 
-  literal   the largest number of 32 bits or the one below it, in digits, with or without separators, or in hexadecimal
+  literal   the largest number of 32 bits or the one below it, in digits, with or without separators, in hexadecimal, as a power or shift less
+            one, or as all ones of that width
   largest   the largest number of 32 bits by a name (u32::MAX, UINT32_MAX) in a line that speaks of none, closed or unasked
 
 The lines that may have one are listed below with what it is there; one of these that stands nowhere breaks the rule too. docs/LANDINGS.md and
@@ -13,7 +15,8 @@ import re
 import sys
 
 ROOT = os.path.dirname(os.path.dirname(os.path.abspath(__file__)))
-PLACES = ['crates/*/src/**', 'crates/*/specs/**', 'c/**', 'rust/src/**', 'rust/tests/**', 'rust/*', 'tools/*', 'examples/**', 'docs/*.md', 'README.md',
+PLACES = ['crates/*/src/**', 'crates/*/specs/**', 'crates/*/proofs/**', 'crates/*/must-fail/*', 'crates/*/tried/*', 'crates/*/std*',
+          'c/**', 'rust/src/**', 'rust/tests/**', 'rust/*', 'tools/*', 'examples/**', 'docs/*.md', 'README.md',
           'try', '.ci/*']
 HISTORY = ['docs/LANDINGS.md', 'docs/DECISIONS.md', 'tools/marks.py']
 
@@ -30,7 +33,17 @@ ALLOWED = {
     # document 01 word for word
     'docs/SENTENCES.md': ['- "The mark none, 4,294,967,295, is written where no such chain exists."', '  4,294,967,294."', 'closed is 4,294,967,295."'],
     # the two words of each mark in a script
-    'rust/src/time.rs': ['(UNASKED, [u32::MAX - 1, u32::MAX]),', '(CLOSED, [u32::MAX; 2]),'],
+    'rust/src/time.rs': ['(UNASKED, [u32::MAX - 1, u32::MAX]),', '(CLOSED, [u32::MAX; 2]),', '((1 << 32) - 1, [u32::MAX, 0]),'],
+    # times that 11 refuses
+    'rust/tests/calls.rs': ['random.pick(&[(1 << 32) - 1, (1 << 32) + base, CLOSED', '((1 << 32) - 2, false),', '((1 << 32) - 1, false),'],
+    'rust/tests/preview.rs': ['1 << 31, (1 << 32) - 1, (1 << 32) + base'],
+    'rust/tests/stops.rs': ['UNASKED, (1 << 32) - 1, (1 << 32) + base'],
+    # the largest word of a card
+    'tools/cases.py': ['LARGEST = 2 ** 32 - 1  # of the words of a card'],
+    # wrong programs: the old mark in 11; as many entries, or junctions, as there can be
+    'crates/unit_questions/must-fail/old_mark_closes.edit': ['The mark of 32 bits, 4,294,967,295, closes a road in question 11 still'],
+    'crates/unit_script/tried/whole_areas_lent.edit': ['let roads = at_most(4294967295, route);'],
+    'crates/unit_stops/must-fail/junction_found_by_its_leg.edit': ['let below = all_below(4294967295, stops);'],
     # a wrong answer, which the C program is to see
     'rust/tests/c.rs': ['"foretold.then == UNIT_NONE", "foretold.then == UINT32_MAX"'],
     # numbers past the longest time, which 11 refuses
@@ -38,7 +51,9 @@ ALLOWED = {
 }
 
 SEPARATOR = "[_,'.\u2009\u202f ]?"
-DIGITS = re.compile(rf'(?<![\d_]){SEPARATOR.join(["0*4", "294", "967", "29[45]"])}(?!{SEPARATOR}\d)')
+# a group of digits goes on behind an underscore; behind a comma or a space another number begins, but for a group of three
+DIGITS = re.compile(rf'(?<![\d_]){SEPARATOR.join(["0*4", "294", "967", "29[45]"])}(?!_?\d)(?![,. ]\d\d\d(?!\d))')
+FORMULA = re.compile(r'2 ?(?:\*\*|\^) ?32 ?- ?[12]\b|\b1 ?<< ?32\)? ?- ?[12]\b|!0_?u32\b|\(uint32_t\) ?-[12]\b|~\(?0u\b')
 HEXADECIMAL = re.compile(r'\b0x_?(?:0_?)*(?:f_?){7}[ef](?!_?[0-9a-f])', re.IGNORECASE)
 NAMED = re.compile(r'\b(?:u32::MAX|UINT32_MAX)\b')
 MARKS = re.compile(r'(?:\b|_)(?:none|closed|unasked)\b', re.IGNORECASE)
@@ -46,7 +61,7 @@ MARKS = re.compile(r'(?:\b|_)(?:none|closed|unasked)\b', re.IGNORECASE)
 
 def breach(line):
     """The rule that a line breaks, or None."""
-    if DIGITS.search(line) or HEXADECIMAL.search(line):
+    if DIGITS.search(line) or HEXADECIMAL.search(line) or FORMULA.search(line):
         return 'literal'
     return 'largest' if NAMED.search(line) and MARKS.search(line) else None
 

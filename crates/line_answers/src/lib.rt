@@ -11,6 +11,7 @@ ghost use Rattle.line_texts.specs.Ascii.{ascii};
 ghost use Rattle.line_answers.specs.Texts.{refusalText, timeText, tripText, worded};
 use network::Refusal;
 use network::Time;
+use network::TimeWord;
 use unit_answers::Answer;
 
 // Puts `est` and a time, or `est none`.
@@ -61,7 +62,7 @@ fn first_roads(route: &[u32], k: u32) -> &[u32]
 }
 
 // Puts `go` with total, count and roads.
-fn put_trip(total: u64, count: u32, roads: &[u32], out: &mut [u8]) -> usize
+fn put_trip(total: TimeWord, count: u32, roads: &[u32], out: &mut [u8]) -> usize
     ensures { λ r. ⌜ Puts (tripText total count (now (roads .entry))) (now (out .entry)) 0 (now (out .exit)) r ⌝ }
 {
     let end = line_texts::put_named(b"go", total, out, 0);

@@ -35,7 +35,7 @@ previewRefusal k c i t j w = ask (eqb w (workSize (k .n))) Lengths (askClass c (
 
 -- ---- what it answers and leaves
 
--- "Where both exist, the change is a signed number of seconds, new total minus present total."
+-- "Where both exist, the change is a signed number of seconds, new total minus present total."; since A7 of tenths
 abbrev pub changeOf : (present new : Total) → Option ℤ
 changeOf none new = none
 changeOf (some a) none = none

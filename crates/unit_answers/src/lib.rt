@@ -9,6 +9,7 @@ ghost use Rattle.unit_answers.specs.Signed.{Fits, held, most};
 use network::Junction;
 use network::Refusal;
 use network::Time;
+use network::TimeWord;
 
 // One of document 01's four calls with its arguments; a go has a class and a start (document 02, A6).
 pub enum Call {
@@ -20,13 +21,13 @@ pub enum Call {
 
 // A total, or none.
 pub enum Total {
-    Of(u64),
+    Of(TimeWord),
     None,
 }
 
 impl Total {
     // As a word: the mark none where there is no total.
-    pub fn word(self) -> u64
+    pub fn word(self) -> TimeWord
         ensures { λ r. ⌜ r ≡ word (totalIn self) ⌝ }
     {
         match self {
@@ -47,24 +48,25 @@ pub enum Answer {
     Refused(Refusal),
     Accepted,
     Estimated(Time),
-    Gone(u64, u32, u32),
+    Gone(TimeWord, u32, u32),
     Previewed(Total, Total, Change),
 }
 
 // ---- a preview's answer (document 02, A2)
 
 // 2^63: signed numbers of 64 bits end below it.
-const SIGNED_END: u64 = 9223372036854775808;
+const SIGNED_END: TimeWord = 9223372036854775808;
 
 // New total minus present total.
-pub fn difference(present: u64, new: u64) -> i64
+pub fn difference(present: TimeWord, new: TimeWord) -> i64
     requires { ⌜ (present < most) × (new < most) ⌝ }
     ensures { λ r. ⌜ r ≡ pos new -ℤ pos present ⌝ }
 {
     (new as i64) - (present as i64)
 }
 
-// The total that a search answers. One that a signed number does not hold, as only forged areas give, counts as none.
+// The total that a search answers. One that a signed number does not hold counts as none: no areas give one, but the search does not
+// promise it.
 fn total_of(t: Time) -> Total
     ensures { λ r. ⌜ (totalIn r ≡ held (ofWord (t .0))) × Fits (totalIn r) ⌝ }
 {

@@ -54,10 +54,10 @@ pub struct UnitAnswer {
     pub question: u32,
     pub place: u32,
     pub compared: u32,
-    pub total: u64,
+    pub total: TimeWord,
     pub count: u32,
     pub roads: u32,
-    pub then: u64,
+    pub then: TimeWord,
     pub change: i64,
 }
 
@@ -69,8 +69,8 @@ pub struct UnitStops {
     pub question: u32,
     pub leg: u32,
     pub legs: u32,
-    pub whole: u64,
-    pub totals: [u64; MOST_LEGS],
+    pub whole: TimeWord,
+    pub totals: [TimeWord; MOST_LEGS],
     pub roads: [u32; MOST_LEGS],
 }
 
@@ -132,7 +132,7 @@ fn plain(
     header: UnitHeader,
     question: u32,
     place: u32,
-    total: u64,
+    total: TimeWord,
     count: u32,
     roads: u32,
 ) -> UnitAnswer
@@ -152,7 +152,13 @@ fn plain(
 }
 
 // The words of a preview's answer.
-fn compared(header: UnitHeader, present: u64, new: u64, flag: u32, change: i64) -> UnitAnswer
+fn compared(
+    header: UnitHeader,
+    present: TimeWord,
+    new: TimeWord,
+    flag: u32,
+    change: i64,
+) -> UnitAnswer
     ensures { λ x. ⌜ x ≡ previewWords header present new flag change ⌝ }
 {
     UnitAnswer {
@@ -169,7 +175,7 @@ fn compared(header: UnitHeader, present: u64, new: u64, flag: u32, change: i64) 
 }
 
 // The words of a preview's totals and their change.
-fn previewed(header: UnitHeader, present: u64, new: u64, change: Change) -> UnitAnswer
+fn previewed(header: UnitHeader, present: TimeWord, new: TimeWord, change: Change) -> UnitAnswer
     ensures { λ x. ⌜ x ≡ comparedTo header present new change ⌝ }
 {
     match change {
@@ -200,7 +206,7 @@ fn stops_of(
     question: u32,
     leg: u32,
     legs: u32,
-    whole: u64,
+    whole: TimeWord,
     rows: Legs,
 ) -> UnitStops
     ensures { λ x. ⌜ x ≡ stopsTo header question leg legs whole rows ⌝ }
@@ -541,13 +547,14 @@ pub extern "C" fn unit_stops(
 
 // ---- a script
 
-// Prepares a card on the nine areas and makes the calls of a script: a kind, and as many words as that call has. 0 road time is a set,
-// 1 junction an aim, 2 junction an estimate, 3 class start r l a go, which is lent the first r entries of the route and l of the log, all
-// if there are fewer, 4 class road time start a preview, which is lent the work area, 5 class s r l and then s stops a list of stops, lent
-// as a go. Any other kind ends the script, and so does a call that is cut short. `out` gets 66 words for each answer: the question that
-// refuses, or 0; estimate, total or the leg of 17; count; number of roads; of a preview 0, present total, new total, change as two's
-// complement; of a list of stops 0, whole total, 0, number of legs; then total and number of roads of each of 31 legs, 0 where there is
-// none. As many calls are made as `out` has room for. What is handed back is preparing's answer with the last header.
+// Prepares a card on the nine areas and makes the calls of a script: a kind, and as many words as that call has. 0 road time is a set, 1
+// junction an aim, 2 junction an estimate, 3 class start r l a go, which is lent the first r entries of the route and l of the log, all if
+// there are fewer, 4 class road time start a preview, which is lent the work area, 5 class s r l and then s stops a list of stops, lent as
+// a go; a time takes two words, the lower one first. Any other kind ends the script, and so does a call that is cut short. `out` gets 66
+// words for each answer: the question that refuses, or 0; estimate, total or the leg of 17; count; number of roads; of a preview 0, present
+// total, new total, change as two's complement; of a list of stops 0, whole total, 0, number of legs; then total and number of roads of
+// each of 31 legs, 0 where there is none. As many calls are made as `out` has room for. What is handed back is preparing's answer with the
+// last header.
 #[no_mangle]
 pub extern "C" fn unit_replay(
     card: &[u8],

@@ -273,7 +273,7 @@ fn four(header: Header, one: u64, two: u64, three: u64, four: u64) -> Made
     ensures { λ r. ⌜ (headerIn (r .header) ≡ headerIn header)
         × (madeWords r ≡ (one ∷ two ∷ three ∷ four ∷ []) ++ replicate (2 * mostLegs) 0) ⌝ }
 {
-    let totals = [0u64; MOST_LEGS];
+    let totals = [0; MOST_LEGS];
     let roads = [0u32; MOST_LEGS];
     Made {
         header: header,
@@ -298,7 +298,7 @@ fn of_answered(r: Answered) -> Made
     match answer {
         Answer::Refused(q) => four(header, q.question as u64, q.place as u64, q.count as u64, 0),
         Answer::Accepted => four(header, 0, 0, 0, 0),
-        Answer::Estimated(t) => four(header, 0, t.word() as u64, 0, 0),
+        Answer::Estimated(t) => four(header, 0, t.word(), 0, 0),
         Answer::Gone(t, c, k) => four(header, 0, t, c as u64, k as u64),
         Answer::Previewed(a, b, c) => four(header, 0, a.word(), b.word(), change_word(c)),
     }

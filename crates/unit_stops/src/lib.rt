@@ -31,14 +31,14 @@ pub const MOST_LEGS: usize = MOST_STOPS - 1;
 
 // The total and the number of roads of each leg; 0 past the last.
 pub struct Legs {
-    pub totals: [u64; MOST_LEGS],
+    pub totals: [TimeWord; MOST_LEGS],
     pub roads: [u32; MOST_LEGS],
 }
 
 // A refusal, or the number of legs and the whole total.
 pub enum Stopping {
     Refused(Refusal),
-    Stopped(u32, u64),
+    Stopped(u32, TimeWord),
 }
 
 // What a list of stops hands back.
@@ -164,8 +164,8 @@ fn leg(
     )
 }
 
-// The sum of two totals; the mark none where it does not fit, which no list of calls makes.
-fn sum(a: u64, b: u64) -> u64
+// The sum of two totals; the mark none where it does not fit, which no areas make.
+fn sum(a: TimeWord, b: TimeWord) -> TimeWord
     ensures { λ r. ⌜ r ≡ sumIn a b ⌝ }
 {
     Time::of_word(a).plus(Time::of_word(b)).word()
@@ -184,7 +184,7 @@ fn further(at: usize, number: u32, most: usize) -> usize
 fn refused(header: Header, q: Refusal) -> Stopped
     ensures { λ r. ⌜ r ≡ record { header = header; answer = Stopping.Refused q; legs = noLegs } ⌝ }
 {
-    let totals = [0u64; MOST_LEGS];
+    let totals = [0; MOST_LEGS];
     let roads = [0u32; MOST_LEGS];
     Stopped {
         header: header,
@@ -218,11 +218,11 @@ fn journey(
     ensures { λ r. ⌜ Journeys (now (card .entry)) (headerIn header) (areas ranks pairs times live down estimates elapsed leaving groups)
         (lent route log) class (now (stops .entry)) r ⌝ }
 {
-    let mut totals = [0u64; MOST_LEGS];
+    let mut totals = [0; MOST_LEGS];
     let mut roads = [0u32; MOST_LEGS];
     let number = stops.len() - 1;
     let mut h = header;
-    let mut whole: u64 = 0;
+    let mut whole: TimeWord = 0;
     let mut at = 0;
     let mut i = 0;
     while i < number {
