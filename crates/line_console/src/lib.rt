@@ -23,7 +23,7 @@ pub enum Line {
 const PROGRAM_CLASS: u32 = 0;
 
 // The largest number of 32 bits: no map has a junction or a road of that number.
-const OUT_OF_RANGE: u32 = 4294967295;
+const OUT_OF_RANGE: u32 = u32::MAX;
 
 // A number of a line as one of a junction or a road: where it does not fit 32 bits it is out of range, never its lowest bits.
 fn in_range(v: TimeWord) -> u32

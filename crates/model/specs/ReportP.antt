@@ -1,8 +1,9 @@
 -- A8 on map P: reports of several kinds, with what the unit answers, each shown to obey the theorem by citing it. Assumes nothing.
 use mathlib.Core.Path.{_≡_, refl}
+use mathlib.Core.Bool.{true}
 use mathlib.Core.Option.{Option, none, some}
 use mathlib.Core.List.{List, [], _∷_, map}
-use Prim.Native.Nat.{_+_, _≤_, ℕ}
+use Prim.Native.Nat.{_+_, _<_, _≤_, ℕ}
 use lib.IntN.{negsuc, pos, ℤ}
 use lib.ListN.{length, set}
 use native.Mathlib.Omega.{arith}
@@ -12,15 +13,20 @@ use Rattle.graph.specs.Reach.{upTotal}
 use Rattle.graph.specs.Search.{back, backStep, before, below-or, bestBelow, better, consider, extend, firstVia, hasGoal, is, next}
 use Rattle.graph.specs.Search.{offerVia, offered, push, run, totalIn, wayIn}
 use Rattle.graph.specs.Total.{Total}
-use Rattle.model.specs.Word.{closedWord, noneWord, unasked}
+use Rattle.model.specs.Word.{closedWord, noneWord, ofWord, unasked}
 use Rattle.model.specs.Types.{Accepted, Answer, At, Gone, NoPath, Previewed, Refused}
 use Rattle.model.specs.Bytes.{wordAt}
 use Rattle.model.specs.Layout.{bodyAt, names}
+use Rattle.model.specs.Limits.{classes}
 use Rattle.model.specs.Classes.{admits}
+use Rattle.model.specs.Card.{mapOn}
 use Rattle.model.specs.State.{State, Step, prepare}
+use Rattle.model.specs.Set.{settable}
+use Rattle.model.specs.Go.{liveOf}
+use Rattle.model.specs.Contracts.{baseOn}
 use Rattle.model.specs.Calls.{aimCall, goCall, setCall, step, steps}
 use Rattle.model.specs.MapP.{acceptedP, areasP, cardA, cardP, lentP}
-use Rattle.model.specs.Report.{CanGo, CanSet, Closes, LeftAccepted, Like, Moves, Opens, Reported, Reports, Room, no-report}
+use Rattle.model.specs.Report.{Calls, CanGo, CanSet, Closes, LeftAccepted, Like, Moves, Opens, Reported, Reports, Room, no-report}
 use Rattle.model.specs.Report.{one-more}
 use Rattle.model.specs.ReportProof.{report-closes, report-moves, report-opens}
 use Rattle.model.specs.ReportUse.{add-up}
@@ -113,6 +119,31 @@ barred-left =
 roomP : (s : State) → s .header .n ≡ 4 → Room s lentP
 roomP s e = record { route = omega (arith, e); log = omega (arith, e) }
 
+-- a report on a map of 4 junctions, aimed at 3: a class from 0, road i set to u; the four calls are made in turn, and the theorem cited
+module _ {card : List ℕ} {s : State} (left : LeftAccepted card s) (n-is : s .header .n ≡ 4) (aimed : s .header .target ≡ At 3) (c i u : ℕ)
+    (lc : c < classes) (li : i < s .header .m) (time-in : settable (mapOn card .base .cost i) (ofWord u) ≡ true)
+    (base : mapOn card .base .cost i ≡ baseOn card i) where
+  can : CanGo s c 0
+  can = record { class-in = lc; start-in = omega (arith, n-is); target = 3; aimed = aimed }
+
+  may : CanSet card s i u
+  may = record { road-in = li; time-in = time-in }
+
+  abbrev made : Calls card s c i u 0
+  made = turned left can may base (roomP s n-is)
+
+  abbrev Obeys : ((now new : Total) → Option ℤ → Type 0) → Type 0
+  Obeys R = Reported R (made .go .done .answer) (made .then .done .answer) (made .preview .done .answer)
+
+  moved : (t : ℕ) → liveOf (s .areas .live) i ≡ some t → u < noneWord → Obeys (Moves t u)
+  moved = report-moves left can may made
+
+  closed : u ≡ closedWord → Obeys Closes
+  closed = report-closes left can may made
+
+  opened : liveOf (s .areas .live) i ≡ none → Obeys Opens
+  opened = report-opens left can may made
+
 -- ---- the reports
 
 -- what the unit answers to the four calls, in turn, and that it obeys R
@@ -123,122 +154,77 @@ Example R card s c i u b p a = (answersTo card s c i u ≡ b ∷ p ∷ Accepted 
 -- road 1 up by 4: the trip takes 4 more
 pub all-of-it : Example (Moves 10 14) cardP delayed 0 1 14 (Gone 20 3 2) (Previewed (some 20) (some 24) (some (pos 4))) (Gone 24 3 2)
 unfolding answersTo
-all-of-it =
-    let can : CanGo delayed 0 0 = record { class-in = omega arith; start-in = omega arith; target = 3; aimed = refl } in
-    let may : CanSet cardP delayed 1 14 = record { road-in = omega arith; time-in = refl } in
-    (refl, report-moves delayed-left can may (turned delayed-left can may refl (roomP delayed refl)) 10 refl (omega arith))
+all-of-it = (refl, moved delayed-left refl refl 0 1 14 (omega arith) (omega arith) refl refl 10 refl (omega arith))
 
 -- road 1 up by 10: 7 more, over road 2
 pub part-of-it : Example (Moves 10 20) cardP delayed 0 1 20 (Gone 20 3 2) (Previewed (some 20) (some 27) (some (pos 7))) (Gone 27 4 2)
 unfolding answersTo
-part-of-it =
-    let can : CanGo delayed 0 0 = record { class-in = omega arith; start-in = omega arith; target = 3; aimed = refl } in
-    let may : CanSet cardP delayed 1 20 = record { road-in = omega arith; time-in = refl } in
-    (refl, report-moves delayed-left can may (turned delayed-left can may refl (roomP delayed refl)) 10 refl (omega arith))
+part-of-it = (refl, moved delayed-left refl refl 0 1 20 (omega arith) (omega arith) refl refl 10 refl (omega arith))
 
 -- road 4, which is not on the way, up by 10
 pub none-of-it : Example (Moves 20 30) cardP delayed 0 4 30 (Gone 20 3 2) (Previewed (some 20) (some 20) (some (pos 0))) (Gone 20 3 2)
 unfolding answersTo
-none-of-it =
-    let can : CanGo delayed 0 0 = record { class-in = omega arith; start-in = omega arith; target = 3; aimed = refl } in
-    let may : CanSet cardP delayed 4 30 = record { road-in = omega arith; time-in = refl } in
-    (refl, report-moves delayed-left can may (turned delayed-left can may refl (roomP delayed refl)) 20 refl (omega arith))
+none-of-it = (refl, moved delayed-left refl refl 0 4 30 (omega arith) (omega arith) refl refl 20 refl (omega arith))
 
 -- road 1 set to the time that it has
 pub no-news : Example (Moves 10 10) cardP delayed 0 1 10 (Gone 20 3 2) (Previewed (some 20) (some 20) (some (pos 0))) (Gone 20 3 2)
 unfolding answersTo
-no-news =
-    let can : CanGo delayed 0 0 = record { class-in = omega arith; start-in = omega arith; target = 3; aimed = refl } in
-    let may : CanSet cardP delayed 1 10 = record { road-in = omega arith; time-in = refl } in
-    (refl, report-moves delayed-left can may (turned delayed-left can may refl (roomP delayed refl)) 10 refl (omega arith))
+no-news = (refl, moved delayed-left refl refl 0 1 10 (omega arith) (omega arith) refl refl 10 refl (omega arith))
 
 -- after the first of these, road 0 up by 10: 3 more
 pub again-part : Example (Moves 10 20) cardP again 0 0 20 (Gone 24 3 2) (Previewed (some 24) (some 27) (some (pos 3))) (Gone 27 3 2)
 unfolding answersTo
-again-part =
-    let can : CanGo again 0 0 = record { class-in = omega arith; start-in = omega arith; target = 3; aimed = refl } in
-    let may : CanSet cardP again 0 20 = record { road-in = omega arith; time-in = refl } in
-    (refl, report-moves again-left can may (turned again-left can may refl (roomP again refl)) 10 refl (omega arith))
+again-part = (refl, moved again-left refl refl 0 0 20 (omega arith) (omega arith) refl refl 10 refl (omega arith))
 
 -- road 2 down by 2: 2 less
 pub all-back : Example (Moves 17 15) cardP jammed 0 2 15 (Gone 27 4 2) (Previewed (some 27) (some 25) (some (negsuc 1))) (Gone 25 4 2)
 unfolding answersTo
-all-back =
-    let can : CanGo jammed 0 0 = record { class-in = omega arith; start-in = omega arith; target = 3; aimed = refl } in
-    let may : CanSet cardP jammed 2 15 = record { road-in = omega arith; time-in = refl } in
-    (refl, report-moves jammed-left can may (turned jammed-left can may refl (roomP jammed refl)) 17 refl (omega arith))
+all-back = (refl, moved jammed-left refl refl 0 2 15 (omega arith) (omega arith) refl refl 17 refl (omega arith))
 
 -- road 1 down by 20: 7 less
 pub part-back : Example (Moves 30 10) cardP jammed 0 1 10 (Gone 27 4 2) (Previewed (some 27) (some 20) (some (negsuc 6))) (Gone 20 3 2)
 unfolding answersTo
-part-back =
-    let can : CanGo jammed 0 0 = record { class-in = omega arith; start-in = omega arith; target = 3; aimed = refl } in
-    let may : CanSet cardP jammed 1 10 = record { road-in = omega arith; time-in = refl } in
-    (refl, report-moves jammed-left can may (turned jammed-left can may refl (roomP jammed refl)) 30 refl (omega arith))
+part-back = (refl, moved jammed-left refl refl 0 1 10 (omega arith) (omega arith) refl refl 30 refl (omega arith))
 
 -- road 1 down by 5: it is not on the way
 pub none-back : Example (Moves 30 25) cardP jammed 0 1 25 (Gone 27 4 2) (Previewed (some 27) (some 27) (some (pos 0))) (Gone 27 4 2)
 unfolding answersTo
-none-back =
-    let can : CanGo jammed 0 0 = record { class-in = omega arith; start-in = omega arith; target = 3; aimed = refl } in
-    let may : CanSet cardP jammed 1 25 = record { road-in = omega arith; time-in = refl } in
-    (refl, report-moves jammed-left can may (turned jammed-left can may refl (roomP jammed refl)) 30 refl (omega arith))
+none-back = (refl, moved jammed-left refl refl 0 1 25 (omega arith) (omega arith) refl refl 30 refl (omega arith))
 
 -- where there is no route, road 0 up by 2
 pub no-route : Example (Moves 10 12) cardP cut 0 0 12 (Refused (NoPath 2)) (Previewed none none none) (Refused (NoPath 2))
 unfolding answersTo
-no-route =
-    let can : CanGo cut 0 0 = record { class-in = omega arith; start-in = omega arith; target = 3; aimed = refl } in
-    let may : CanSet cardP cut 0 12 = record { road-in = omega arith; time-in = refl } in
-    (refl, report-moves cut-left can may (turned cut-left can may refl (roomP cut refl)) 10 refl (omega arith))
+no-route = (refl, moved cut-left refl refl 0 0 12 (omega arith) (omega arith) refl refl 10 refl (omega arith))
 
 -- road 1 closed: 7 more
 pub closing : Example Closes cardP delayed 0 1 closedWord (Gone 20 3 2) (Previewed (some 20) (some 27) (some (pos 7))) (Gone 27 4 2)
 unfolding answersTo
-closing =
-    let can : CanGo delayed 0 0 = record { class-in = omega arith; start-in = omega arith; target = 3; aimed = refl } in
-    let may : CanSet cardP delayed 1 closedWord = record { road-in = omega arith; time-in = refl } in
-    (refl, report-closes delayed-left can may (turned delayed-left can may refl (roomP delayed refl)) refl)
+closing = (refl, closed delayed-left refl refl 0 1 closedWord (omega arith) (omega arith) refl refl refl)
 
 -- the other way closed too: the route is lost
 pub closing-both : Example Closes cardP shut 0 2 closedWord (Gone 27 4 2) (Previewed (some 27) none none) (Refused (NoPath 2))
 unfolding answersTo
-closing-both =
-    let can : CanGo shut 0 0 = record { class-in = omega arith; start-in = omega arith; target = 3; aimed = refl } in
-    let may : CanSet cardP shut 2 closedWord = record { road-in = omega arith; time-in = refl } in
-    (refl, report-closes shut-left can may (turned shut-left can may refl (roomP shut refl)) refl)
+closing-both = (refl, closed shut-left refl refl 0 2 closedWord (omega arith) (omega arith) refl refl refl)
 
 -- road 1 open again: 7 less
 pub opening : Example Opens cardP shut 0 1 10 (Gone 27 4 2) (Previewed (some 27) (some 20) (some (negsuc 6))) (Gone 20 3 2)
 unfolding answersTo
-opening =
-    let can : CanGo shut 0 0 = record { class-in = omega arith; start-in = omega arith; target = 3; aimed = refl } in
-    let may : CanSet cardP shut 1 10 = record { road-in = omega arith; time-in = refl } in
-    (refl, report-opens shut-left can may (turned shut-left can may refl (roomP shut refl)) refl)
+opening = (refl, opened shut-left refl refl 0 1 10 (omega arith) (omega arith) refl refl refl)
 
 -- one of two closed ways open again: a route is found
 pub opening-one : Example Opens cardP cut 0 2 17 (Refused (NoPath 2)) (Previewed none (some 27) none) (Gone 27 4 2)
 unfolding answersTo
-opening-one =
-    let can : CanGo cut 0 0 = record { class-in = omega arith; start-in = omega arith; target = 3; aimed = refl } in
-    let may : CanSet cardP cut 2 17 = record { road-in = omega arith; time-in = refl } in
-    (refl, report-opens cut-left can may (turned cut-left can may refl (roomP cut refl)) refl)
+opening-one = (refl, opened cut-left refl refl 0 2 17 (omega arith) (omega arith) refl refl refl)
 
 -- on the map with classes: class 1 uses road 1, which goes up by 10
 pub class-one : Example (Moves 10 20) cardA barred 1 1 20 (Gone 20 3 2) (Previewed (some 20) (some 27) (some (pos 7))) (Gone 27 4 2)
 unfolding answersTo
-class-one =
-    let can : CanGo barred 1 0 = record { class-in = omega arith; start-in = omega arith; target = 3; aimed = refl } in
-    let may : CanSet cardA barred 1 20 = record { road-in = omega arith; time-in = refl } in
-    (refl, report-moves barred-left can may (turned barred-left can may refl (roomP barred refl)) 10 refl (omega arith))
+class-one = (refl, moved barred-left refl refl 1 1 20 (omega arith) (omega arith) refl refl 10 refl (omega arith))
 
 -- class 0 does not: the same report moves nothing
 pub class-zero : Example (Moves 10 20) cardA barred 0 1 20 (Gone 27 4 2) (Previewed (some 27) (some 27) (some (pos 0))) (Gone 27 4 2)
 unfolding answersTo
-class-zero =
-    let can : CanGo barred 0 0 = record { class-in = omega arith; start-in = omega arith; target = 3; aimed = refl } in
-    let may : CanSet cardA barred 1 20 = record { road-in = omega arith; time-in = refl } in
-    (refl, report-moves barred-left can may (turned barred-left can may refl (roomP barred refl)) 10 refl (omega arith))
+class-zero = (refl, moved barred-left refl refl 0 1 20 (omega arith) (omega arith) refl refl 10 refl (omega arith))
 
 -- the first of these reports, and then the one on road 0: 27 is at most 14 more than 20, and no less
 pub two-reports : (T c k : ℕ) × (Gone 27 3 2 ≡ Gone T c k) × (T ≤ 20 + 14) × (20 ≤ T + 0)

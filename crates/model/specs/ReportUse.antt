@@ -91,45 +91,51 @@ module _ {p : Answer} {X Y : Total} {x : Option ℤ} (previews : p ≡ Previewed
 
 -- ---- a live time that goes from t to u, the road staying open
 
+-- where R persists, and is seen as S: a route that existed exists, and one that exists did exist
+module _ {P : (now new : Total) → Option ℤ → Type 0} {before after preview : Answer} (r : Reported P before after preview)
+    (R : (T T′ : ℕ) → Option ℤ → Type 0) (S : (T T′ : ℕ) → Type 0) (holds : Persists R (r .now) (r .new) (r .change))
+    (see : (T T′ : ℕ) → r .now ≡ some T → r .new ≡ some T′ → R T T′ (r .change) → S T T′) where
+  found-after : {T c k : ℕ} → before ≡ Gone T c k → (T′ c′ k′ : ℕ) × (after ≡ Gone T′ c′ k′) × S T T′
+  found-after e =
+      let now = gone-total (r .now) (r .goes-before) e in
+      let (T′, new, by) = still-there R (r .change) (r .now) (r .new) holds now in
+      let (c′, k′, gone) = total-gone (r .new) (r .goes-after) new in
+      (T′, c′, k′, gone, see _ T′ now new by)
+
+  found-before : {T′ c′ k′ : ℕ} → after ≡ Gone T′ c′ k′ → (T c k : ℕ) × (before ≡ Gone T c k) × S T T′
+  found-before e =
+      let new = gone-total (r .new) (r .goes-after) e in
+      let (T, now, by) = was-there R (r .change) (r .now) (r .new) holds new in
+      let (c, k, gone) = total-gone (r .now) (r .goes-before) now in
+      (T, c, k, gone, see T _ now new by)
+
 module _ {t u : ℕ} {before after preview : Answer} (r : Reported (Moves t u) before after preview) where
   -- up by u - t: a route that existed exists, and its total is larger by 0 to u - t
   pub up-found : t ≤ u → {T c k : ℕ} → before ≡ Gone T c k
       → (T′ c′ k′ : ℕ) × (after ≡ Gone T′ c′ k′) × SeenLarger (u - t) T T′ preview
-  up-found le e =
-      let up = r .holds .up (u - t) (omega (arith, le)) in
-      let now = gone-total (r .now) (r .goes-before) e in
-      let (T′, new, by) = still-there (Larger (u - t)) (r .change) (r .now) (r .new) up now in
-      let (c′, k′, gone) = total-gone (r .new) (r .goes-after) new in
-      (T′, c′, k′, gone, see-larger (r .previews) now new by)
+  up-found le =
+      found-after r (Larger (u - t)) (λ T T′. SeenLarger (u - t) T T′ preview) (r .holds .up (u - t) (omega (arith, le)))
+      (λ T T′ now new by. see-larger (r .previews) now new by)
 
   -- and a route that exists did exist
   pub up-found-before : t ≤ u → {T′ c′ k′ : ℕ} → after ≡ Gone T′ c′ k′
       → (T c k : ℕ) × (before ≡ Gone T c k) × SeenLarger (u - t) T T′ preview
-  up-found-before le e =
-      let up = r .holds .up (u - t) (omega (arith, le)) in
-      let new = gone-total (r .new) (r .goes-after) e in
-      let (T, now, by) = was-there (Larger (u - t)) (r .change) (r .now) (r .new) up new in
-      let (c, k, gone) = total-gone (r .now) (r .goes-before) now in
-      (T, c, k, gone, see-larger (r .previews) now new by)
+  up-found-before le =
+      found-before r (Larger (u - t)) (λ T T′. SeenLarger (u - t) T T′ preview) (r .holds .up (u - t) (omega (arith, le)))
+      (λ T T′ now new by. see-larger (r .previews) now new by)
 
   -- down by t - u: the same, and its total is smaller by 0 to t - u
   pub down-found : u ≤ t → {T c k : ℕ} → before ≡ Gone T c k
       → (T′ c′ k′ : ℕ) × (after ≡ Gone T′ c′ k′) × SeenSmaller (t - u) T T′ preview
-  down-found le e =
-      let down = r .holds .down (t - u) (omega (arith, le)) in
-      let now = gone-total (r .now) (r .goes-before) e in
-      let (T′, new, by) = still-there (Smaller (t - u)) (r .change) (r .now) (r .new) down now in
-      let (c′, k′, gone) = total-gone (r .new) (r .goes-after) new in
-      (T′, c′, k′, gone, see-smaller (r .previews) now new by)
+  down-found le =
+      found-after r (Smaller (t - u)) (λ T T′. SeenSmaller (t - u) T T′ preview) (r .holds .down (t - u) (omega (arith, le)))
+      (λ T T′ now new by. see-smaller (r .previews) now new by)
 
   pub down-found-before : u ≤ t → {T′ c′ k′ : ℕ} → after ≡ Gone T′ c′ k′
       → (T c k : ℕ) × (before ≡ Gone T c k) × SeenSmaller (t - u) T T′ preview
-  down-found-before le e =
-      let down = r .holds .down (t - u) (omega (arith, le)) in
-      let new = gone-total (r .new) (r .goes-after) e in
-      let (T, now, by) = was-there (Smaller (t - u)) (r .change) (r .now) (r .new) down new in
-      let (c, k, gone) = total-gone (r .now) (r .goes-before) now in
-      (T, c, k, gone, see-smaller (r .previews) now new by)
+  down-found-before le =
+      found-before r (Smaller (t - u)) (λ T T′. SeenSmaller (t - u) T T′ preview) (r .holds .down (t - u) (omega (arith, le)))
+      (λ T T′ now new by. see-smaller (r .previews) now new by)
 
   -- where there was no route there is none, and the preview tells no total and no change
   pub lost-stays : {b : ℕ} → before ≡ Refused (NoPath b) → (b′ : ℕ) × (after ≡ Refused (NoPath b′)) × (preview ≡ Previewed none none none)
