@@ -121,7 +121,7 @@ fn most_legs() {
     let (most, _) = between(&network, "pub const MOST_STOPS: usize = ", ";").unwrap();
     let legs: usize = most.parse::<usize>().unwrap() - 1;
     assert_eq!((legs, most.parse()), (MOST_LEGS, Ok(MOST_STOPS)));
-    assert!(read("crates/unit_stops/src/lib.rt").contains("MOST_LEGS: usize = MOST_STOPS - 1;"));
+    assert!(read("crates/call_stops/src/lib.rt").contains("MOST_LEGS: usize = MOST_STOPS - 1;"));
     let header = read("c/route_unit.h");
     assert!(header.contains(&format!("#define UNIT_MOST_LEGS {legs}\n")));
     let script = read("crates/unit_script/src/lib.rt");

@@ -29,15 +29,15 @@ use Rattle.unit_answers.specs.declared.Total.{Total}
 use Rattle.unit_answers.specs.declared.Change.{Change}
 use Rattle.unit_answers.specs.declared.Change.the-variants as change
 use Rattle.unit_answers.specs.Shape.{totalIn}
-use Rattle.unit.specs.declared.Target.{Target}
-use Rattle.unit.specs.declared.Target.the-variants.{Absent, At}
+use Rattle.calls.specs.declared.Target.{Target}
+use Rattle.calls.specs.declared.Target.the-variants.{Absent, At}
 use Rattle.unit.specs.declared.Header.{Header}
 use Rattle.unit.specs.declared.Answered.{Answered}
 use Rattle.unit.specs.Meets.{Meets, MeetsAlone, MeetsPreview}
-use Rattle.unit_stops.specs.declared.Legs.{Legs}
-use Rattle.unit_stops.specs.declared.Stopped.{Stopped}
-use Rattle.unit_stops.specs.declared.Stopping.{Stopping}
-use Rattle.unit_stops.specs.Legs.{MeetsStops}
+use Rattle.call_stops.specs.declared.Legs.{Legs}
+use Rattle.unit.specs.declared.Stopped.{Stopped}
+use Rattle.call_stops.specs.declared.Stopping.{Stopping}
+use Rattle.unit.specs.Stops.{MeetsStops}
 use Rattle.unit_c.specs.declared.UnitHeader.{UnitHeader}
 use Rattle.unit_c.specs.declared.UnitAnswer.{UnitAnswer}
 use Rattle.unit_c.specs.declared.UnitStops.{UnitStops}

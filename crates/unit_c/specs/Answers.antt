@@ -11,8 +11,8 @@ use Rattle.unit_answers.specs.declared.Answer.the-variants.{Accepted, Estimated
 use Rattle.unit_answers.specs.declared.Change.{Change}
 use Rattle.unit_answers.specs.declared.Change.the-variants as change
 use Rattle.unit_answers.specs.Shape.{totalIn}
-use Rattle.unit.specs.declared.Target.{Target}
-use Rattle.unit.specs.declared.Target.the-variants.{Absent, At}
+use Rattle.calls.specs.declared.Target.{Target}
+use Rattle.calls.specs.declared.Target.the-variants.{Absent, At}
 use Rattle.unit.specs.declared.Header.{Header}
 use Rattle.unit.specs.declared.Answered.{Answered}
 use Rattle.unit_c.specs.declared.UnitHeader.{UnitHeader}

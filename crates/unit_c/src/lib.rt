@@ -10,11 +10,15 @@ ghost use Rattle.unit_questions.specs.Lending.{lent};
 ghost use Rattle.unit_preparing.specs.Preparing.{Prepares};
 ghost use Rattle.unit.specs.Shape.{answeredIn};
 ghost use Rattle.unit.specs.Meets.{Meets, MeetsAlone, MeetsPreview};
-ghost use Rattle.unit_stops.specs.Legs.{MeetsStops};
+ghost use Rattle.unit.specs.Stops.{MeetsStops};
 ghost use Rattle.unit_script.specs.Script.{ReplayContract};
 ghost use Rattle.unit_c.specs.Answers.{Tells, answerWords, comparedTo, headerOf, headerWords, plainWords, previewWords, targetOf};
 ghost use Rattle.unit_c.specs.Stops.{TellsStops, stopsTo, stopsWords};
 ghost use Rattle.unit_c.specs.Words.{Wrote, readingNumber, readingWords};
+use call_stops::Legs;
+use call_stops::MOST_LEGS;
+use call_stops::Stopping;
+use calls::Target;
 use card::Reading;
 use card::Writing;
 use network::Junction;
@@ -23,13 +27,9 @@ use network::Time;
 use network::TimeWord;
 use unit::Answered;
 use unit::Header;
-use unit::Target;
+use unit::Stopped;
 use unit_answers::Answer;
 use unit_answers::Change;
-use unit_stops::Legs;
-use unit_stops::MOST_LEGS;
-use unit_stops::Stopped;
-use unit_stops::Stopping;
 
 // ---- headers and answers as C holds them
 
@@ -526,8 +526,7 @@ pub extern "C" fn unit_stops(
         (areas ranks pairs times live down estimates elapsed leaving groups) (lent route log) class (now (stops .entry))) r ⌝ }
 {
     let h = header_of(header);
-    stopped_of(unit_stops::stops(
-        h,
+    stopped_of(h.stops(
         card,
         ranks,
         pairs,

@@ -9,23 +9,23 @@ ghost use Rattle.unit_answers.specs.Shape.{answerIn, callIn, changeIn};
 ghost use Rattle.network.specs.Lending.{areas};
 ghost use Rattle.unit_questions.specs.Lending.{lent};
 ghost use Rattle.unit.specs.Shape.{answeredIn, headerIn};
-ghost use Rattle.unit_stops.specs.Shape.{stoppingIn};
-ghost use Rattle.unit_stops.specs.Legs.{Rest};
+ghost use Rattle.call_stops.specs.Shape.{stoppingIn};
+ghost use Rattle.unit.specs.Stops.{Rest};
 ghost use Rattle.unit_script.specs.Words.{answerSize, answerWords, changeWord, legsWords, madeWords, putAt, roomIn};
 ghost use Rattle.unit_script.specs.Words.{callAt, endAt, scriptedIn, spelled, stopsAt, timeOf, wordsOf};
 ghost use Rattle.unit_script.specs.Script.{MakeContract, OneContract, ReplayContract, isNext};
+use call_stops::Legs;
+use call_stops::MOST_LEGS;
+use call_stops::Stopping;
 use network::Junction;
 use network::Time;
 use network::TimeWord;
 use unit::Answered;
 use unit::Header;
+use unit::Stopped;
 use unit_answers::Answer;
 use unit_answers::Call;
 use unit_answers::Change;
-use unit_stops::Legs;
-use unit_stops::MOST_LEGS;
-use unit_stops::Stopped;
-use unit_stops::Stopping;
 
 // ---- the words of a call
 
@@ -426,8 +426,7 @@ fn make_call(
             time,
             start,
         )),
-        Asked::Stops(class) => of_stopped(unit_stops::stops(
-            header,
+        Asked::Stops(class) => of_stopped(header.stops(
             card,
             ranks,
             pairs,

@@ -2,7 +2,7 @@
 use borrow.Author.Needs.{needs}
 use Rattle.model.specs.State.{Lent}
 use Rattle.unit_questions.specs.Lending.{lentOf}
-use Rattle.unit.proofs.Made.{as-asked}
+use Rattle.unit.proofs.Handed.{as-asked}
 use Rattle.unit.proofs.call.Statement.{statement}
 use Rattle.unit.proofs.call.Tie as tie
 

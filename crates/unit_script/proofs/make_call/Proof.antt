@@ -4,8 +4,8 @@ use mathlib.Core.Path.{sym}
 use lib.Seq.{length-take-le}
 use Rattle.model.specs.Types.{Answered}
 use Rattle.unit.specs.Shape.{answeredIn, headerIn}
-use Rattle.unit_stops.specs.declared.Stopped.{Stopped}
-use Rattle.unit_stops.specs.Shape.{stoppingIn}
+use Rattle.unit.specs.declared.Stopped.{Stopped}
+use Rattle.call_stops.specs.Shape.{stoppingIn}
 use Rattle.unit_script.proofs.Scripts.{lent-made, preview-made}
 use borrow.Author.Needs.{needs}
 use Rattle.unit_script.proofs.make_call.Statement.{statement}

@@ -1,8 +1,8 @@
 -- A refusal has four words and no legs (`answered-words`). Legs that there are not are zeros, so the words of all 31 are those of the
 -- answer (`stopped-words`).
 use mathlib.Core.Path.{ap, refl}
-use Rattle.unit_stops.specs.declared.Stopping.{Stopping}
-use Rattle.unit_stops.specs.Shape.{stoppingIn}
+use Rattle.call_stops.specs.declared.Stopping.{Stopping}
+use Rattle.call_stops.specs.Shape.{stoppingIn}
 use Rattle.unit_script.proofs.Answers.{answered-words, stopped-words}
 use borrow.Author.Needs.{needs}
 use Rattle.unit_script.proofs.of_stopped.Statement.{statement}
