@@ -359,9 +359,10 @@ static bool replayed(void) {
     fill(route, ROUTE, UNTOUCHED);
     fill(entries, LENT, UNTOUCHED);
     fill_times(work, 2 * N + 1, UNTOUCHED);
-    UnitAnswer answer = unit_replay(card, card_len, AREAS(PAIRS), route, ROUTE, entries, LENT, work, 2 * N, words, SCRIPT + 3,
+    uint32_t refused = handed(unit_prepare(card, card_len, AREAS(PAIRS)));
+    header = unit_replay(header, card, card_len, AREAS(PAIRS), route, ROUTE, entries, LENT, work, 2 * N, words, SCRIPT + 3,
         out, (CALLS + 1) * UNIT_ANSWER_WORDS);
-    return handed(answer) == 0 && header.target == 0 && header.aimed == 1 && memcmp(out, wanted, sizeof out) == 0 &&
+    return refused == 0 && header.target == 0 && header.aimed == 1 && memcmp(out, wanted, sizeof out) == 0 &&
         same(route, roads_left, 3) && filled(route + 3, ROUTE - 3, UNTOUCHED) && same(entries, log_left, 4) &&
         filled(entries + 4, LENT - 4, UNTOUCHED) && work[2 * N] == UNTOUCHED;
 }

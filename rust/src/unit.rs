@@ -226,23 +226,23 @@ exports! {
         stops: u32
     ) -> ReturnedStops;
     fn unit_replay(
-        ;
+        header;
         card: const u8,
-        ranks: mut u32,
-        pairs: mut u32,
-        times: mut Time,
+        ranks: const u32,
+        pairs: const u32,
+        times: const Time,
         live: mut Time,
         down: mut Time,
         estimates: mut Time,
         elapsed: mut Time,
-        leaving: mut u32,
-        groups: mut u32,
+        leaving: const u32,
+        groups: const u32,
         route: mut u32,
         log: mut u32,
         work: mut Time,
         script: const u32,
         out: mut u64;
-    ) -> Returned;
+    ) -> Header;
 }
 
 /// How many words of a script's answers there are for each call.
@@ -647,25 +647,26 @@ impl Unit {
         script: &[u32],
         out: &mut [u64],
     ) -> Result<(), Refusal> {
-        let returned = lend!(unit_replay(
-            ;
+        let prepared = self.prepare();
+        self.header = lend!(unit_replay(
+            self.header;
             self.card => as_ptr,
-            self.ranks => as_mut_ptr,
-            self.pairs => as_mut_ptr,
-            self.times => as_mut_ptr,
+            self.ranks => as_ptr,
+            self.pairs => as_ptr,
+            self.times => as_ptr,
             self.live => as_mut_ptr,
             self.down => as_mut_ptr,
             self.estimates => as_mut_ptr,
             self.elapsed => as_mut_ptr,
-            self.leaving => as_mut_ptr,
-            self.groups => as_mut_ptr,
+            self.leaving => as_ptr,
+            self.groups => as_ptr,
             route => as_mut_ptr,
             log => as_mut_ptr,
             work => as_mut_ptr,
             script => as_ptr,
             out => as_mut_ptr;
         ));
-        self.hand_back(returned)?.done()
+        prepared
     }
 
     /// Takes the header back, and an answer that refuses.

@@ -33,7 +33,9 @@ use Rattle.calls.specs.declared.Target.{Target}
 use Rattle.calls.specs.declared.Target.the-variants.{Absent, At}
 use Rattle.unit.specs.declared.Header.{Header}
 use Rattle.unit.specs.declared.Answered.{Answered}
+use Rattle.unit.specs.Shape.{headerIn}
 use Rattle.unit.specs.Meets.{Meets, MeetsAlone, MeetsPreview}
+use Rattle.unit_script.specs.Script.{ReplayContract}
 use Rattle.call_stops.specs.declared.Legs.{Legs}
 use Rattle.unit.specs.declared.Stopped.{Stopped}
 use Rattle.call_stops.specs.declared.Stopping.{Stopping}
@@ -41,7 +43,7 @@ use Rattle.unit.specs.Stops.{MeetsStops}
 use Rattle.unit_c.specs.declared.UnitHeader.{UnitHeader}
 use Rattle.unit_c.specs.declared.UnitAnswer.{UnitAnswer}
 use Rattle.unit_c.specs.declared.UnitStops.{UnitStops}
-use Rattle.unit_c.specs.Answers.{Tells, answerTo, answerWords, comparedTo, previewWords, targetOf}
+use Rattle.unit_c.specs.Answers.{Tells, TellsHeader, answerTo, answerWords, comparedTo, headerWords, previewWords, targetOf}
 use Rattle.unit_c.specs.Stops.{TellsStops, stoppingTo, stopsWords}
 use Rattle.unit_c.specs.Words.{Wrote, readingNumber, readingWords}
 
@@ -88,6 +90,14 @@ pub preview-told : {card : List ℕ} {a : Both Areas Areas} {work work′ : List
     → Tells (MeetsPreview card k a work work′ class road time start) w
 preview-told {card} {a} {work} {work′} {class} {road} {time} {start} x e told m =
     (x, told, subst (λ (y : Header). MeetsPreview card y a work work′ class road time start x) e m)
+
+-- ---- a script
+
+pub replay-told : {card : List ℕ} {a : Both Areas Areas} {l : Both Lent Lent} {v : ℕ} {script out₀ out : List ℕ} {h k : Header}
+    {w : UnitHeader} (x : Header) → h ≡ k → w ≡ headerWords x → ReplayContract card (headerIn h) a l v script out₀ out (headerIn x)
+    → TellsHeader (λ y. ReplayContract card (headerIn k) a l v script out₀ out (headerIn y)) w
+replay-told {card} {a} {l} {v} {script} {out₀} {out} x e told m =
+    (x, told, subst (λ (y : Header). ReplayContract card (headerIn y) a l v script out₀ out (headerIn x)) e m)
 
 -- ---- a list of stops
 

@@ -90,6 +90,10 @@ answerTo h (Previewed a b c) = comparedTo h (word (totalIn a)) (word (totalIn b)
 abbrev pub answerWords : Answered → UnitAnswer
 answerWords r = answerTo (headerWords (r .header)) (r .answer)
 
+-- the words of a header that P holds of
+abbrev pub TellsHeader : (P : Header → Type 0) → UnitHeader → Type 0
+TellsHeader P w = (k : Header) × (w ≡ headerWords k) × P k
+
 -- the words of something handed back that P holds of
 abbrev pub Tells : (P : Answered → Type 0) → UnitAnswer → Type 0
 Tells P w = (x : Answered) × (w ≡ answerWords x) × P x

@@ -13,7 +13,7 @@ ghost use Rattle.call_stops.specs.Shape.{stoppingIn};
 ghost use Rattle.unit.specs.Stops.{Rest};
 ghost use Rattle.unit_script.specs.Words.{answerSize, answerWords, changeWord, legsWords, madeWords, putAt, roomIn};
 ghost use Rattle.unit_script.specs.Words.{callAt, endAt, scriptedIn, spelled, stopsAt, timeOf, wordsOf};
-ghost use Rattle.unit_script.specs.Script.{MakeContract, OneContract, ReplayContract, isNext};
+ghost use Rattle.unit_script.specs.Script.{OneContract, ReplayContract, isNext};
 use call_stops::Legs;
 use call_stops::MOST_LEGS;
 use call_stops::Stopping;
@@ -445,8 +445,9 @@ fn make_call(
     }
 }
 
-// Makes the calls of a script from a header and the areas that belong to it, and hands the last header back.
-fn make_calls(
+// Makes the calls of a script from a header and the areas that belong to it, as preparing or calls left them; writes the words of each
+// answer. A preview is lent the work area. Hands the last header back.
+pub fn replay(
     start: Header,
     card: &[u8],
     ranks: &[u32],
@@ -464,7 +465,7 @@ fn make_calls(
     script: &[u32],
     out: &mut [u64],
 ) -> Header
-    ensures { λ h. ⌜ MakeContract (now (card .entry)) (headerIn start) (areas ranks pairs times live down estimates elapsed leaving groups)
+    ensures { λ h. ⌜ ReplayContract (now (card .entry)) (headerIn start) (areas ranks pairs times live down estimates elapsed leaving groups)
         (lent route log) (length (now (work .entry))) (now (script .entry)) (now (out .entry)) (now (out .exit)) (headerIn h) ⌝ }
 {
     let room = room_in(out.len());
@@ -497,64 +498,4 @@ fn make_calls(
         k += 1;
     }
     h
-}
-
-// Prepares the card and makes the calls of a script; writes the words of each answer. A preview is lent the work area.
-// Hands back preparing's answer and the last header.
-pub fn replay(
-    card: &[u8],
-    ranks: &mut [u32],
-    pairs: &mut [u32],
-    times: &mut [TimeWord],
-    live: &mut [TimeWord],
-    down: &mut [TimeWord],
-    estimates: &mut [TimeWord],
-    elapsed: &mut [TimeWord],
-    leaving: &mut [u32],
-    groups: &mut [u32],
-    route: &mut [u32],
-    log: &mut [u32],
-    work: &mut [TimeWord],
-    script: &[u32],
-    out: &mut [u64],
-) -> Answered
-    ensures { λ r. ⌜ ReplayContract (now (card .entry)) (areas ranks pairs times live down estimates elapsed leaving groups)
-        (lent route log) (length (now (work .entry))) (now (script .entry)) (now (out .entry)) (now (out .exit)) (answeredIn r) ⌝ }
-{
-    let prepared = unit_switch_on::prepare(
-        card,
-        ranks,
-        pairs,
-        times,
-        live,
-        down,
-        estimates,
-        elapsed,
-        leaving,
-        groups,
-    );
-    let header = prepared.header;
-    let answer = prepared.answer;
-    let last = make_calls(
-        header,
-        card,
-        ranks,
-        pairs,
-        times,
-        live,
-        down,
-        estimates,
-        elapsed,
-        leaving,
-        groups,
-        route,
-        log,
-        work,
-        script,
-        out,
-    );
-    Answered {
-        header: last,
-        answer: answer,
-    }
 }
