@@ -1,4 +1,5 @@
--- What an estimate promises on lengths and on the areas that it reads or writes: what holds whatever stands in the others. Definitions only.
+-- What an estimate promises on lengths and on the areas that it reads or writes: what holds whatever stands in the others. Definitions
+-- only.
 use mathlib.Core.Path.{_≡_}
 use mathlib.Core.List.{List}
 use Prim.Native.Nat.{ℕ}

@@ -43,7 +43,7 @@ fn way_asked(sizes: Sizes, target: Target, start: Junction) -> Verdict
     network::ask(below, Refusal::NO_JUNCTION, known)
 }
 
-// Questions 9, 18 and 10 to 13 of a preview: 9, its work area's length first; the class; then as a set of that road, and as a go from
+// Questions 9, 18 and 10 to 13 of a preview: 9, its work area's length last; the class; then as a set of that road, and as a go from
 // that start.
 fn preview_asked(
     sizes: Sizes,
@@ -59,15 +59,16 @@ fn preview_asked(
     ensures { λ r. ⌜ verdictIn r ≡ asksTrip (baseOn (now (card .entry))) (headerIn (held sizes target)) (now (card .entry)) (lengthsIn l)
         (Preview class road (time .0) (start .0) work) 0 0 ⌝ }
 {
+    if !calls::fits(sizes, card, l) {
+        return Verdict::Failed(Refusal::LENGTHS);
+    }
     let sized = unit_questions::work_fits(sizes.n, work);
-    let fits = calls::fits(sizes, card, l);
     let driven = unit_questions::class_fits(class);
-    let setting = call_set::set_asked(sizes, card, l, road, time);
+    let setting = call_set::time_asked(sizes, card, road, time);
     let way = way_asked(sizes, target, start);
     let rest = and_then(setting, way);
     let classed = network::ask(driven, Refusal::NO_CLASS, rest);
-    let fitted = network::ask(fits, Refusal::LENGTHS, classed);
-    network::ask(sized, Refusal::LENGTHS, fitted)
+    network::ask(sized, Refusal::LENGTHS, classed)
 }
 
 // What if that road took so long? The total of a class's go from a start now and with that time set, and the change (document 02, A2).
@@ -91,7 +92,8 @@ pub fn preview(
     time: Time,
     start: Junction,
 ) -> Answer
-    ensures { λ r. ⌜ CalledPreview (now (card .entry)) (held sizes target) (areas ranks pairs times live down estimates elapsed leaving groups)
+    ensures { λ r. ⌜ CalledPreview (now (card .entry)) (held sizes target)
+        (areas ranks pairs times live down estimates elapsed leaving groups)
         (now (work .entry)) (now (work .exit)) class road (time .0) (start .0) (handed (held sizes target) r) ⌝ }
 {
     let l = unit_questions::lengths_of(

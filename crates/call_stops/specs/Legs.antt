@@ -52,5 +52,6 @@ pub record Journeys (card : List ℕ) (s : Sizes) (h : model.Header) (a : Both A
 -- a list of stops meets its contract
 pub record CalledStops (card : List ℕ) (h : Held) (a : Both Areas Areas) (l : Both Lent Lent) (class : ℕ) (stops : List ℕ) (r : Visited)
     : Type 0 where
-  pub call : CallContract card (before (headerIn h) (a .entry)) (calling (Stops class stops) (l .entry)) (left (h .sizes) r (a .exit) (l .exit))
+  pub call : CallContract card (before (headerIn h) (a .entry)) (calling (Stops class stops) (l .entry))
+      (left (h .sizes) r (a .exit) (l .exit))
   pub rest : Rest r

@@ -72,6 +72,13 @@ fn count_fits(stops: usize) -> bool
     (FEWEST_STOPS <= stops) & (stops <= MOST_STOPS)
 }
 
+// Question 12. A list that 16 refuses is not gone through.
+fn junctions_fit(counted: bool, n: u32, stops: &[u32]) -> bool
+    ensures { λ r. ⌜ r ≡ (counted && allBelow n (now (stops .entry))) ⌝ }
+{
+    if counted { all_below(n, stops) } else { false }
+}
+
 // Question 14, of a list of so many stops.
 fn lent_fit(n: u32, stops: usize, route: usize, log: usize) -> bool
     ensures { λ r. ⌜ r ≡ (leb (stops * n) route && leb n log) ⌝ }
@@ -100,7 +107,7 @@ fn stops_asked(
     let fits = unit_questions::usable(sizes, card) & unit_questions::sized(sizes, card.len(), l);
     let counted = count_fits(stops.len());
     let driven = unit_questions::class_fits(class);
-    let below = all_below(sizes.n, stops);
+    let below = junctions_fit(counted, sizes.n, stops);
     let roomy = lent_fit(sizes.n, stops.len(), route, log);
     let lent = network::ask(roomy, Refusal::LENT_LENGTHS, Verdict::Passed);
     let known = network::ask(below, Refusal::NO_JUNCTION, lent);
@@ -131,8 +138,8 @@ fn leg(
     from: Junction,
     to: Junction,
 ) -> Aimed
-    ensures { λ r. ⌜ LegMade (now (card .entry)) (headerIn (held sizes target)) (areas ranks pairs times live down estimates elapsed leaving groups)
-        (lent route log) class (from .0) (to .0)
+    ensures { λ r. ⌜ LegMade (now (card .entry)) (headerIn (held sizes target))
+        (areas ranks pairs times live down estimates elapsed leaving groups) (lent route log) class (from .0) (to .0)
         (answeredIn (record { header = held sizes (r .target); answer = r .answer })) ⌝ }
 {
     let l = unit_questions::lengths_of(
@@ -224,8 +231,8 @@ fn journey(
     stops: &[u32],
 ) -> Visited
     requires { ⌜ RoomFor (now stops) ⌝ }
-    ensures { λ r. ⌜ Journeys (now (card .entry)) sizes (headerIn (held sizes target)) (areas ranks pairs times live down estimates elapsed leaving groups)
-        (lent route log) class (now (stops .entry)) r ⌝ }
+    ensures { λ r. ⌜ Journeys (now (card .entry)) sizes (headerIn (held sizes target))
+        (areas ranks pairs times live down estimates elapsed leaving groups) (lent route log) class (now (stops .entry)) r ⌝ }
 {
     let mut totals = [0; MOST_LEGS];
     let mut roads = [0u32; MOST_LEGS];
@@ -303,8 +310,8 @@ pub fn stops(
     class: u32,
     stops: &[u32],
 ) -> Visited
-    ensures { λ r. ⌜ CalledStops (now (card .entry)) (held sizes target) (areas ranks pairs times live down estimates elapsed leaving groups)
-        (lent route log) class (now (stops .entry)) r ⌝ }
+    ensures { λ r. ⌜ CalledStops (now (card .entry)) (held sizes target)
+        (areas ranks pairs times live down estimates elapsed leaving groups) (lent route log) class (now (stops .entry)) r ⌝ }
 {
     let l = unit_questions::lengths_of(
         ranks,

@@ -2,7 +2,7 @@
 use mathlib.Core.Path.{_∙_, _≡_, ap}
 use mathlib.Core.Bool.{_&&_, true}
 use mathlib.Core.List.{List}
-use Prim.Native.Nat.{_*_, _+_, _<_, _≤_, ℕ}
+use Prim.Native.Nat.{_*_, _≤_, ℕ}
 use borrow.Author.Tests.{leb-true}
 use lib.Dec.{eqb, leb}
 use lib.ListN.{length}
@@ -52,13 +52,6 @@ fits-facts {h} {card} {l} e =
 module _ {h : Header} {card : List ℕ} {l : Each ℕ} (k : Fits h card l) where
   pub pairs-few : h .pairs ≤ mostPairs
   pairs-few = omega (arith, k .lengths .room, k .lengths .pairs-high)
-
-  -- where there is a road, the roads have a byte
-  pub roads-there : {i : ℕ} → i < h .m → 0 < length (roadsIn card)
-  roads-there b = omega (arith, k .roads)
-
-  pub road-there : {roads : List ℕ} {i : ℕ} → roads ≡ roadsIn card → i < h .m → 12 * i + 12 ≤ length roads
-  road-there {roads} {i} e b = let r = ap length e ∙ k .roads in omega arith
 
   pub order-sized : {order : List ℕ} → order ≡ orderIn card → length order ≡ 4 * h .n
   order-sized {order} e = ap length e ∙ k .order

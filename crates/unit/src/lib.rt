@@ -68,7 +68,8 @@ impl Header {
 
     // The header with the target that a list of stops left, its answer and its legs.
     fn stopped(self, by: Visited) -> Stopped
-        ensures { λ r. ⌜ r ≡ record { header = record { sizes = self .sizes; target = by .target }; answer = by .answer; legs = by .legs } ⌝ }
+        ensures { λ r. ⌜ r
+            ≡ record { header = record { sizes = self .sizes; target = by .target }; answer = by .answer; legs = by .legs } ⌝ }
     {
         let sizes = self.sizes;
         let target = by.target;
@@ -300,8 +301,8 @@ impl Header {
     }
 
     // Calls at the stops in their order (document 02, A3): for each leg its total and number of roads, and the whole total; the legs' roads
-    // follow one another in the route area. Each leg is an aim and a go of the class: areas and target are left as after the last, or, by 17,
-    // after the first without a path.
+    // follow one another in the route area. Each leg is an aim and a go of the class: areas and target are left as after the last, or, by
+    // 17, after the first without a path.
     pub fn stops(
         self,
         card: &[u8],

@@ -12,7 +12,8 @@ ghost use Rattle.unit.specs.Shape.{answeredIn, headerIn};
 ghost use Rattle.unit.specs.Meets.{Meets, MeetsAlone, MeetsPreview};
 ghost use Rattle.unit.specs.Stops.{MeetsStops};
 ghost use Rattle.unit_script.specs.Script.{ReplayContract};
-ghost use Rattle.unit_c.specs.Answers.{Tells, TellsHeader, answerWords, comparedTo, headerOf, headerWords, plainWords, previewWords, targetOf};
+ghost use Rattle.unit_c.specs.Answers.{Tells, TellsHeader, answerWords, comparedTo};
+ghost use Rattle.unit_c.specs.Answers.{headerOf, headerWords, plainWords, previewWords, targetOf};
 ghost use Rattle.unit_c.specs.Stops.{TellsStops, stopsTo, stopsWords};
 ghost use Rattle.unit_c.specs.Words.{Wrote, readingNumber, readingWords};
 use call_stops::Legs;
@@ -344,7 +345,7 @@ pub extern "C" fn unit_set(
         leaving,
         groups,
         road,
-        Time(time),
+        Time::of_word(time),
     ))
 }
 
@@ -498,7 +499,7 @@ pub extern "C" fn unit_preview(
         work,
         class,
         road,
-        Time(time),
+        Time::of_word(time),
         Junction(start),
     ))
 }

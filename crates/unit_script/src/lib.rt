@@ -20,6 +20,7 @@ use call_stops::Stopping;
 use network::Junction;
 use network::Time;
 use network::TimeWord;
+use network::smaller;
 use unit::Answered;
 use unit::Header;
 use unit::Stopped;
@@ -195,13 +196,6 @@ fn call_at(script: &[u32], at: usize, route: usize, log: usize) -> Scripted
         route,
         log,
     )
-}
-
-// The smaller of two numbers.
-fn smaller(a: usize, b: usize) -> usize
-    ensures { λ r. ⌜ r ≡ min a b ⌝ }
-{
-    if a < b { a } else { b }
 }
 
 // The stops of a list that stands there, as far as the script has them.
@@ -465,8 +459,9 @@ pub fn replay(
     script: &[u32],
     out: &mut [u64],
 ) -> Header
-    ensures { λ h. ⌜ ReplayContract (now (card .entry)) (headerIn start) (areas ranks pairs times live down estimates elapsed leaving groups)
-        (lent route log) (length (now (work .entry))) (now (script .entry)) (now (out .entry)) (now (out .exit)) (headerIn h) ⌝ }
+    ensures { λ h. ⌜ ReplayContract (now (card .entry)) (headerIn start)
+        (areas ranks pairs times live down estimates elapsed leaving groups) (lent route log)
+        (length (now (work .entry))) (now (script .entry)) (now (out .entry)) (now (out .exit)) (headerIn h) ⌝ }
 {
     let room = room_in(out.len());
     let mut h = start;
