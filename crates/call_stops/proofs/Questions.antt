@@ -1,5 +1,5 @@
 -- What the functions that ask say, in the words of the definitions. Assumes nothing.
-use mathlib.Core.Path.{_∙_, _≡_, ap, ap₂, sym}
+use mathlib.Core.Path.{_∙_, _≡_, ap, ap₂, refl, sym}
 use mathlib.Core.Logic.{_≢_}
 use mathlib.Core.Bool.{Bool, _&&_, false, true}
 use mathlib.Core.Option.{Option, none}
@@ -65,12 +65,22 @@ room-asked {n} stops route log e = ap (λ (b : Bool). b && leb n log) (go (decLt
 pub asked : {b c : Bool} (q : Refusal) {x y z : Option Refusal} → x ≡ ask b q y → b ≡ c → y ≡ z → x ≡ ask c q z
 asked q e f g = e ∙ ap₂ (λ (b : Bool) (y : Option Refusal). ask b q y) f g
 
+-- a list that 16 refuses is refused, whatever is said of its stops
+counted-first : (counted driven below : Bool) (lent : Option Refusal)
+    → ask counted StopCount (ask driven NoClass (ask (counted && below) NoJunction lent))
+    ≡ ask counted StopCount (ask driven NoClass (ask below NoJunction lent))
+counted-first true driven below lent = refl
+counted-first false driven below lent = refl
+
 pub stops-asks : (base : ℕ → Total) (h : Header) (card : List ℕ) (l : Each ℕ) (c : ℕ) (stops : List ℕ) (r k : ℕ) {x : Option Refusal}
     → x ≡ ask (fitsBy h card l) Lengths
     (ask (leb fewestStops (length stops) && leb (length stops) mostStops) StopCount
     (ask (ltb c classes) NoClass
-    (ask (allBelow (h .n) stops) NoJunction
+    (ask (leb fewestStops (length stops) && leb (length stops) mostStops && allBelow (h .n) stops) NoJunction
     (ask (leb (length stops * h .n) r && leb (h .n) k) LentLengths none))))
     → x ≡ asks base h card l (Stops c stops) r k
 unfolding stopsRefusal
-stops-asks base h card l c stops r k e = e
+stops-asks base h card l c stops r k e =
+    e
+    ∙ ap (ask (fitsBy h card l) Lengths)
+    (counted-first (leb fewestStops (length stops) && leb (length stops) mostStops) (ltb c classes) (allBelow (h .n) stops) _)

@@ -16,7 +16,7 @@ use Rattle.model.specs.Card.{Rows}
 use Rattle.model.specs.Contracts.{WriteContract}
 use Rattle.model.specs.Areas.{Areas}
 use Rattle.model.specs.State.{Lent}
-use Rattle.model.specs.Calls.{Asked}
+use Rattle.model.specs.Calls.{Asked, Set}
 use Rattle.network.specs.Refusals.{refusalIn}
 use Rattle.network.specs.declared.Refusal as code
 use Rattle.network.specs.declared.Sizes.{Sizes}
@@ -85,11 +85,18 @@ module _ {card : List ℕ} {a : Both Areas Areas} {c : Asked} {h k : Header} {w 
   pub alone-told : MeetsAlone card h a c x → Tells (MeetsAlone card k a c) w
   alone-told m = (x, told, subst (λ (y : Header). MeetsAlone card y a c x) e m)
 
-pub preview-told : {card : List ℕ} {a : Both Areas Areas} {work work′ : List ℕ} {class road time start : ℕ} {h k : Header}
-    {w : UnitAnswer} (x : Answered) → h ≡ k → w ≡ answerWords x → MeetsPreview card h a work work′ class road time start x
-    → Tells (MeetsPreview card k a work work′ class road time start) w
-preview-told {card} {a} {work} {work′} {class} {road} {time} {start} x e told m =
-    (x, told, subst (λ (y : Header). MeetsPreview card y a work work′ class road time start x) e m)
+-- t is the time of C's word u
+pub set-told : {card : List ℕ} {a : Both Areas Areas} {road t u : ℕ} {h k : Header} {w : UnitAnswer} (x : Answered)
+    → h ≡ k → w ≡ answerWords x → t ≡ u → MeetsAlone card h a (Set road t) x → Tells (MeetsAlone card k a (Set road u)) w
+set-told {card} {a} {road} {h = h} x e told time-is m =
+    alone-told x e told (subst (λ (t : ℕ). MeetsAlone card h a (Set road t) x) time-is m)
+
+pub preview-told : {card : List ℕ} {a : Both Areas Areas} {work work′ : List ℕ} {class road t u start : ℕ} {h k : Header}
+    {w : UnitAnswer} (x : Answered) → h ≡ k → w ≡ answerWords x → t ≡ u → MeetsPreview card h a work work′ class road t start x
+    → Tells (MeetsPreview card k a work work′ class road u start) w
+preview-told {card} {a} {work} {work′} {class} {road} {u = u} {start = start} {h} {k} x e told time-is m =
+    let timed = subst (λ (t : ℕ). MeetsPreview card h a work work′ class road t start x) time-is m in
+    (x, told, subst (λ (y : Header). MeetsPreview card y a work work′ class road u start x) e timed)
 
 -- ---- a script
 

@@ -26,8 +26,8 @@ use Rattle.unit_script.specs.declared.Asked as code-asked
 use Rattle.unit_script.specs.declared.Asked.the-variants as scripts
 use Rattle.unit_script.specs.declared.Scripted.{Scripted}
 use Rattle.unit_script.specs.Words.{Lending, answerSize, answerWords, askedIn, callAt, endAt, isCall, putAt, roomIn, scriptedIn}
-use Rattle.unit_script.specs.Script.{Held, Made, OneContract, PreparedOn, PreparedReplay, ReplayContract, answersOf, begun, callsIn, callsOf, held, holding}
-use Rattle.unit_script.specs.Script.{isNext, lend, lending, machineAnswers, onward, scripted, told}
+use Rattle.unit_script.specs.Script.{Held, Made, OneContract, PreparedOn, PreparedReplay, ReplayContract, answersOf, begun, callsIn}
+use Rattle.unit_script.specs.Script.{callsOf, held, holding, isNext, lend, lending, machineAnswers, onward, scripted, told}
 use Rattle.unit_script.proofs.Words.{call-fits, ends-within}
 
 -- ---- the words of an answer

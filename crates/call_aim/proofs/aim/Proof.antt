@@ -15,26 +15,29 @@ use Rattle.call_aim.proofs.aim.Tie as tie
 
 -- ---- no question refuses
 
-abbrev start : tie.After-aim-asked → tie.Start
-start c = search
-
-passed : (c : tie.After-enum-told) → let a = start (c .before .before) .args in
+passed : (c : tie.After-enum-told) →
+    let start : tie.Start = search in
+    let a = start .args in
     CallPassed (a .card .now) (held (a .sizes) (a .target)) (lengthsIn (a .l)) (Aim (a .j .0))
 passed c =
     let after-aim-asked : tie.After-aim-asked = search in
-    call-passed (c .enum-told .given .1) (after-aim-asked .aim-asked .ensures (start after-aim-asked .args .target) (baseOn (start after-aim-asked .args .card .now)))
+    let start : tie.Start = search in
+    call-passed (c .enum-told .given .1)
+    (after-aim-asked .aim-asked .ensures (start .args .target) (baseOn (start .args .card .now)))
 
 -- ---- the answers
 
 down-totals-requires : tie.Need-down-totals-requires
 down-totals-requires c κs =
+    let after-order-of : tie.After-order-of = search in
     let after-enum-told : tie.After-enum-told = search in
-    let told = start (after-enum-told .before .before) .pre in
+    let start : tie.Start = search in
+    let told = start .pre in
     let p = passed after-enum-told in
     let f = p .sizes in record {
       target-in = aim-below p;
       n-high = f .n-high;
-      order-is = order-sized f (c .before .order-of .ensures);
+      order-is = order-sized f (after-order-of .order-of .ensures);
       down-is = sym (told .down-is) ∙ f .lengths .down;
       records-in = omega (arith, f .lengths .room, told .pairs-are);
       times-in = omega (arith, f .lengths .room, f .lengths .times, told .times-are);
@@ -45,8 +48,10 @@ returns : tie.Need-returns
 returns c b lengths-are pairs-are times-are aimed-is k =
     let after-q : tie.After-q = search in
     let after-aim-asked : tie.After-aim-asked = search in
-    let says = after-aim-asked .aim-asked .ensures (start after-aim-asked .args .target) (baseOn (start after-aim-asked .args .card .now)) in
-    same-aimed (refused {h = held (start after-aim-asked .args .sizes) (start after-aim-asked .args .target)} lengths-are (after-q .q .given .1) says refl) aimed-is
+    let start : tie.Start = search in
+    let a = start .args in
+    let says = after-aim-asked .aim-asked .ensures (a .target) (baseOn (a .card .now)) in
+    same-aimed (refused {h = held (a .sizes) (a .target)} lengths-are (after-q .q .given .1) says refl) aimed-is
 
 returns-2 : tie.Need-returns-2
 returns-2 c b lengths-are pairs-are times-are aimed-is k =
@@ -61,13 +66,9 @@ pub aim-spec : {M : Type 1} → statement M
 aim-spec =
     tie.close
     (tie.spec
-    (λ c κs. search needs)
-    (λ c. search needs)
-    (λ c. search needs)
-    (λ c κs. search needs)
+    (λ c κs. search needs) (λ c. search needs) (λ c. search needs) (λ c κs. search needs)
     down-totals-requires
     (λ c κs. search needs)
     returns
-    (λ c. search needs)
-    (λ c. search needs)
+    (λ c. search needs) (λ c. search needs)
     returns-2)

@@ -14,27 +14,29 @@ use Rattle.call_estimate.proofs.estimate.Tie as tie
 
 -- ---- no question refuses
 
-abbrev start : tie.After-estimate-asked → tie.Start
-start c = search
-
-passed : (c : tie.After-enum-told) → let a = start (c .before .before) .args in
+passed : (c : tie.After-enum-told) →
+    let start : tie.Start = search in
+    let a = start .args in
     CallPassed (a .card .now) (held (a .sizes) (a .target)) (lengthsIn (a .l)) (Estimate (a .j .0))
 passed c =
     let after-estimate-asked : tie.After-estimate-asked = search in
+    let start : tie.Start = search in
     call-passed (c .enum-told .given .1)
-    (after-estimate-asked .estimate-asked .ensures (baseOn (start after-estimate-asked .args .card .now)))
+    (after-estimate-asked .estimate-asked .ensures (baseOn (start .args .card .now)))
 
 -- ---- the answers
 
 estimate-requires : tie.Need-estimate-requires
 estimate-requires c κs =
+    let after-order-of : tie.After-order-of = search in
     let after-enum-told : tie.After-enum-told = search in
-    let told = start (after-enum-told .before .before) .pre in
+    let start : tie.Start = search in
+    let told = start .pre in
     let p = passed after-enum-told in
     let f = p .sizes in record {
       junction-in = estimate-below p .0;
       n-high = f .n-high;
-      order-is = order-sized f (c .before .order-of .ensures);
+      order-is = order-sized f (after-order-of .order-of .ensures);
       ranks-are = sym (told .ranks-are) ∙ f .lengths .ranks;
       down-is = sym (told .down-is) ∙ f .lengths .down;
       estimates-are = sym (told .estimates-are) ∙ f .lengths .estimates;
@@ -47,8 +49,10 @@ returns : tie.Need-returns
 returns c b lengths-are ranks-are pairs-are times-are aimed-is k =
     let after-q : tie.After-q = search in
     let after-estimate-asked : tie.After-estimate-asked = search in
-    let says = after-estimate-asked .estimate-asked .ensures (baseOn (start after-estimate-asked .args .card .now)) in
-    same-aimed (refused {h = held (start after-estimate-asked .args .sizes) (start after-estimate-asked .args .target)} lengths-are (after-q .q .given .1) says refl) aimed-is
+    let start : tie.Start = search in
+    let a = start .args in
+    let says = after-estimate-asked .estimate-asked .ensures (baseOn (a .card .now)) in
+    same-aimed (refused {h = held (a .sizes) (a .target)} lengths-are (after-q .q .given .1) says refl) aimed-is
 
 returns-2 : tie.Need-returns-2
 returns-2 c b lengths-are ranks-are pairs-are times-are aimed-is k =
@@ -62,10 +66,7 @@ pub estimate-spec : {M : Type 1} → statement M
 estimate-spec =
     tie.close
     (tie.spec
-    (λ c κs. search needs)
-    (λ c. search needs)
-    (λ c. search needs)
-    (λ c κs. search needs)
+    (λ c κs. search needs) (λ c. search needs) (λ c. search needs) (λ c κs. search needs)
     estimate-requires
     returns
     (λ c. search needs)

@@ -41,24 +41,30 @@ start c = search
 said : (c : tie.After-go-asked) → let s = start c in
     verdictIn (c .go-asked .result) ≡ tripVerdict (card s) (header s) (lengths (areas s)) (Go (s .args .class) (s .args .start .0)) (lent s)
 said c =
-    let s = start c in
+    let s : tie.Start = search in
+    let after-lengths-of : tie.After-lengths-of = search in
     c .go-asked .ensures (baseOn (card s))
     ∙ ap (λ (l : Each ℕ). tripVerdict (card s) (header s) l (Go (s .args .class) (s .args .start .0)) (lent s))
-    (c .before .lengths-of .ensures)
+    (after-lengths-of .lengths-of .ensures)
 
 -- none refuses
-passed : (c : tie.After-enum-told) → let s = start (c .before .before) in
-    TripPassed (card s) (held (s .args .sizes) (s .args .target)) (areas s) (Go (s .args .class) (s .args .start .0)) (lent s) (s .args .start .0)
-passed c = trip-passed go-trips (c .enum-told .given .1) (said (c .before .before))
+passed : (c : tie.After-enum-told) →
+    let s : tie.Start = search in
+    TripPassed (card s) (held (s .args .sizes) (s .args .target)) (areas s) (Go (s .args .class) (s .args .start .0)) (lent s)
+    (s .args .start .0)
+passed c =
+    let after-go-asked : tie.After-go-asked = search in
+    trip-passed go-trips (c .enum-told .given .1) (said after-go-asked)
 
 -- ---- the answers
 
 returns : tie.Need-returns
 returns c =
-    let after-q : tie.After-q = search in
+    let s : tie.Start = search in
     let after-go-asked : tie.After-go-asked = search in
-    let s = start after-go-asked in
-    trip-refused {u = held (s .args .sizes) (s .args .target)} go-trips {r = handed (held (s .args .sizes) (s .args .target)) _} (after-q .q .given .1) (said after-go-asked) refl
+    let after-q : tie.After-q = search in
+    trip-refused {u = held (s .args .sizes) (s .args .target)} go-trips {r = handed (held (s .args .sizes) (s .args .target)) _}
+    (after-q .q .given .1) (said after-go-asked) refl
 
 search-requires : tie.Need-search-requires
 search-requires c κs =
@@ -67,7 +73,8 @@ search-requires c κs =
     let after-roads-of : tie.After-roads-of = search in
     let after-aimed-at : tie.After-aimed-at = search in
     let after-enum-told : tie.After-enum-told = search in
-    let a = start (after-enum-told .before .before) .args in
+    let after-go-asked : tie.After-go-asked = search in
+    let a = start after-go-asked .args in
     let p = passed after-enum-told in
     let room = go-room p in record {
       within = within p (after-aimed-at .aimed-at .ensures) (after-roads-of .roads-of .ensures) (after-order-of .order-of .ensures)
@@ -84,32 +91,20 @@ returns-2 c =
     let after-roads-of : tie.After-roads-of = search in
     let after-aimed-at : tie.After-aimed-at = search in
     let after-enum-told : tie.After-enum-told = search in
-    let after-gone : tie.After-gone = search in
     let after-go-asked : tie.After-go-asked = search in
     let s = start after-go-asked in
     go-handed (passed after-enum-told) (after-aimed-at .aimed-at .ensures) (after-roads-of .roads-of .ensures)
-    (after-order-of .order-of .ensures) (after-access-of .access-of .ensures) (after-search .search .ensures) (after-gone .gone .ensures)
-    {r = handed (held (s .args .sizes) (s .args .target)) (after-gone .gone .result)} refl
+    (after-order-of .order-of .ensures) (after-access-of .access-of .ensures) (after-search .search .ensures) (c .gone .ensures)
+    {r = handed (held (s .args .sizes) (s .args .target)) (c .gone .result)} refl
 
 pub go-spec : {M : Type 1} → statement M
 go-spec =
     tie.close
     (tie.spec
-    (λ c κs. search needs)
-    (λ c κs. search needs)
-    (λ c. search needs)
-    (λ c. search needs)
-    (λ c κs. search needs)
-    (λ c κs. search needs)
-    (λ c κs. search needs)
-    (λ c κs. search needs)
+    (λ c κs. search needs) (λ c κs. search needs) (λ c. search needs) (λ c. search needs) (λ c κs. search needs) (λ c κs. search needs)
+    (λ c κs. search needs) (λ c κs. search needs)
     search-requires
-    (λ c κs. search needs)
-    (λ c. search needs)
-    (λ c. search needs)
+    (λ c κs. search needs) (λ c. search needs) (λ c. search needs)
     returns
-    (λ c. search needs)
-    (λ c. search needs)
-    (λ c. search needs)
-    (λ c. search needs)
+    (λ c. search needs) (λ c. search needs) (λ c. search needs) (λ c. search needs)
     returns-2)

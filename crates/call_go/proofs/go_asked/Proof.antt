@@ -13,6 +13,7 @@ use Rattle.call_go.proofs.go_asked.Tie as tie
 
 returns : tie.Need-returns
 returns c base =
+    let after-ask5 : tie.After-ask5 = search in
     let after-ask4 : tie.After-ask4 = search in
     let after-ask3 : tie.After-ask3 = search in
     let after-ask2 : tie.After-ask2 = search in
@@ -26,7 +27,7 @@ returns c base =
     let a = start .args in
     go-asks base (headerIn (held (a .sizes) (a .target))) (a .card .now) (lengthsIn (a .l)) (a .class) (a .start .0) (a .route) (a .log)
     (asked Lengths (c .ask6 .ensures) (after-fits2 .fits2 .ensures (a .target))
-    (asked NoClass (c .before .ask5 .ensures) (after-class-fits .class-fits .ensures)
+    (asked NoClass (after-ask5 .ask5 .ensures) (after-class-fits .class-fits .ensures)
     (tested (ltb (a .start .0) (a .sizes .n)) NoJunction (after-ask4 .ask4 .ensures)
     (asked NoTarget (after-ask3 .ask3 .ensures) (after-is-aimed .is-aimed .ensures)
     (asked LentLengths (after-ask2 .ask2 .ensures) (after-lent-fit .lent-fit .ensures)
@@ -36,15 +37,7 @@ pub go-asked-spec : {M : Type 1} → statement M
 go-asked-spec =
     tie.close
     (tie.spec
-    (λ c κs. search needs)
-    (λ c κs. search needs)
-    (λ c κs. search needs)
-    (λ c κs. search needs)
-    (λ c κs. search needs)
-    (λ c κs. search needs)
-    (λ c κs. search needs)
-    (λ c κs. search needs)
-    (λ c κs. search needs)
-    (λ c κs. search needs)
+    (λ c κs. search needs) (λ c κs. search needs) (λ c κs. search needs) (λ c κs. search needs) (λ c κs. search needs)
+    (λ c κs. search needs) (λ c κs. search needs) (λ c κs. search needs) (λ c κs. search needs) (λ c κs. search needs)
     (λ c κs. search needs)
     returns)

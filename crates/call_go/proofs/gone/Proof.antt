@@ -8,15 +8,18 @@ use Rattle.call_go.proofs.gone.Tie as tie
 
 returns : tie.Need-returns
 returns c =
+    let then1 : tie.Then1 = search in
     let after-is-none : tie.After-is-none = search in
-    let a = after-is-none .before .args in
+    let start : tie.Start = search in
+    let a = start .args in
     ap Refused (c .no-path .ensures)
-    ∙ gone-none (a .total .0) (a .count) (a .roads) (after-is-none .is-none .ensures) (c .before .if1 .taken)
+    ∙ gone-none (a .total .0) (a .count) (a .roads) (after-is-none .is-none .ensures) (then1 .if1 .taken)
 
 returns-2 : tie.Need-returns-2
 returns-2 c =
     let after-is-none : tie.After-is-none = search in
-    let a = after-is-none .before .args in
+    let start : tie.Start = search in
+    let a = start .args in
     gone-some (a .total .0) (a .count) (a .roads) (after-is-none .is-none .ensures) (c .if1 .left)
 
 pub gone-spec : {M : Type 1} → statement M

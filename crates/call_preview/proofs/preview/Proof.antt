@@ -40,24 +40,29 @@ start c = search
 said : (c : tie.After-preview-asked) (k : Lent) → let s = start c in
     verdictIn (c .preview-asked .result) ≡ tripVerdict (card s) (header s) (lengths (areas s)) (asked s) k
 said c k =
-    let s = start c in
+    let s : tie.Start = search in
+    let after-lengths-of : tie.After-lengths-of = search in
     c .preview-asked .ensures
-    ∙ ap (λ (l : Each ℕ). tripVerdict (card s) (header s) l (asked s) k) (c .before .lengths-of .ensures)
+    ∙ ap (λ (l : Each ℕ). tripVerdict (card s) (header s) l (asked s) k) (after-lengths-of .lengths-of .ensures)
 
 -- none refuses
-passed : (c : tie.After-enum-told) (k : Lent) → let s = start (c .before .before) in
+passed : (c : tie.After-enum-told) (k : Lent) →
+    let s : tie.Start = search in
     TripPassed (card s) (held (s .args .sizes) (s .args .target)) (areas s) (asked s) k (s .args .start .0)
-passed c k = trip-passed preview-trips (c .enum-told .given .1) (said (c .before .before) k)
+passed c k =
+    let after-preview-asked : tie.After-preview-asked = search in
+    trip-passed preview-trips (c .enum-told .given .1) (said after-preview-asked k)
 
 -- ---- the answers
 
 returns : tie.Need-returns
 returns c =
-    let after-q : tie.After-q = search in
+    let s : tie.Start = search in
     let after-preview-asked : tie.After-preview-asked = search in
-    let s = start after-preview-asked in
+    let after-q : tie.After-q = search in
     record {
-      call = λ k. trip-refused {u = held (s .args .sizes) (s .args .target)} preview-trips (after-q .q .given .1) (said after-preview-asked k) refl;
+      call = λ k.
+          trip-refused {u = held (s .args .sizes) (s .args .target)} preview-trips (after-q .q .given .1) (said after-preview-asked k) refl;
       work-left = work-refused;
     }
 
@@ -68,7 +73,8 @@ totals-requires c κs =
     let after-roads-of : tie.After-roads-of = search in
     let after-aimed-at : tie.After-aimed-at = search in
     let after-enum-told : tie.After-enum-told = search in
-    let a = start (after-enum-told .before .before) .args in
+    let after-preview-asked : tie.After-preview-asked = search in
+    let a = start after-preview-asked .args in
     let p = passed after-enum-told noneLent in record {
       within = within p (after-aimed-at .aimed-at .ensures) (after-roads-of .roads-of .ensures) (after-order-of .order-of .ensures)
           (met-length (after-access-of .access-of .result .now) (a .class) (a .live .now)) refl;
@@ -82,33 +88,25 @@ returns-2 c =
     let after-order-of : tie.After-order-of = search in
     let after-roads-of : tie.After-roads-of = search in
     let after-aimed-at : tie.After-aimed-at = search in
-    let (_, (_, (_, (_, (_, (_, (_, (_, (_, (_, (_, (_, (_, (work-kept, _)))))))))))))) = after-totals .totals .kept in
     let after-enum-told : tie.After-enum-told = search in
-    let after-previewed : tie.After-previewed = search in
     let after-preview-asked : tie.After-preview-asked = search in
+    let (_, (_, (_, (_, (_, (_, (_, (_, (_, (_, (_, (_, (_, (work-kept, _)))))))))))))) = after-totals .totals .kept in
     record {
       call = λ k. preview-handed (passed after-enum-told k) (after-aimed-at .aimed-at .ensures)
           (after-roads-of .roads-of .ensures) (after-order-of .order-of .ensures) (after-access-of .access-of .ensures)
-          (after-totals .totals .ensures) {x = after-previewed .previewed .result} (after-previewed .previewed .ensures) refl;
-      work-left = work-made work-kept {u = held (start after-preview-asked .args .sizes) (start after-preview-asked .args .target)} {x = after-previewed .previewed .result} (after-previewed .previewed .ensures) refl;
+          (after-totals .totals .ensures) {x = c .previewed .result} (c .previewed .ensures) refl;
+      work-left = work-made work-kept {u = held (start after-preview-asked .args .sizes) (start after-preview-asked .args .target)}
+          {x = c .previewed .result} (c .previewed .ensures) refl;
     }
 
 pub preview-spec : {M : Type 1} → statement M
 preview-spec =
     tie.close
     (tie.spec
-    (λ c κs. search needs)
-    (λ c κs. search needs)
-    (λ c. search needs)
-    (λ c. search needs)
-    (λ c κs. search needs)
-    (λ c κs. search needs)
-    (λ c κs. search needs)
-    (λ c κs. search needs)
+    (λ c κs. search needs) (λ c κs. search needs) (λ c. search needs) (λ c. search needs) (λ c κs. search needs) (λ c κs. search needs)
+    (λ c κs. search needs) (λ c κs. search needs)
     totals-requires
-    (λ c κs. search needs)
-    (λ c. search needs)
+    (λ c κs. search needs) (λ c. search needs)
     returns
-    (λ c. search needs)
-    (λ c. search needs)
+    (λ c. search needs) (λ c. search needs)
     returns-2)

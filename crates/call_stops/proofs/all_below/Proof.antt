@@ -24,16 +24,18 @@ loop-holds c = record { to-go = search needs; rest = refl }
 
 returns : tie.Need-returns Inv-loop μ-loop
 returns c =
-    let in-loop = c .before .before in
-    let at-loop = in-loop .before in
-    let a = at-loop .before .args in
+    let in-loop : tie.In-loop Inv-loop μ-loop = search in
+    let at-loop : tie.At-loop Inv-loop μ-loop = search in
+    let start : tie.Start Inv-loop μ-loop = search in
+    let a = start .args in
     below-not (a .n) (a .stops .now) (at-loop .loop .inv .rest) (in-loop .loop-test .taken) (c .if1 .taken)
 
 loop-again : tie.Need-loop-again Inv-loop μ-loop
 loop-again c =
-    let in-loop = c .before .before in
-    let at-loop = in-loop .before in
-    let a = at-loop .before .args in
+    let in-loop : tie.In-loop Inv-loop μ-loop = search in
+    let at-loop : tie.At-loop Inv-loop μ-loop = search in
+    let start : tie.Start Inv-loop μ-loop = search in
+    let a = start .args in
     record {
       to-go = search needs;
       rest = below-turn (a .n) (a .stops .now) (at-loop .loop .inv .rest) (in-loop .loop-test .taken) (c .if1 .left);
@@ -41,8 +43,9 @@ loop-again c =
 
 returns-2 : tie.Need-returns-2 Inv-loop μ-loop
 returns-2 c =
-    let at-loop = c .before in
-    let a = at-loop .before .args in
+    let at-loop : tie.At-loop Inv-loop μ-loop = search in
+    let start : tie.Start Inv-loop μ-loop = search in
+    let a = start .args in
     below-end (a .n) (a .stops .now) (at-loop .loop .inv .rest) (c .loop-test .left)
 
 pub all-below-spec : {M : Type 1} → statement M
@@ -52,10 +55,8 @@ all-below-spec =
     Inv-loop
     μ-loop
     loop-holds
-    (λ c. search needs)
-    (λ c. search needs)
+    (λ c. search needs) (λ c. search needs)
     returns
-    (λ c. search needs)
-    (λ c. search needs)
+    (λ c. search needs) (λ c. search needs)
     loop-again
     returns-2)

@@ -16,16 +16,16 @@ use Rattle.call_stops.proofs.journey.Statement.{statement}
 use Rattle.call_stops.proofs.journey.Tie as tie
 
 abbrev Inv-loop : tie.InvT-loop
-Inv-loop sizes card ranks pairs times live down₀ estimates₀ elapsed₀ leaving groups route₀ log₀ class stops totals₀ roads₀ number t₀ whole₀ at₀
-    i₀ down estimates elapsed route log totals roads t whole at i =
+Inv-loop sizes card ranks pairs times live down₀ estimates₀ elapsed₀ leaving groups route₀ log₀ class stops totals₀ roads₀ number t₀ whole₀
+    at₀ i₀ down estimates elapsed route log totals roads t whole at i =
     AtLeg card class stops number
     (before (headerIn (held sizes t₀)) (areasOf ranks pairs times live down₀ estimates₀ elapsed₀ leaving groups)) (lentOf route₀ log₀)
     (before (headerIn (held sizes t)) (areasOf ranks pairs times live down estimates elapsed leaving groups)) (lentOf route log)
     totals roads whole at i
 
 abbrev μ-loop : tie.MeasureT-loop
-μ-loop sizes card ranks pairs times live down₀ estimates₀ elapsed₀ leaving groups route₀ log₀ class stops totals₀ roads₀ number t₀ whole₀ at₀
-    i₀ down estimates elapsed route log totals roads t whole at i = number - i
+μ-loop sizes card ranks pairs times live down₀ estimates₀ elapsed₀ leaving groups route₀ log₀ class stops totals₀ roads₀ number t₀ whole₀
+    at₀ i₀ down estimates elapsed route log totals roads t whole at i = number - i
 
 -- ---- places
 
@@ -34,6 +34,9 @@ start c = search
 
 abbrev in-loop : tie.After-leg Inv-loop μ-loop → tie.In-loop Inv-loop μ-loop
 in-loop c = search
+
+abbrev at-loop : tie.After-leg Inv-loop μ-loop → tie.At-loop Inv-loop μ-loop
+at-loop c = search
 
 -- the leg that was made: it has a path, or none
 abbrev found : tie.After-known-told Inv-loop μ-loop → tie.After-leg Inv-loop μ-loop
@@ -44,13 +47,17 @@ lost c = search
 
 -- what a leg handed back
 abbrev met : tie.After-leg Inv-loop μ-loop → Handed
-met c = record { header = held (start (in-loop c .before) .args .sizes) (c .leg .result .target); answer = c .leg .result .answer }
+met c = record { header = held (start (at-loop c) .args .sizes) (c .leg .result .target); answer = c .leg .result .answer }
 
 -- ---- facts
 
 -- a leg is below the number of legs, for which there is room
-few : (c : tie.In-loop Inv-loop μ-loop) → c .before .loop .i < mostLegs
-few c = omega (arith, c .loop-test .taken, start (c .before) .pre .many)
+few : (c : tie.In-loop Inv-loop μ-loop) →
+    let at-loop : tie.At-loop Inv-loop μ-loop = search in
+    at-loop .loop .i < mostLegs
+few c =
+    let start : tie.Start Inv-loop μ-loop = search in
+    omega (arith, c .loop-test .taken, start .pre .many)
 
 -- ---- the answers
 
@@ -71,63 +78,78 @@ sub-number c =
 
 further-requires : tie.Need-further-requires Inv-loop μ-loop
 further-requires c κs =
-    let leg = found (c .before) in
+    let leg : tie.After-leg Inv-loop μ-loop = search in
+    let in-loop : tie.In-loop Inv-loop μ-loop = search in
+    let at-loop : tie.At-loop Inv-loop μ-loop = search in
     let (_, (_, (_, (_, (_, (_, (_, (_, (_, (_, kept)))))))))) = leg .leg .kept in
     let (_, (_, (route-kept, _))) = kept in
-    let at-loop = in-loop leg .before in
-    still-within (met leg) (in-loop leg .loop-test .taken) (at-loop .loop .inv) (leg .leg .ensures) route-kept
+    still-within (met leg) (in-loop .loop-test .taken) (at-loop .loop .inv) (leg .leg .ensures) route-kept
 
 same-length : tie.Need-same-length Inv-loop μ-loop
 same-length c =
-    let leg = lost (c .before .before) in
+    let leg : tie.After-leg Inv-loop μ-loop = search in
+    let at-loop : tie.At-loop Inv-loop μ-loop = search in
     let (_, (_, (_, (_, (_, (_, (_, (down-kept, _)))))))) = leg .leg .kept in
-    down-kept ∙ in-loop leg .before .loop .inv .down
+    down-kept ∙ at-loop .loop .inv .down
 
 same-length-2 : tie.Need-same-length-2 Inv-loop μ-loop
 same-length-2 c =
-    let leg = lost (c .before .before) in
+    let leg : tie.After-leg Inv-loop μ-loop = search in
+    let at-loop : tie.At-loop Inv-loop μ-loop = search in
     let (_, (_, (_, (_, (_, (_, (_, (_, (estimates-kept, _))))))))) = leg .leg .kept in
-    estimates-kept ∙ in-loop leg .before .loop .inv .estimates
+    estimates-kept ∙ at-loop .loop .inv .estimates
 
 same-length-3 : tie.Need-same-length-3 Inv-loop μ-loop
 same-length-3 c =
-    let leg = lost (c .before .before) in
+    let leg : tie.After-leg Inv-loop μ-loop = search in
+    let at-loop : tie.At-loop Inv-loop μ-loop = search in
     let (_, (_, (_, (_, (_, (_, (_, (_, (_, (elapsed-kept, _)))))))))) = leg .leg .kept in
-    elapsed-kept ∙ in-loop leg .before .loop .inv .elapsed
+    elapsed-kept ∙ at-loop .loop .inv .elapsed
 
 same-length-4 : tie.Need-same-length-4 Inv-loop μ-loop
 same-length-4 c =
-    let leg = lost (c .before .before) in
+    let leg : tie.After-leg Inv-loop μ-loop = search in
+    let in-loop : tie.In-loop Inv-loop μ-loop = search in
+    let at-loop : tie.At-loop Inv-loop μ-loop = search in
     let (_, (_, (_, (_, (_, (_, (_, (_, (_, (_, kept)))))))))) = leg .leg .kept in
     let (_, (_, (route-kept, _))) = kept in
-    let at-loop = in-loop leg .before in
-    route-stays (met leg) (in-loop leg .loop-test .taken) (at-loop .loop .inv) (leg .leg .ensures) route-kept
+    route-stays (met leg) (in-loop .loop-test .taken) (at-loop .loop .inv) (leg .leg .ensures) route-kept
 
 same-length-5 : tie.Need-same-length-5 Inv-loop μ-loop
 same-length-5 c =
-    let leg = lost (c .before .before) in
+    let leg : tie.After-leg Inv-loop μ-loop = search in
+    let at-loop : tie.At-loop Inv-loop μ-loop = search in
     let (_, (_, (_, (_, (_, (_, (_, (_, (_, (_, kept)))))))))) = leg .leg .kept in
     let (_, (_, (_, (log-kept, _)))) = kept in
-    log-kept ∙ in-loop leg .before .loop .inv .log
+    log-kept ∙ at-loop .loop .inv .log
 
 returns : tie.Need-returns Inv-loop μ-loop
 returns c =
-    let in-match = c .before .before in
+    let in-match : tie.At-match-keys2 Inv-loop μ-loop = search in
+    let after-no-leg : tie.After-no-leg Inv-loop μ-loop = search in
     let leg = lost in-match in
-    let at-loop = in-loop leg .before in
+    let at-loop = at-loop leg in
     turn-lost (met leg) (in-loop leg .loop-test .taken) (at-loop .loop .inv) (leg .leg .ensures) (in-match .match .keys2)
-    (c .before .no-leg .ensures) (c .refused .ensures)
+    (after-no-leg .no-leg .ensures) (c .refused .ensures)
 
 loop-again : tie.Need-loop-again Inv-loop μ-loop
 loop-again c =
-    let after-answer = c .before .before .before in
-    let leg = found (c .before .before) in
-    let at-loop = in-loop leg .before in
+    let after-answer : tie.After-answer Inv-loop μ-loop = search in
+    let after-known-told : tie.After-known-told Inv-loop μ-loop = search in
+    let after-sum : tie.After-sum Inv-loop μ-loop = search in
+    let leg = found after-known-told in
+    let at-loop = at-loop leg in
     let (_, (_, (_, (_, (_, (_, (_, (down-kept, (estimates-kept, (elapsed-kept, kept)))))))))) = leg .leg .kept in
     let (_, (_, (route-kept, (log-kept, _)))) = kept in
     turn-again (met leg) (in-loop leg .loop-test .taken) (at-loop .loop .inv) (leg .leg .ensures) (start at-loop .pre .many)
-    (after-answer .answer .given .1) down-kept estimates-kept elapsed-kept route-kept log-kept (c .before .sum .ensures)
+    (after-answer .answer .given .1) down-kept estimates-kept elapsed-kept route-kept log-kept (after-sum .sum .ensures)
     (c .further .ensures)
+
+returns-2 : tie.Need-returns-2 Inv-loop μ-loop
+returns-2 c =
+    let at-loop : tie.At-loop Inv-loop μ-loop = search in
+    let start : tie.Start Inv-loop μ-loop = search in
+    turn-end (start .pre .many) (c .loop-test .left) (at-loop .loop .inv)
 
 pub journey-spec : {M : Type 1} → statement M
 journey-spec =
@@ -137,17 +159,9 @@ journey-spec =
     μ-loop
     sub-number
     (λ c. turn-start)
-    (λ c. search needs)
-    (λ c. search needs)
-    (λ c. search needs)
-    (λ c. search needs)
-    (λ c. search needs)
+    (λ c. search needs) (λ c. search needs) (λ c. search needs) (λ c. search needs) (λ c. search needs)
     route-part
-    (λ c. search needs)
-    (λ c. search needs)
-    (λ c. search needs)
-    (λ c κs. search needs)
-    (λ c. search needs)
+    (λ c. search needs) (λ c. search needs) (λ c. search needs) (λ c κs. search needs) (λ c. search needs)
     (λ c. omega (arith, few (in-loop (found c))))
     (λ c. omega (arith, few (in-loop (found c))))
     (λ c. omega (arith, few (in-loop (found c))))
@@ -155,8 +169,7 @@ journey-spec =
     (λ c κs. search needs)
     further-requires
     (λ c. omega (arith, few (in-loop (lost c))))
-    (λ c κs. search needs)
-    (λ c κs. search needs)
+    (λ c κs. search needs) (λ c κs. search needs)
     same-length
     same-length-2
     same-length-3
@@ -165,10 +178,5 @@ journey-spec =
     returns
     (λ c. search needs)
     loop-again
-    (λ c. search needs)
-    (λ c. search needs)
-    (λ c. search needs)
-    (λ c. search needs)
-    (λ c. search needs)
-    (λ c. search needs)
-    (λ c. turn-end (start (c .before) .pre .many) (c .loop-test .left) (c .before .loop .inv)))
+    (λ c. search needs) (λ c. search needs) (λ c. search needs) (λ c. search needs) (λ c. search needs) (λ c. search needs)
+    returns-2)

@@ -7,12 +7,14 @@ use Rattle.call_stops.proofs.lent_fit.Tie as tie
 
 returns : tie.Need-returns
 returns c =
-    let a = c .before .args in
+    let start : tie.Start = search in
+    let a = start .args in
     no-room-asked (a .stops) (a .route) (a .log) (c .if1 .taken)
 
 returns-2 : tie.Need-returns-2
 returns-2 c =
-    let a = c .before .args in
+    let start : tie.Start = search in
+    let a = start .args in
     room-asked (a .stops) (a .route) (a .log) (c .if1 .left)
 
 pub lent-fit-spec : {M : Type 1} → statement M

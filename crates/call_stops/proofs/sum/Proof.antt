@@ -7,9 +7,9 @@ use Rattle.call_stops.proofs.sum.Tie as tie
 
 returns : tie.Need-returns
 returns c =
-    let after-plus = c .before in
-    let after-of-word2 = after-plus .before in
-    let after-of-word = after-of-word2 .before in
+    let after-plus : tie.After-plus = search in
+    let after-of-word2 : tie.After-of-word2 = search in
+    let after-of-word : tie.After-of-word = search in
     c .word .ensures ∙ after-plus .plus .ensures ∙ ap₂ sumIn (after-of-word .of-word .ensures) (after-of-word2 .of-word2 .ensures)
 
 pub sum-spec : {M : Type 1} → statement M

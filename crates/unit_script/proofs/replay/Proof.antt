@@ -28,50 +28,51 @@ abbrev μ-loop : tie.MeasureT-loop
 -- ---- where a call is next
 
 abbrev start : tie.At-loop Inv-loop μ-loop → tie.Start Inv-loop μ-loop
-start c =
-    c .before .before .before .before .before .before .before .before .before .before .before .before .before .before .before
-    .before .before
+start c = search
 
-next-is : (c : tie.Then1 Inv-loop μ-loop) → let at-loop = c .before .before in
+next-is : (c : tie.Then1 Inv-loop μ-loop) → let at-loop : tie.At-loop Inv-loop μ-loop = search in
     isNext (start at-loop .args .script .now) (at-loop .loop .at) (at-loop .loop .k) (at-loop .before .room-in .result) ≡ true
 next-is c = sym (c .before .is-next .ensures) ∙ c .if1 .taken
 
-room-left : (c : tie.Then1 Inv-loop μ-loop) → let at-loop = c .before .before in
+room-left : (c : tie.Then1 Inv-loop μ-loop) → let at-loop : tie.At-loop Inv-loop μ-loop = search in
     at-loop .loop .k < at-loop .before .room-in .result
-room-left c = let at-loop = c .before .before in turn-room (at-loop .loop .inv) (next-is c)
+room-left c = let at-loop : tie.At-loop Inv-loop μ-loop = search in turn-room (at-loop .loop .inv) (next-is c)
 
 -- ---- where it was made
 
 abbrev after-route : tie.After-put-made-arg Inv-loop μ-loop → tie.After-route Inv-loop μ-loop
-after-route c = c .before .before .before .before .before .before .before
+after-route c = search
 
 abbrev after-make-call : tie.After-put-made-arg Inv-loop μ-loop → tie.After-make-call Inv-loop μ-loop
-after-make-call c = after-route c .before .before .before .before .before .before .before .before .before
+after-make-call c = search
 
 abbrev after-stops-at : tie.After-put-made-arg Inv-loop μ-loop → tie.After-stops-at Inv-loop μ-loop
-after-stops-at c = after-make-call c .before
+after-stops-at c = search
 
 abbrev after-call-at : tie.After-stops-at Inv-loop μ-loop → tie.After-call-at Inv-loop μ-loop
-after-call-at c = c .before .before .before .before .before .before .before .before
+after-call-at c = search
 
 abbrev then1 : tie.After-put-made-arg Inv-loop μ-loop → tie.Then1 Inv-loop μ-loop
-then1 c = after-call-at (after-stops-at c) .before
+then1 c = search
+
+abbrev loop-of : tie.Then1 Inv-loop μ-loop → tie.At-loop Inv-loop μ-loop
+loop-of c = search
 
 abbrev at-loop : tie.After-put-made-arg Inv-loop μ-loop → tie.At-loop Inv-loop μ-loop
-at-loop c = after-stops-at c .before .before .before .before .before .before .before .before .before .before .before
+at-loop c = loop-of (then1 c)
 
 -- ---- the answers
 
 stops-at-requires : tie.Need-stops-at-requires Inv-loop μ-loop
 stops-at-requires c κs =
-    let after-call-at = c .before .before .before .before .before .before .before in
-    let at-loop = after-call-at .before .before .before in
+    let after-call-at : tie.After-call-at Inv-loop μ-loop = search in
+    let at-loop : tie.At-loop Inv-loop μ-loop = search in
     at-loop .loop .inv .within
 
 make-call-requires : tie.Need-make-call-requires Inv-loop μ-loop
 make-call-requires c κs =
     let after-call-at = after-call-at c in
-    let at-loop = after-call-at .before .before .before in
+    let at-loop : tie.At-loop Inv-loop μ-loop = search in
     turn-fits (at-loop .loop .inv) 0 (after-call-at .call-at .ensures 0)
 
 put-made-requires : tie.Need-put-made-requires Inv-loop μ-loop
@@ -91,7 +92,7 @@ loop-less c = let at-put = c .before .before .before .before in omega (arith, ro
 
 loop-again : tie.Need-loop-again Inv-loop μ-loop
 loop-again c =
-    let after-put-made = c .before .before .before in
+    let after-put-made : tie.After-put-made Inv-loop μ-loop = search in
     let at-put = after-put-made .before in
     let make-call = after-make-call at-put .make-call in
     let stops-at = after-stops-at at-put .stops-at in
@@ -117,7 +118,7 @@ loop-again c =
 
 returns : tie.Need-returns Inv-loop μ-loop
 returns c =
-    let at-loop = c .before .before in
+    let at-loop : tie.At-loop Inv-loop μ-loop = search in
     replay-made (run-end (at-loop .loop .inv .run) (at-loop .before .room-in .ensures) (sym (c .before .is-next .ensures) ∙ c .if1 .left))
 
 pub replay-spec : {M : Type 1} → statement M

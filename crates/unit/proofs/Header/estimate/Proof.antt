@@ -1,4 +1,5 @@
--- `call_estimate::estimate` is told the lengths of the areas that are lent, so what it promises of any areas of these lengths holds of them.
+-- `call_estimate::estimate` is told the lengths of the areas that are lent, so what it promises of any areas of these lengths holds of
+-- them.
 use mathlib.Core.Path.{ap, refl, sym}
 use Prim.Native.Nat.{ℕ}
 use borrow.Author.Needs.{needs}
@@ -39,6 +40,5 @@ estimate-spec =
     (tie.spec
     (λ c κs. search needs)
     estimate-requires
-    (λ c κs. search needs)
-    (λ c. search needs)
+    (λ c κs. search needs) (λ c. search needs)
     returns)

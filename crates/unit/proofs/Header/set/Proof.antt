@@ -34,6 +34,5 @@ set-spec =
     (tie.spec
     (λ c κs. search needs)
     set-requires
-    (λ c κs. search needs)
-    (λ c. search needs)
+    (λ c κs. search needs) (λ c. search needs)
     returns)
