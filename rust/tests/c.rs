@@ -225,6 +225,12 @@ fn map_p_with_another_answer() {
         ("replay", "{25, 2, 20, 1}", "{25, 20, 2, 1}"),
         ("replay", "{17, 1, 0, 0}", "{17, 0, 1, 0}"),
         ("replay", "{18, 0, 0, 0}", "{12, 0, 0, 0}"),
+        ("replay", "replayed(4, 13)", "replayed(4, 9)"),
+        (
+            "replay",
+            "    bool prepared = prepare(PAIRS) == 0;",
+            "    bool prepared = prepared_at(3) && set(1, 11) == 0;",
+        ),
         ("A6  a byte", "LONGER - 1, &first, &second) == 3", "LONGER - 1, &first, &second) == 4"),
         (
             "A6  a byte",
