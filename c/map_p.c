@@ -329,9 +329,9 @@ static bool rooms(void) {
  * The program's example as one script: aim 3, est 0, go 0, set 1 closed, go 0, set 1 9. Between them a go with too short a log, one of
  * a class that is none, and previews: a shorter, a missing and a refused one. Behind them lists of stops: there and back, one stop
  * alone, and there and back with road 4 closed. Then a kind that is none, which ends the script: the aim behind it is not made, and its
- * answer's words are as they were.
+ * answer's words are as they were. The first calls, so many of so many words, are a script before it, which it goes on from.
  */
-static bool replayed(void) {
+static bool replayed(size_t first_calls, size_t first_len) {
     enum { CALLS = 15, SCRIPT = 76 };
     static const uint32_t script[SCRIPT] = {
         1, 3, 2, 0, 3, 0, 0, N, LENT, 0, 1, TIME(UNIT_CLOSED), 3, 1, 0, N, N - 1, 3, 7, 0, ROUTE + 1, N, 3, 8, 0, N, N,
@@ -349,9 +349,8 @@ static bool replayed(void) {
     uint32_t words[SCRIPT + 3];
     memcpy(words, script, sizeof script);
     memcpy(words + SCRIPT, ended, sizeof ended);
-    for (size_t i = 0; i < UNIT_ANSWER_WORDS; i++) {
-        out[CALLS * UNIT_ANSWER_WORDS + i] = wanted[CALLS * UNIT_ANSWER_WORDS + i] = 7;
-    }
+    fill_times(out, (CALLS + 1) * UNIT_ANSWER_WORDS, 7);
+    fill_times(wanted + CALLS * UNIT_ANSWER_WORDS, UNIT_ANSWER_WORDS, 7);
     for (size_t i = 0; i < CALLS; i++) {
         memcpy(wanted + UNIT_ANSWER_WORDS * i, first_words[i], sizeof first_words[i]);
     }
@@ -359,9 +358,13 @@ static bool replayed(void) {
     fill(route, ROUTE, UNTOUCHED);
     fill(entries, LENT, UNTOUCHED);
     fill_times(work, 2 * N + 1, UNTOUCHED);
-    UnitAnswer answer = unit_replay(card, card_len, AREAS(PAIRS), route, ROUTE, entries, LENT, work, 2 * N, words, SCRIPT + 3,
-        out, (CALLS + 1) * UNIT_ANSWER_WORDS);
-    return handed(answer) == 0 && header.target == 0 && header.aimed == 1 && memcmp(out, wanted, sizeof out) == 0 &&
+    const size_t first_out = first_calls * UNIT_ANSWER_WORDS;
+    bool prepared = prepare(PAIRS) == 0;
+    header = unit_replay(header, card, card_len, AREAS(PAIRS), route, ROUTE, entries, LENT, work, 2 * N, words, first_len,
+        out, first_out);
+    header = unit_replay(header, card, card_len, AREAS(PAIRS), route, ROUTE, entries, LENT, work, 2 * N, words + first_len,
+        SCRIPT + 3 - first_len, out + first_out, (CALLS + 1) * UNIT_ANSWER_WORDS - first_out);
+    return prepared && header.target == 0 && header.aimed == 1 && memcmp(out, wanted, sizeof out) == 0 &&
         same(route, roads_left, 3) && filled(route + 3, ROUTE - 3, UNTOUCHED) && same(entries, log_left, 4) &&
         filled(entries + 4, LENT - 4, UNTOUCHED) && work[2 * N] == UNTOUCHED;
 }
@@ -450,7 +453,7 @@ int main(void) {
         prepared_at(3) && set(4, UNIT_CLOSED) == 0 && called(there_and_back, 3, ROUTE, LENT, &no_way_back));
     told("A3  stops 0, 0: 0 by no road", prepared_at(3) && called(stay, 2, 2 * N, N, &stayed));
     told("A3  refused by 16, 12 and 14, by the first that says no", uncalled());
-    told("replay: the program's example, previews and stops as one script", replayed());
+    told("replay: the program's example, previews and stops as scripts", replayed(0, 0) && replayed(4, 13));
     told("A6  a byte for each road: 121 bytes, which the header has", with_classes());
     told("A6  road 1 barred to class 0: 25, roads 2, 3; class 1: 20", barred());
     told("A6  class 8: 18, after 9 and 16, before the others", no_class());

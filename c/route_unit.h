@@ -212,23 +212,29 @@ UnitStops unit_stops(UnitHeader header, const uint8_t *card, size_t card_len, co
     uint32_t *log, size_t log_len, uint32_t vehicle_class, const uint32_t *stops, size_t stops_len);
 
 /*
- * Prepares a card and makes a list of calls. A call in script is its kind and as many words as that call has: 0, road, time for set; 1,
- * junction for aim; 2, junction for estimate; 3, class, start, entries of route, entries of log for go; 4, class, road, time, start for
- * preview; 5, class, their number, entries of route, entries of log and then the stops for a list of stops. A time takes two words, the
- * lower first: UNIT_LOW and UNIT_HIGH. A go and a list of stops are lent the first so many entries of route and log, or all of them
- * where there are fewer; what lies behind them is as it was. A preview is lent all of work. The script ends with its last word, at any
- * other kind, or at a call that is cut short: no call from there on is made. An answer is UNIT_ANSWER_WORDS words of out: the refusal
- * or 0; estimate, total or the leg of 17; count; number of roads; of a preview 0, its two totals, and its change as a two's complement
- * of 64 bits; of a list of stops 0, the whole total, 0 and the number of legs; then of each of UNIT_MOST_LEGS legs its total and its
- * number of roads, 0 where there is none. No more calls are made than out has room for answers; the rest of out is as it was. What is
- * handed back is preparing's answer, with the header after the last call. After a refused preparing the calls are made all the same,
- * on its header of zeros.
+ * Makes the calls of a script, one after the other, from the header and the areas as preparing, or calls, left them: each call is the
+ * one above of its kind, on what the one before it left, and is answered, or refused, as that. It asks nothing itself: on a header of
+ * zeros, which a refused preparing hands back, the calls are made all the same, and each is refused. It reads card and areas, and writes
+ * what its calls write: of live, down, estimates, elapsed, route, log and work. What is handed back is the header after the last call.
+ *
+ * A call in script is its kind and as many words as that call has: 0, road, time for set; 1, junction for aim; 2, junction for estimate;
+ * 3, class, start, entries of route, entries of log for go; 4, class, road, time, start for preview; 5, class, their number, entries of
+ * route, entries of log and then the stops for a list of stops. A time takes two words, the lower first: UNIT_LOW and UNIT_HIGH. A go
+ * and a list of stops are lent the first so many entries of route and log, or all of them where there are fewer; what lies behind them
+ * is as it was. A preview is lent all of work, so 9 refuses it where work has not just 2 n words. The script ends with its last word, at
+ * any other kind, or at a call that is cut short: no call from there on is made.
+ *
+ * An answer is UNIT_ANSWER_WORDS words of out: the refusal or 0; estimate, total or the leg of 17; count; number of roads; of a preview
+ * 0, its two totals, and its change as a two's complement of 64 bits; of a list of stops 0, the whole total, 0 and the number of legs;
+ * then of each of UNIT_MOST_LEGS legs its total and its number of roads, 0 where there is none. No more calls are made than out has
+ * room for whole answers; the rest of out is as it was.
  */
-UnitAnswer unit_replay(const uint8_t *card, size_t card_len, uint32_t *ranks, size_t ranks_len, uint32_t *pairs, size_t pairs_len,
-    uint64_t *times, size_t times_len, uint64_t *live, size_t live_len, uint64_t *down, size_t down_len,
-    uint64_t *estimates, size_t estimates_len, uint64_t *elapsed, size_t elapsed_len, uint32_t *leaving, size_t leaving_len,
-    uint32_t *groups, size_t groups_len, uint32_t *route, size_t route_len, uint32_t *log, size_t log_len,
-    uint64_t *work, size_t work_len, const uint32_t *script, size_t script_len, uint64_t *out, size_t out_len);
+UnitHeader unit_replay(UnitHeader header, const uint8_t *card, size_t card_len, const uint32_t *ranks, size_t ranks_len,
+    const uint32_t *pairs, size_t pairs_len, const uint64_t *times, size_t times_len, uint64_t *live, size_t live_len,
+    uint64_t *down, size_t down_len, uint64_t *estimates, size_t estimates_len, uint64_t *elapsed, size_t elapsed_len,
+    const uint32_t *leaving, size_t leaving_len, const uint32_t *groups, size_t groups_len, uint32_t *route, size_t route_len,
+    uint32_t *log, size_t log_len, uint64_t *work, size_t work_len, const uint32_t *script, size_t script_len,
+    uint64_t *out, size_t out_len);
 
 #ifdef __cplusplus
 }

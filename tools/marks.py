@@ -45,7 +45,7 @@ ALLOWED = {
     # wrong programs: the old mark in 11; as many entries, or junctions, as there can be
     'crates/unit_questions/must-fail/old_mark_closes.edit': ['The mark of 32 bits, 4,294,967,295, closes a road in question 11 still'],
     'crates/unit_script/tried/whole_areas_lent.edit': ['let roads = at_most(4294967295, route);'],
-    'crates/unit_stops/must-fail/junction_found_by_its_leg.edit': ['let below = all_below(4294967295, stops);'],
+    'crates/call_stops/must-fail/junction_found_by_its_leg.edit': ['let below = junctions_fit(counted, 4294967295, stops);'],
     # a wrong answer, which the C program is to see
     'rust/tests/c.rs': ['"foretold.then == UNIT_NONE", "foretold.then == UINT32_MAX"'],
     # numbers past the longest time, which 11 refuses

@@ -4,7 +4,7 @@
 //! they come. Where it lets only some vehicle classes in, `classes LIST` follows: numbers from 0 to 7 and rows of
 //! them, as `0,2-5`, or `none`. Lines `order J J ..` have the junctions from lowest rank to highest, each once; without
 //! one, a good order is computed, for as many junctions as the largest number in a road asks for. Empty lines and lines
-//! that begin with `#` say nothing.
+//! that begin with `#` say nothing. A byte order mark at the start is refused by name.
 
 use crate::calls::CLASSES;
 use crate::card::{EVERY_CLASS, LONGEST, MOST_JUNCTIONS, MOST_ROADS};
@@ -31,8 +31,24 @@ impl Display for Fault {
 
 impl Error for Fault {}
 
+/// Byte order marks, and what an editor calls a text that begins with one.
+const MARKS: [(&[u8], &str); 3] = [
+    (b"\xef\xbb\xbf", "UTF-8"),
+    (b"\xff\xfe", "UTF-16, little endian"),
+    (b"\xfe\xff", "UTF-16, big endian"),
+];
+
+/// A message shows so many characters of a word.
+const MOST_SHOWN: usize = 40;
+
 /// The map of a text.
 pub fn parse(text: &[u8]) -> Result<Map, Fault> {
+    if let Some((_, name)) = MARKS.iter().find(|(mark, _)| text.starts_with(mark)) {
+        let what = format!(
+            "the text begins with a byte order mark ({name}); save it as UTF-8 without one"
+        );
+        return Err(Fault { line: 1, what });
+    }
     let mut reader = Reader::default();
     for line in text.split(|&byte| byte == b'\n') {
         reader.at += 1;
@@ -105,7 +121,9 @@ impl Reader {
             Some(word) if word.starts_with('#') => Ok(()),
             Some("road") => self.road(&words.collect::<Vec<_>>()),
             Some("order") => words.try_for_each(|word| self.place(word)),
-            Some(word) => Err(format!("`{word}` begins no line; `road` and `order` do")),
+            Some(word) => {
+                Err(format!("`{}` begins no line; `road`, `order` and `#` do", cut(word)))
+            }
         }
     }
 
@@ -184,10 +202,14 @@ fn access(words: &[&str]) -> Result<u8, String> {
         [] => Ok(EVERY_CLASS),
         ["classes", list] => classes(list),
         ["classes"] => Err("`classes` without a list, such as 0,2-5 or none".to_string()),
-        ["classes", list, more, ..] => {
-            Err(format!("a list of classes is one word, such as 0,2-5: `{more}` follows `{list}`"))
+        ["classes", list, more, ..] => Err(format!(
+            "a list of classes is one word, such as 0,2-5: `{}` follows `{}`",
+            cut(more),
+            cut(list)
+        )),
+        [word, ..] => {
+            Err(format!("`{}` behind the time; only `classes` may stand there", cut(word)))
         }
-        [word, ..] => Err(format!("`{word}` behind the time; only `classes` may stand there")),
     }
 }
 
@@ -198,11 +220,15 @@ fn classes(list: &str) -> Result<u8, String> {
         let (first, last) = item.split_once('-').unwrap_or((item, item));
         let [first, last] = [class(list, first)?, class(list, last)?];
         if first > last {
-            return Err(format!("`{item}` in the list `{list}` begins behind its end"));
+            return Err(format!(
+                "`{}` in the list `{}` begins behind its end",
+                cut(item),
+                cut(list)
+            ));
         }
         for class in first..=last {
             if access & 1 << class != 0 {
-                return Err(format!("class {class} stands twice in the list `{list}`"));
+                return Err(format!("class {class} stands twice in the list `{}`", cut(list)));
             }
             access |= 1 << class;
         }
@@ -212,7 +238,7 @@ fn classes(list: &str) -> Result<u8, String> {
 
 fn class(list: &str, word: &str) -> Result<u32, String> {
     if word.is_empty() {
-        return Err(format!("a class is missing in the list `{list}`"));
+        return Err(format!("a class is missing in the list `{}`", cut(list)));
     }
     let class = number(word)?;
     if class >= CLASSES {
@@ -231,9 +257,17 @@ fn junction(word: &str) -> Result<u32, String> {
 
 fn number(word: &str) -> Result<u32, String> {
     if !word.bytes().all(|byte| byte.is_ascii_digit()) {
-        return Err(format!("`{word}` is no number"));
+        return Err(format!("`{}` is no number", cut(word)));
     }
-    word.parse().map_err(|_| format!("{word} is too large"))
+    word.parse().map_err(|_| format!("{} is too large", cut(word)))
+}
+
+/// A word as a message shows it: a long one is cut.
+fn cut(word: &str) -> String {
+    match word.char_indices().nth(MOST_SHOWN) {
+        Some((end, _)) => format!("{}..", &word[..end]),
+        None => word.to_string(),
+    }
 }
 
 #[cfg(test)]
@@ -295,8 +329,12 @@ mod tests {
             ("", "no road and no order, so no junction"),
             ("\n# nothing\n", "no road and no order, so no junction"),
             ("order\n", "no road and no order, so no junction"),
-            ("road 0 1 5\nroads 1 0 5", "line 2: `roads` begins no line; `road` and `order` do"),
-            ("Road 0 1 5", "line 1: `Road` begins no line; `road` and `order` do"),
+            (
+                "road 0 1 5\nroads 1 0 5",
+                "line 2: `roads` begins no line; `road`, `order` and `#` do",
+            ),
+            ("Road 0 1 5", "line 1: `Road` begins no line; `road`, `order` and `#` do"),
+            ("road 0 1 5 # 6", "line 1: `#` behind the time; only `classes` may stand there"),
             ("road 0 1", "line 1: a road has 3 numbers: TAIL HEAD TENTHS, not 2"),
             ("road 0 1 5 6", "line 1: `6` behind the time; only `classes` may stand there"),
             (
@@ -350,6 +388,70 @@ mod tests {
         assert!(parse(most.as_bytes()).is_ok());
         let fault = parse((most + "road 0 1 5").as_bytes()).unwrap_err();
         assert_eq!(fault.to_string(), "line 16385: a map has no more than 16384 roads");
+    }
+
+    /// Each of the marks, before a text that is right without one; elsewhere it is a word like any other.
+    #[test]
+    fn byte_order_marks() {
+        for (mark, name) in MARKS {
+            for rest in [&b""[..], b"road 0 1 5\n", b"# a map\nroad 0 1 5\n"] {
+                let fault = parse(&[mark, rest].concat()).unwrap_err();
+                let what = format!(
+                    "line 1: the text begins with a byte order mark ({name}); save it as UTF-8 without one"
+                );
+                assert_eq!(fault.to_string(), what);
+            }
+        }
+        assert!(parse("# \u{feff}\nroad 0 1 5\n".as_bytes()).is_ok());
+        let fault = parse("road 0 1 5\n\u{feff}road 1 0 5\n".as_bytes()).unwrap_err();
+        assert!(fault.to_string().starts_with("line 2: `\u{feff}road` begins no line"), "{fault}");
+    }
+
+    /// A word of 40 characters is shown whole, a longer one cut, wherever a message has one.
+    #[test]
+    fn long_words() {
+        let long = "x".repeat(100_000);
+        let shown = "x".repeat(40) + "..";
+        let digits = "9".repeat(41);
+        for (text, fault) in [
+            (long.clone(), format!("`{shown}` begins no line; `road`, `order` and `#` do")),
+            (format!("road 0 {long} 5"), format!("`{shown}` is no number")),
+            (format!("road 0 1 {digits}"), format!("{}.. is too large", &digits[1..])),
+            (format!("order 0 {long}"), format!("`{shown}` is no number")),
+            (
+                format!("road 0 1 5 {long}"),
+                format!("`{shown}` behind the time; only `classes` may stand there"),
+            ),
+            (format!("road 0 1 5 classes {long}"), format!("`{shown}` is no number")),
+            (
+                format!("road 0 1 5 classes {long} {long}"),
+                format!(
+                    "a list of classes is one word, such as 0,2-5: `{shown}` follows `{shown}`"
+                ),
+            ),
+            (
+                format!("road 0 1 5 classes {}5", "0,".repeat(30)),
+                format!("class 0 stands twice in the list `{}..`", "0,".repeat(20)),
+            ),
+            (
+                format!("road 0 1 5 classes {},", "0".repeat(60)),
+                format!("a class is missing in the list `{}..`", "0".repeat(40)),
+            ),
+            (
+                format!("road 0 1 5 classes {}2-1", "0".repeat(60)),
+                format!("`{0}..` in the list `{0}..` begins behind its end", "0".repeat(40)),
+            ),
+        ] {
+            assert_eq!(parse(text.as_bytes()).unwrap_err().to_string(), format!("line 1: {fault}"));
+        }
+        for (word, shown) in [
+            ("é".repeat(39), "é".repeat(39)),
+            ("é".repeat(40), "é".repeat(40)),
+            ("é".repeat(41), "é".repeat(40) + ".."),
+            (String::new(), String::new()),
+        ] {
+            assert_eq!(cut(&word), shown);
+        }
     }
 
     /// A number is the time in tenths, whatever was the longest before document 02's A7.

@@ -3,7 +3,9 @@
 //! The declarations stand in the order of `unit_c`'s exports. The header file for C has the same, with the same
 //! assertions on layout; `tests/c.rs` compares that one with `unit_c`.
 
-use crate::calls::{Call, Calls, Lent, Previewed, Refusal, Stopped, Trip, MOST_LEGS};
+use crate::calls::{
+    Accepted, Answer, Call, Calls, Lent, Previewed, Refusal, Stopped, Trip, MOST_LEGS,
+};
 use crate::hierarchy::Record;
 use crate::time::{self, Time, NONE};
 use std::fmt::{Debug, Display};
@@ -226,23 +228,23 @@ exports! {
         stops: u32
     ) -> ReturnedStops;
     fn unit_replay(
-        ;
+        header;
         card: const u8,
-        ranks: mut u32,
-        pairs: mut u32,
-        times: mut Time,
+        ranks: const u32,
+        pairs: const u32,
+        times: const Time,
         live: mut Time,
         down: mut Time,
         estimates: mut Time,
         elapsed: mut Time,
-        leaving: mut u32,
-        groups: mut u32,
+        leaving: const u32,
+        groups: const u32,
         route: mut u32,
         log: mut u32,
         work: mut Time,
         script: const u32,
         out: mut u64;
-    ) -> Returned;
+    ) -> Header;
 }
 
 /// How many words of a script's answers there are for each call.
@@ -483,6 +485,38 @@ impl LentAreas {
         Lent { route: &mut self.route, log: &mut self.log, work: &mut self.work }
     }
 
+    /// A call of a script as it is made with these areas: a go and a list of stops are lent what they ask for of route
+    /// and log, or all there is, a preview the whole work area.
+    pub fn made(&self, call: Call) -> Call {
+        let entries =
+            |route: usize, log: usize| [route.min(self.route.len()), log.min(self.log.len())];
+        match call {
+            Call::Go { class, start, route, log } => {
+                let [route, log] = entries(route, log);
+                Call::Go { class, start, route, log }
+            }
+            Call::Stops { class, stops, route, log } => {
+                let [route, log] = entries(route, log);
+                Call::Stops { class, stops, route, log }
+            }
+            Call::Preview { class, road, time, start, .. } => {
+                Call::Preview { class, road, time, start, work: self.work.len() }
+            }
+            call => call,
+        }
+    }
+
+    /// What such a call is lent: the first entries of route and log.
+    pub fn lend_to(&mut self, call: Call) -> Lent<'_> {
+        let Lent { route, log, work } = self.lend();
+        match call {
+            Call::Go { route: r, log: l, .. } | Call::Stops { route: r, log: l, .. } => {
+                Lent { route: &mut route[..r], log: &mut log[..l], work }
+            }
+            _ => Lent { route, log, work },
+        }
+    }
+
     /// Are the guard words as they were?
     pub fn guarded(&self) -> bool {
         self.route.guarded() && self.log.guarded() && self.work.guarded()
@@ -513,6 +547,31 @@ pub fn spelled(calls: &[Call]) -> Vec<u32> {
                 words.extend([5, class, entries(stops.len()), entries(route), entries(log)]);
                 words.extend(&*stops);
             }
+        }
+    }
+    words
+}
+
+/// An answer in a script's words: four, and behind them of each of 31 legs its total and its number of roads.
+pub fn answer_words(answer: Answer) -> [u64; ANSWER_WORDS] {
+    let mut words = [0; ANSWER_WORDS];
+    words[..4].copy_from_slice(&match answer {
+        Ok(Accepted::Done) => [0; 4],
+        Ok(Accepted::Estimate(estimate)) => [0, estimate, 0, 0],
+        Ok(Accepted::Trip(trip)) => [0, trip.total, trip.count.into(), trip.roads.into()],
+        Ok(Accepted::Previewed(Previewed { present, new, change })) => {
+            let [present, new] = [present, new].map(|total| total.unwrap_or(NONE));
+            [0, present, new, change.unwrap_or(0) as u64]
+        }
+        Ok(Accepted::Stopped(Stopped { legs, whole, .. })) => [0, whole, 0, legs.into()],
+        Err(Refusal::NoPath(count)) => [15, 0, count.into(), 0],
+        Err(Refusal::NoLeg(leg)) => [17, leg.into(), 0, 0],
+        Err(refusal) => [refusal.number().into(), 0, 0, 0],
+    });
+    if let Ok(Accepted::Stopped(Stopped { legs, totals, roads, .. })) = answer {
+        for leg in 0..legs as usize {
+            words[4 + 2 * leg] = totals[leg];
+            words[5 + 2 * leg] = roads[leg].into();
         }
     }
     words
@@ -638,34 +697,28 @@ impl Unit {
         self.hand_back(returned)?.done()
     }
 
-    /// Prepares, and makes the calls of a script, as [`spelled`] has them; a go and a list of stops are lent
-    /// the first entries of route and log, as many as two of its words say, or all, and a preview all of the
-    /// work area. The answers go to `out`, [`ANSWER_WORDS`] each.
-    pub fn replay(
-        &mut self,
-        Lent { route, log, work }: Lent,
-        script: &[u32],
-        out: &mut [u64],
-    ) -> Result<(), Refusal> {
-        let returned = lend!(unit_replay(
-            ;
+    /// Makes the calls of a script, as [`spelled`] has them, from the header and the areas as preparing, or calls, left
+    /// them; a go and a list of stops are lent the first entries of route and log, as many as two of its words say, or
+    /// all, and a preview all of the work area. The answers go to `out`, as [`answer_words`] has them.
+    pub fn replay(&mut self, Lent { route, log, work }: Lent, script: &[u32], out: &mut [u64]) {
+        self.header = lend!(unit_replay(
+            self.header;
             self.card => as_ptr,
-            self.ranks => as_mut_ptr,
-            self.pairs => as_mut_ptr,
-            self.times => as_mut_ptr,
+            self.ranks => as_ptr,
+            self.pairs => as_ptr,
+            self.times => as_ptr,
             self.live => as_mut_ptr,
             self.down => as_mut_ptr,
             self.estimates => as_mut_ptr,
             self.elapsed => as_mut_ptr,
-            self.leaving => as_mut_ptr,
-            self.groups => as_mut_ptr,
+            self.leaving => as_ptr,
+            self.groups => as_ptr,
             route => as_mut_ptr,
             log => as_mut_ptr,
             work => as_mut_ptr,
             script => as_ptr,
             out => as_mut_ptr;
         ));
-        self.hand_back(returned)?.done()
     }
 
     /// Takes the header back, and an answer that refuses.

@@ -121,7 +121,7 @@ fn most_legs() {
     let (most, _) = between(&network, "pub const MOST_STOPS: usize = ", ";").unwrap();
     let legs: usize = most.parse::<usize>().unwrap() - 1;
     assert_eq!((legs, most.parse()), (MOST_LEGS, Ok(MOST_STOPS)));
-    assert!(read("crates/unit_stops/src/lib.rt").contains("MOST_LEGS: usize = MOST_STOPS - 1;"));
+    assert!(read("crates/call_stops/src/lib.rt").contains("MOST_LEGS: usize = MOST_STOPS - 1;"));
     let header = read("c/route_unit.h");
     assert!(header.contains(&format!("#define UNIT_MOST_LEGS {legs}\n")));
     let script = read("crates/unit_script/src/lib.rt");
@@ -225,6 +225,12 @@ fn map_p_with_another_answer() {
         ("replay", "{25, 2, 20, 1}", "{25, 20, 2, 1}"),
         ("replay", "{17, 1, 0, 0}", "{17, 0, 1, 0}"),
         ("replay", "{18, 0, 0, 0}", "{12, 0, 0, 0}"),
+        ("replay", "replayed(4, 13)", "replayed(4, 9)"),
+        (
+            "replay",
+            "    bool prepared = prepare(PAIRS) == 0;",
+            "    bool prepared = prepared_at(3) && set(1, 11) == 0;",
+        ),
         ("A6  a byte", "LONGER - 1, &first, &second) == 3", "LONGER - 1, &first, &second) == 4"),
         (
             "A6  a byte",

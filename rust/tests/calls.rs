@@ -9,7 +9,7 @@
 use harness::both::{with_stack, Both};
 use harness::by_tail::Listed;
 use harness::calls::{
-    Accepted, Answer, Call, Calls, Lent, Previewed, Refusal, StopList, Stopped, CLASSES, MOST_STOPS,
+    Accepted, Answer, Call, Calls, Previewed, Refusal, StopList, Stopped, CLASSES, MOST_STOPS,
 };
 use harness::card::{EVERY_CLASS, LONGEST, MOST_JUNCTIONS, MOST_ROADS};
 use harness::machine::Machine;
@@ -17,7 +17,9 @@ use harness::maps::{self, Map, Streets};
 use harness::order::{self, MOST_PAIRS};
 use harness::random::{setting, Random};
 use harness::time::{Time, CLOSED, NONE, UNASKED};
-use harness::unit::{spelled, Area, Header, LentAreas, Unit, ANSWER_WORDS, AREAS, RECORD};
+use harness::unit::{
+    answer_words, spelled, Area, Header, LentAreas, Unit, ANSWER_WORDS, AREAS, RECORD,
+};
 use std::thread;
 
 /// How often each call was answered with each number, 0 for accepted, and estimates with none.
@@ -455,50 +457,6 @@ fn lists_on_the_largest_maps() {
     });
 }
 
-/// The call as it is made: a go and a list of stops are lent what they ask for of areas of these lengths, or
-/// all of them, a preview the whole of its own.
-fn lent_of(call: Call, LentAreas { route: route_area, log: log_area, work }: &LentAreas) -> Call {
-    match call {
-        Call::Go { class, start, route, log } => {
-            let (route, log) = (route.min(route_area.len()), log.min(log_area.len()));
-            Call::Go { class, start, route, log }
-        }
-        Call::Stops { class, stops, route, log } => {
-            let (route, log) = (route.min(route_area.len()), log.min(log_area.len()));
-            Call::Stops { class, stops, route, log }
-        }
-        Call::Preview { class, road, time, start, .. } => {
-            Call::Preview { class, road, time, start, work: work.len() }
-        }
-        call => call,
-    }
-}
-
-/// An answer as four words, and behind them of each of 31 legs its total and its number of roads.
-fn answer_words(answer: Answer) -> [u64; ANSWER_WORDS] {
-    let mut words = [0; ANSWER_WORDS];
-    words[..4].copy_from_slice(&match answer {
-        Ok(Accepted::Done) => [0; 4],
-        Ok(Accepted::Estimate(estimate)) => [0, estimate, 0, 0],
-        Ok(Accepted::Trip(trip)) => [0, trip.total, trip.count.into(), trip.roads.into()],
-        Ok(Accepted::Previewed(Previewed { present, new, change })) => {
-            let [present, new] = [present, new].map(|total| total.unwrap_or(NONE));
-            [0, present, new, change.unwrap_or(0) as u64]
-        }
-        Ok(Accepted::Stopped(Stopped { legs, whole, .. })) => [0, whole, 0, legs.into()],
-        Err(Refusal::NoPath(count)) => [15, 0, count.into(), 0],
-        Err(Refusal::NoLeg(leg)) => [17, leg.into(), 0, 0],
-        Err(refusal) => [refusal.number().into(), 0, 0, 0],
-    });
-    if let Ok(Accepted::Stopped(Stopped { legs, totals, roads, .. })) = answer {
-        for leg in 0..legs as usize {
-            words[4 + 2 * leg] = totals[leg];
-            words[5 + 2 * leg] = roads[leg].into();
-        }
-    }
-    words
-}
-
 /// An area of any words.
 fn any_area(random: &mut Random, len: usize) -> Area {
     Area::of(&(0..len).map(|_| random.word()).collect::<Vec<u32>>())
@@ -569,12 +527,14 @@ impl Tail {
     }
 }
 
-/// A script of calls and other words behind them, through the one function that makes all the calls, as
-/// many as `room` words of answers hold. The answers, routes and logs are the machine's; the header, every
-/// area, and route and log, beyond what was lent too, are those that the same calls leave when they are made
-/// one by one. The work area is as it was where every preview is refused.
+/// A script of calls and other words behind them, through the one function that makes all the calls, as many as `room`
+/// words of answers hold. It starts from what preparing left, or from what the calls `before` left, which are made one by
+/// one. The answers, routes and logs are the machine's; the header, every area, and route and log, beyond what was lent
+/// too, are those that the same calls leave when they are made one by one. The work area is as it was where every preview
+/// is refused.
 fn run_script(
     map: &Map,
+    before: &[Call],
     calls: &[Call],
     tail: &[u32],
     mut lent: LentAreas,
@@ -585,27 +545,28 @@ fn run_script(
     let (mut want_out, mut want, mut one_by_one) = (out.clone(), lent.clone(), lent.clone());
 
     let mut both = Both::prepare(map, order::pairs(map)).unwrap();
-    let mut unit = Unit::new(&both.unit.card, map.n(), map.m(), order::pairs(map));
-    let mut single = unit.clone();
-    single.prepare().unwrap();
     let mut machine = Machine::new(map);
+    for &call in before {
+        assert_eq!(
+            both.call(call),
+            machine.answer(call),
+            "{call:?}: proved (left), machine (right)"
+        );
+    }
+    let (mut unit, mut single) = (both.unit.clone(), both.unit.clone());
     let mut answers = Vec::new();
     for (&call, words) in calls.iter().zip(want_out.chunks_exact_mut(ANSWER_WORDS)) {
-        let call = lent_of(call, &lent);
+        let call = lent.made(call);
         let reply = both.call(call);
         assert_eq!(reply, machine.answer(call), "{call:?}: proved (left), machine (right)");
         want.route[..reply.route.len()].copy_from_slice(&reply.route);
         want.log[..reply.log.len()].copy_from_slice(&reply.log);
-        let mut some = one_by_one.lend();
-        if let Call::Go { route, log, .. } | Call::Stops { route, log, .. } = call {
-            some = Lent { route: &mut some.route[..route], log: &mut some.log[..log], ..some };
-        }
-        assert_eq!(single.call(call, some), reply.answer, "{call:?}");
+        assert_eq!(single.call(call, one_by_one.lend_to(call)), reply.answer, "{call:?}");
         words.copy_from_slice(&answer_words(reply.answer));
         answers.push((call, reply.answer));
     }
-    unit.replay(lent.lend(), &script, &mut out).unwrap();
-    assert_eq!(out, want_out, "{calls:?} and the words {tail:?}");
+    unit.replay(lent.lend(), &script, &mut out);
+    assert_eq!(out, want_out, "{before:?}, then {calls:?} and the words {tail:?}");
     assert!(unit == single && unit == both.unit, "the unit is left otherwise than by single calls");
     if answers.iter().any(|(_, answer)| matches!(answer, Ok(Accepted::Previewed(_)))) {
         assert!(lent.guarded() && lent.work.len() == want.work.len(), "words beside the work area");
@@ -633,6 +594,33 @@ fn asked(random: &mut Random, n: usize, len: usize) -> usize {
     }
 }
 
+/// Areas to lend, of any words, and so many calls: a go and a list of stops often ask for fewer entries than they need, or
+/// for more than there are.
+fn any_script(random: &mut Random, map: &Map, len: usize) -> (LentAreas, Vec<Call>) {
+    let n = map.n();
+    let [route, log] = [5, 1].map(|times| {
+        let (n, more) = (n * random.pick(&[1, times]), random.below(9));
+        let len = random.pick(&[n - 1, n, n, n, n + 1, n + more, n + more, 2 * n]);
+        any_area(random, len)
+    });
+    let len_of_work = work(random, n);
+    let lent = LentAreas { route, log, work: any_work(random, len_of_work) };
+    let calls = (0..len).map(|_| match random_call(random, map) {
+        Call::Go { class, start, .. } => {
+            let [route, log] = [&lent.route, &lent.log].map(|area| asked(random, n, area.len()));
+            Call::Go { class, start, route, log }
+        }
+        Call::Stops { class, stops, .. } => {
+            let route = asked(random, stops.len() * n, lent.route.len());
+            let log = asked(random, n, lent.log.len());
+            Call::Stops { class, stops, route, log }
+        }
+        call => call,
+    });
+    let calls = calls.collect();
+    (lent, calls)
+}
+
 #[test]
 fn scripts() {
     with_stack(|| {
@@ -644,31 +632,17 @@ fn scripts() {
         let mut stopped = [0; Refusal::NUMBERS];
         // How many scripts of each tail were made to their last call, with room for an answer more.
         let mut ended = [0; 3];
+        // How many began with what preparing left, and with what calls left.
+        let mut starts = [0; 2];
         for most in [12; 400].into_iter().chain([200; 20]).chain([MOST_JUNCTIONS]) {
             let map = random_map(&mut random, most);
             let (n, len) = (map.n(), random.below(80));
-            let [route, log] = [5, 1].map(|times| {
-                let (n, more) = (n * random.pick(&[1, times]), random.below(9));
-                let len = random.pick(&[n - 1, n, n, n, n + 1, n + more, n + more, 2 * n]);
-                any_area(&mut random, len)
-            });
-            let len_of_work = work(&mut random, n);
-            let lent = LentAreas { route, log, work: any_work(&mut random, len_of_work) };
-            let calls: Vec<Call> = (0..len)
-                .map(|_| match random_call(&mut random, &map) {
-                    Call::Go { class, start, .. } => {
-                        let [route, log] =
-                            [&lent.route, &lent.log].map(|area| asked(&mut random, n, area.len()));
-                        Call::Go { class, start, route, log }
-                    }
-                    Call::Stops { class, stops, .. } => {
-                        let route = asked(&mut random, stops.len() * n, lent.route.len());
-                        let log = asked(&mut random, n, lent.log.len());
-                        Call::Stops { class, stops, route, log }
-                    }
-                    call => call,
-                })
-                .collect();
+            let (lent, calls) = any_script(&mut random, &map, len);
+            let right = lent.work.len() == 2 * n;
+            // From what preparing left, or from what other calls leave of it.
+            let count = random.pick(&[0, 1, 4, 20]);
+            let before: Vec<Call> = (0..count).map(|_| random_call(&mut random, &map)).collect();
+            starts[(count > 0) as usize] += 1;
             let tail = random.pick(&Tail::ALL);
             let room = match random.chance(75) {
                 true => ANSWER_WORDS * len + random.below(5 * ANSWER_WORDS),
@@ -676,10 +650,9 @@ fn scripts() {
             };
             ended[tail as usize] += (room >= ANSWER_WORDS * (len + 1)) as usize;
             let tail = tail.words(&mut random, &map);
-            let answers = run_script(&map, &calls, &tail, lent, room);
+            let answers = run_script(&map, &before, &calls, &tail, lent, room);
             gos.count(&answers);
             for &(call, answer) in &answers {
-                let right = len_of_work == 2 * n;
                 if matches!(call, Call::Preview { .. }) {
                     assert_eq!(answer == Err(Refusal::Lengths), !right, "{call:?}: {answer:?}");
                     *if right { &mut foreseen } else { &mut refused_by_9 } += 1;
@@ -705,10 +678,55 @@ fn scripts() {
             "too few of one kind: {gos:?}"
         );
         assert!(ended.iter().all(|&met| met > 60), "too few of one end: {ended:?}");
+        assert!(starts.iter().all(|&met| met > 60), "too few of one start: {starts:?}");
     });
 }
 
-/// After a refused preparing the calls of a script are made on its header of zeros, which an empty card fits alone.
+/// A list of calls in one script is that list in several, one after the other: header and areas carry all from one to
+/// the next.
+#[test]
+fn scripts_in_parts() {
+    with_stack(|| {
+        let mut random = Random::new(6);
+        let mut found = 0;
+        // How many scripts were cut into one, two .. parts.
+        let mut cut = [0; 5];
+        for most in [12; 300].into_iter().chain([200; 20]) {
+            let map = random_map(&mut random, most);
+            let len = random.below(60);
+            let (mut lent, calls) = any_script(&mut random, &map, len);
+            let mut unit = Unit::new(&map.card().unwrap(), map.n(), map.m(), order::pairs(&map));
+            unit.prepare().unwrap();
+            let (mut other, mut other_lent) = (unit.clone(), lent.clone());
+
+            let mut out = vec![7; ANSWER_WORDS * len];
+            unit.replay(lent.lend(), &spelled(&calls), &mut out);
+            let mut other_out = vec![8; ANSWER_WORDS * len];
+            let (mut calls_left, mut out_left, mut parts) = (&calls[..], &mut other_out[..], 0);
+            while parts == 0 || !calls_left.is_empty() {
+                let most = calls_left.len();
+                let count = if parts == 4 { most } else { random.below(most + 1) };
+                let (part, rest) = calls_left.split_at(count);
+                let (part_out, rest_out) = out_left.split_at_mut(ANSWER_WORDS * count);
+                other.replay(other_lent.lend(), &spelled(part), part_out);
+                (calls_left, out_left, parts) = (rest, rest_out, parts + 1);
+            }
+            cut[parts - 1] += 1;
+            assert_eq!(out, other_out, "{calls:?} in {parts} parts");
+            assert!(unit == other, "{calls:?} in {parts} parts: the unit is left otherwise");
+            assert!(lent.route == other_lent.route && lent.log == other_lent.log);
+            assert!(unit.guarded() && lent.guarded() && other_lent.guarded());
+            for (call, words) in calls.iter().zip(out.as_chunks::<ANSWER_WORDS>().0) {
+                found += (matches!(call, Call::Go { .. }) && words[0] == 0) as usize;
+            }
+        }
+        assert!(found > 200, "{found} gos found a route");
+        assert!(cut.iter().all(|&met| met > 10), "{cut:?}");
+    });
+}
+
+/// After a refused preparing the calls of a script are made on its header of zeros, which an empty card fits alone; each of
+/// them is refused.
 #[test]
 fn script_after_a_refused_preparing() {
     let list =
@@ -716,6 +734,8 @@ fn script_after_a_refused_preparing() {
     let preview = |class, work| Call::Preview { class, road: 0, time: 0, start: 0, work };
     let calls = [
         Call::Set { road: 0, time: 0 },
+        Call::Aim { junction: 0 },
+        Call::Estimate { junction: 0 },
         Call::Go { class: 7, start: 0, route: 0, log: 0 },
         Call::Go { class: 8, start: 0, route: 0, log: 0 },
         preview(0, 0),
@@ -724,23 +744,25 @@ fn script_after_a_refused_preparing() {
         list(8, &[0, 0]),
         list(8, &[0]),
     ];
-    let nine = [9; 8];
+    let nine = [9; 10];
     for (card, refusal, work, numbers) in [
-        (&[][..], Refusal::Short, 0, [10, 12, 18, 10, 18, 12, 18, 16]),
-        (&[], Refusal::Short, 1, [10, 12, 18, 9, 9, 12, 18, 16]),
+        (&[][..], Refusal::Short, 0, [10, 12, 12, 12, 18, 10, 18, 12, 18, 16]),
+        (&[], Refusal::Short, 1, [10, 12, 12, 12, 18, 9, 9, 12, 18, 16]),
         (&[0; 3], Refusal::Short, 0, nine),
         (&[0; 28], Refusal::Kinds, 0, nine),
         (&[2, 0, 0, 0], Refusal::Short, 0, nine),
     ] {
         let mut refused = Unit::new(card, 0, 0, 0);
         let mut lent = LentAreas::of(preview(0, work));
-        let mut out = [1; 8 * ANSWER_WORDS];
-        let answer = refused.replay(lent.lend(), &spelled(&calls), &mut out);
-        let mut want = [0; 8 * ANSWER_WORDS];
+        let mut out = [1; 10 * ANSWER_WORDS];
+        let answer = refused.prepare();
+        refused.replay(lent.lend(), &spelled(&calls), &mut out);
+        let mut want = [0; 10 * ANSWER_WORDS];
         for (call, number) in numbers.into_iter().enumerate() {
             want[ANSWER_WORDS * call] = number;
         }
         assert_eq!((answer, out), (Err(refusal), want), "{card:?}");
+        assert_eq!(refused.header, Header::default());
     }
 }
 
@@ -770,7 +792,7 @@ fn scripts_of_each_length() {
             let last = ANSWER_WORDS * calls.len();
             let rooms = (0..=last).step_by(ANSWER_WORDS);
             for room in if most > 12 { vec![last] } else { rooms.collect() } {
-                let answers = run_script(&map, &calls, &[], lent.clone(), room);
+                let answers = run_script(&map, &[], &calls, &[], lent.clone(), room);
                 for (call, answer) in answers.iter().copied() {
                     if let Call::Go { route, log, .. } = call {
                         let short = answer == Err(Refusal::LentLengths);
@@ -830,18 +852,18 @@ fn scripts_that_end_early() {
         let rest = spelled(behind);
         let next = behind.first().map_or(1, |&call| spelled(&[call]).len());
         for cut in 0..next {
-            made += run_script(&map, before, &rest[..cut], lent(), room).len();
+            made += run_script(&map, &[], before, &rest[..cut], lent(), room).len();
             cuts += 1;
         }
         for kind in [6, 7, 261, 65_541, u32::MAX] {
             let tail = [&[kind][..], rest.get(1..).unwrap_or(&[])].concat();
-            made += run_script(&map, before, &tail, lent(), room).len();
+            made += run_script(&map, &[], before, &tail, lent(), room).len();
             kinds += 1;
         }
         // A list of more stops than there are words.
         for count in [rest.len() as u32 + 1, rest.len() as u32 + 9, u32::MAX - 3, u32::MAX] {
             let tail = [&[5, 0, count, 16, 4][..], &rest].concat();
-            made += run_script(&map, before, &tail, lent(), room).len();
+            made += run_script(&map, &[], before, &tail, lent(), room).len();
             lists += 1;
         }
     }
@@ -879,7 +901,8 @@ fn times_in_scripts() {
         let mut out = [7; 4 * ANSWER_WORDS];
         let work = Area::new(8);
         let mut lent = LentAreas { route: Area::new(4), log: Area::new(4), work };
-        unit.replay(lent.lend(), &script, &mut out).unwrap();
+        unit.prepare().unwrap();
+        unit.replay(lent.lend(), &script, &mut out);
         let first = |call: usize| &out[ANSWER_WORDS * call..][..4];
         assert_eq!(first(0), [0; 4]);
         let time = Time::from(low) + (Time::from(high) << 32);

@@ -780,8 +780,9 @@ fn areas_of_another_length() {
     tally.at_least([0, 0, 0, 0, 0, 0, 0, 77]);
 }
 
+/// Slices of 4 GiB and more, of which only a page is touched: no length is cut to 32 bits, and no sum or product of lengths
+/// wraps.
 #[test]
-#[ignore = "lends 4 GiB, of which only the first page is touched"]
 fn lengths_past_32_bits() {
     let mut card = vec![0; 1 << 32];
     card[..28].copy_from_slice(
@@ -796,11 +797,11 @@ fn lengths_past_32_bits() {
         assert_eq!(read(&card), Err(Refusal::Starts));
     }
     drop(card);
-    // 4 bytes a word make 8 bytes of roads or 4 of order, if the product wraps.
-    let words = vec![0; (1 << 30) + 2];
+    // 4 bytes a word make the 12 of a road, or the 4 of a place of the order, if the product wraps.
+    let words = vec![0; (1 << 30) + 3];
     for write in [unit::write, card::write] {
-        assert_eq!(write(&words, &[0], &mut [0; 40]), Err(Refusal::Sizes));
-        assert_eq!(write(&[], &words[1..], &mut [0; 32]), Err(Refusal::Sizes));
+        assert_eq!(write(&words, &[0], &mut [0; 44]), Err(Refusal::Sizes));
+        assert_eq!(write(&[], &words[2..], &mut [0; 32]), Err(Refusal::Sizes));
     }
 }
 

@@ -7,6 +7,7 @@
 //! table does not name bodies for the header's numbers inside the card (document 02, A6). Entries of 64 bits, which a
 //! sum of two may pass, wrap in none (A7): where only times are forged, down totals and estimates are those that sums of
 //! 128 bits give, with none where one does not fit below the marks, and a go's times and total are sums of live times.
+//! A script on any of these is its calls one by one.
 
 use harness::both::with_stack;
 use harness::calls::{
@@ -19,7 +20,10 @@ use harness::order::{self, MOST_PAIRS};
 use harness::random::{setting, Random};
 use harness::time::{Time, CLOSED, NONE, UNASKED};
 use harness::traffic;
-use harness::unit::{same, Header, HeldMut, LentAreas, Unit, AREAS, RECORD};
+use harness::unit::{
+    answer_words, same, spelled, Area, Header, HeldMut, LentAreas, Unit, ANSWER_WORDS, AREAS,
+    RECORD,
+};
 use std::fs;
 use std::path::Path;
 
@@ -1058,6 +1062,75 @@ fn damaged_states() {
         let Lists { refusals, lost, found } = met.lists;
         let met_each = found.iter().chain(&lost).all(|&met| met > calls / 200);
         assert!(refusals[0] > calls / 50 && met_each, "{met:?}");
+    });
+}
+
+/// Areas that are lent to a script on a unit: of any words, mostly with room for each of its calls.
+fn any_lent(random: &mut Random, n: usize) -> LentAreas {
+    let [mut route, mut log] = [3 * n + random.below(5), n + random.below(3)].map(Area::<u32>::new);
+    for word in route.iter_mut().chain(log.iter_mut()) {
+        *word = random.word();
+    }
+    let mut work = Area::new(2 * n + random.pick(&[0, 0, 0, 0, 0, 1, n]));
+    for word in work.iter_mut() {
+        *word = random.bits();
+    }
+    LentAreas { route, log, work }
+}
+
+/// A script on such a state, with room for some of its answers or for more than it has: it is the same calls one by one,
+/// from any header and areas. Ranks, pairs, their times, the roads by tail and the card are as they were; so is what
+/// stands beside and behind what is written of out, route and log. The answers' numbers, by the call.
+fn free_script(random: &mut Random, unit: &mut Unit, met: &mut [[usize; Refusal::NUMBERS]; 6]) {
+    let n = unit.header.n as usize;
+    let mut lent = any_lent(random, n);
+    let calls: Vec<Call> = (0..random.below(12)).map(|_| call(random, unit)).collect();
+    let mut out: Area<u64> = Area::new(random.below(ANSWER_WORDS * (calls.len() + 2)));
+
+    let (before, mut single, mut one_by_one) = (unit.clone(), unit.clone(), lent.clone());
+    let mut want: Area<u64> = Area::new(out.len());
+    single.header = handed(single.header);
+    let mut previewed = false;
+    for (&call, words) in calls.iter().zip(want.chunks_exact_mut(ANSWER_WORDS)) {
+        let call = lent.made(call);
+        let answer = single.call(call, one_by_one.lend_to(call));
+        words.copy_from_slice(&answer_words(answer));
+        met[which(call)][answer.map_or_else(|refusal| refusal.number() as usize, |_| 0)] += 1;
+        previewed |= matches!(answer, Ok(Accepted::Previewed(_)));
+    }
+
+    unit.replay(lent.lend(), &spelled(&calls), &mut out);
+    assert!(unit.guarded() && lent.guarded() && out.guarded(), "{calls:?} alter guard words");
+    assert!(unit.card == before.card, "{calls:?} alter the card");
+    for ((name, area), (_, old)) in unit.areas().into_iter().zip(before.areas()) {
+        let written = ["live times", "down totals", "estimates", "elapsed"].contains(&name);
+        assert!(written || area == old, "{calls:?} alter {name}");
+    }
+    same("out", &out, &want);
+    assert!(*unit == single, "{calls:?} leave another unit than one by one");
+    assert!(lent.route == one_by_one.route && lent.log == one_by_one.log, "{calls:?}");
+    assert!(previewed || lent.work == one_by_one.work, "{calls:?}, without a preview");
+}
+
+/// Scripts on noise, on damaged states and on such whose times alone are forged.
+#[test]
+fn scripts() {
+    with_stack(|| {
+        let mut random = Random::new((setting("CALLS_SEED", 0) + 9) as u64);
+        let mut met = [[0; Refusal::NUMBERS]; 6];
+        let calls = setting("CALLS_LENGTH", 30_000);
+        while met.as_flattened().iter().sum::<usize>() < calls {
+            let make = random.pick(&[forge, damage, damage_table, damage_groups, forge_times]);
+            let mut unit = make(&mut random);
+            for _ in 0..1 + random.below(3) {
+                free_script(&mut random, &mut unit, &mut met);
+            }
+        }
+        // Accepted, refused by 9, and by a question of the call's own.
+        for (of_call, own) in met.iter().zip([11, 12, 12, 15, 18, 17]) {
+            let enough = [0, 9, own].iter().all(|&number| of_call[number] > calls / 1_000);
+            assert!(enough, "{met:?}");
+        }
     });
 }
 

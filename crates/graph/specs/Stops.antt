@@ -37,6 +37,11 @@ wholeFrom leg s (r ∷ stops) = leg s r ⊕ wholeFrom leg r stops
 abbrev pub Below : ℕ → List ℕ → Type 0
 Below n stops = (v : ℕ) → List·Memᴰ v stops → v < n
 
+-- arcs that lead to where others meet the stops
+pub meets-append : (N : Network) (l m : List ℕ) {a b : ℕ} {stops : List ℕ} → Leads N a l b → Meets N b m stops → Meets N a (l ++ m) stops
+meets-append N [] m {stops = stops} h k = rw h k
+meets-append N (i ∷ l) m h k = met-later (meets-append N l m (h .2) k)
+
 -- ---- the whole is at most the total of every path that meets the stops
 
 module _ (N : Network) {n : ℕ} {leg : ℕ → ℕ → Total} (least : (a b : ℕ) → a < n → b < n → IsLeast (Listed N a b) (leg a b)) where

@@ -23,7 +23,6 @@ use Rattle.model.specs.Card.{mapOn}
 use Rattle.model.specs.State.{State, Step, prepare}
 use Rattle.model.specs.Set.{settable}
 use Rattle.model.specs.Go.{liveOf}
-use Rattle.model.specs.Contracts.{baseOn}
 use Rattle.model.specs.Calls.{aimCall, goCall, setCall, step, steps}
 use Rattle.model.specs.MapP.{acceptedP, areasP, cardA, cardP, lentP}
 use Rattle.model.specs.Report.{Calls, CanGo, CanSet, Closes, LeftAccepted, Like, Moves, Opens, Reported, Reports, Room, no-report}
@@ -121,8 +120,7 @@ roomP s e = record { route = omega (arith, e); log = omega (arith, e) }
 
 -- a report on a map of 4 junctions, aimed at 3: a class from 0, road i set to u; the four calls are made in turn, and the theorem cited
 module _ {card : List ℕ} {s : State} (left : LeftAccepted card s) (n-is : s .header .n ≡ 4) (aimed : s .header .target ≡ At 3) (c i u : ℕ)
-    (lc : c < classes) (li : i < s .header .m) (time-in : settable (mapOn card .base .cost i) (ofWord u) ≡ true)
-    (base : mapOn card .base .cost i ≡ baseOn card i) where
+    (lc : c < classes) (li : i < s .header .m) (time-in : settable (mapOn card .base .cost i) (ofWord u) ≡ true) where
   can : CanGo s c 0
   can = record { class-in = lc; start-in = omega (arith, n-is); target = 3; aimed = aimed }
 
@@ -130,7 +128,7 @@ module _ {card : List ℕ} {s : State} (left : LeftAccepted card s) (n-is : s .h
   may = record { road-in = li; time-in = time-in }
 
   abbrev made : Calls card s c i u 0
-  made = turned left can may base (roomP s n-is)
+  made = turned left can may (roomP s n-is)
 
   abbrev Obeys : ((now new : Total) → Option ℤ → Type 0) → Type 0
   Obeys R = Reported R (made .go .done .answer) (made .then .done .answer) (made .preview .done .answer)
@@ -154,77 +152,77 @@ Example R card s c i u b p a = (answersTo card s c i u ≡ b ∷ p ∷ Accepted 
 -- road 1 up by 4: the trip takes 4 more
 pub all-of-it : Example (Moves 10 14) cardP delayed 0 1 14 (Gone 20 3 2) (Previewed (some 20) (some 24) (some (pos 4))) (Gone 24 3 2)
 unfolding answersTo
-all-of-it = (refl, moved delayed-left refl refl 0 1 14 (omega arith) (omega arith) refl refl 10 refl (omega arith))
+all-of-it = (refl, moved delayed-left refl refl 0 1 14 (omega arith) (omega arith) refl 10 refl (omega arith))
 
 -- road 1 up by 10: 7 more, over road 2
 pub part-of-it : Example (Moves 10 20) cardP delayed 0 1 20 (Gone 20 3 2) (Previewed (some 20) (some 27) (some (pos 7))) (Gone 27 4 2)
 unfolding answersTo
-part-of-it = (refl, moved delayed-left refl refl 0 1 20 (omega arith) (omega arith) refl refl 10 refl (omega arith))
+part-of-it = (refl, moved delayed-left refl refl 0 1 20 (omega arith) (omega arith) refl 10 refl (omega arith))
 
 -- road 4, which is not on the way, up by 10
 pub none-of-it : Example (Moves 20 30) cardP delayed 0 4 30 (Gone 20 3 2) (Previewed (some 20) (some 20) (some (pos 0))) (Gone 20 3 2)
 unfolding answersTo
-none-of-it = (refl, moved delayed-left refl refl 0 4 30 (omega arith) (omega arith) refl refl 20 refl (omega arith))
+none-of-it = (refl, moved delayed-left refl refl 0 4 30 (omega arith) (omega arith) refl 20 refl (omega arith))
 
 -- road 1 set to the time that it has
 pub no-news : Example (Moves 10 10) cardP delayed 0 1 10 (Gone 20 3 2) (Previewed (some 20) (some 20) (some (pos 0))) (Gone 20 3 2)
 unfolding answersTo
-no-news = (refl, moved delayed-left refl refl 0 1 10 (omega arith) (omega arith) refl refl 10 refl (omega arith))
+no-news = (refl, moved delayed-left refl refl 0 1 10 (omega arith) (omega arith) refl 10 refl (omega arith))
 
 -- after the first of these, road 0 up by 10: 3 more
 pub again-part : Example (Moves 10 20) cardP again 0 0 20 (Gone 24 3 2) (Previewed (some 24) (some 27) (some (pos 3))) (Gone 27 3 2)
 unfolding answersTo
-again-part = (refl, moved again-left refl refl 0 0 20 (omega arith) (omega arith) refl refl 10 refl (omega arith))
+again-part = (refl, moved again-left refl refl 0 0 20 (omega arith) (omega arith) refl 10 refl (omega arith))
 
 -- road 2 down by 2: 2 less
 pub all-back : Example (Moves 17 15) cardP jammed 0 2 15 (Gone 27 4 2) (Previewed (some 27) (some 25) (some (negsuc 1))) (Gone 25 4 2)
 unfolding answersTo
-all-back = (refl, moved jammed-left refl refl 0 2 15 (omega arith) (omega arith) refl refl 17 refl (omega arith))
+all-back = (refl, moved jammed-left refl refl 0 2 15 (omega arith) (omega arith) refl 17 refl (omega arith))
 
 -- road 1 down by 20: 7 less
 pub part-back : Example (Moves 30 10) cardP jammed 0 1 10 (Gone 27 4 2) (Previewed (some 27) (some 20) (some (negsuc 6))) (Gone 20 3 2)
 unfolding answersTo
-part-back = (refl, moved jammed-left refl refl 0 1 10 (omega arith) (omega arith) refl refl 30 refl (omega arith))
+part-back = (refl, moved jammed-left refl refl 0 1 10 (omega arith) (omega arith) refl 30 refl (omega arith))
 
 -- road 1 down by 5: it is not on the way
 pub none-back : Example (Moves 30 25) cardP jammed 0 1 25 (Gone 27 4 2) (Previewed (some 27) (some 27) (some (pos 0))) (Gone 27 4 2)
 unfolding answersTo
-none-back = (refl, moved jammed-left refl refl 0 1 25 (omega arith) (omega arith) refl refl 30 refl (omega arith))
+none-back = (refl, moved jammed-left refl refl 0 1 25 (omega arith) (omega arith) refl 30 refl (omega arith))
 
 -- where there is no route, road 0 up by 2
 pub no-route : Example (Moves 10 12) cardP cut 0 0 12 (Refused (NoPath 2)) (Previewed none none none) (Refused (NoPath 2))
 unfolding answersTo
-no-route = (refl, moved cut-left refl refl 0 0 12 (omega arith) (omega arith) refl refl 10 refl (omega arith))
+no-route = (refl, moved cut-left refl refl 0 0 12 (omega arith) (omega arith) refl 10 refl (omega arith))
 
 -- road 1 closed: 7 more
 pub closing : Example Closes cardP delayed 0 1 closedWord (Gone 20 3 2) (Previewed (some 20) (some 27) (some (pos 7))) (Gone 27 4 2)
 unfolding answersTo
-closing = (refl, closed delayed-left refl refl 0 1 closedWord (omega arith) (omega arith) refl refl refl)
+closing = (refl, closed delayed-left refl refl 0 1 closedWord (omega arith) (omega arith) refl refl)
 
 -- the other way closed too: the route is lost
 pub closing-both : Example Closes cardP shut 0 2 closedWord (Gone 27 4 2) (Previewed (some 27) none none) (Refused (NoPath 2))
 unfolding answersTo
-closing-both = (refl, closed shut-left refl refl 0 2 closedWord (omega arith) (omega arith) refl refl refl)
+closing-both = (refl, closed shut-left refl refl 0 2 closedWord (omega arith) (omega arith) refl refl)
 
 -- road 1 open again: 7 less
 pub opening : Example Opens cardP shut 0 1 10 (Gone 27 4 2) (Previewed (some 27) (some 20) (some (negsuc 6))) (Gone 20 3 2)
 unfolding answersTo
-opening = (refl, opened shut-left refl refl 0 1 10 (omega arith) (omega arith) refl refl refl)
+opening = (refl, opened shut-left refl refl 0 1 10 (omega arith) (omega arith) refl refl)
 
 -- one of two closed ways open again: a route is found
 pub opening-one : Example Opens cardP cut 0 2 17 (Refused (NoPath 2)) (Previewed none (some 27) none) (Gone 27 4 2)
 unfolding answersTo
-opening-one = (refl, opened cut-left refl refl 0 2 17 (omega arith) (omega arith) refl refl refl)
+opening-one = (refl, opened cut-left refl refl 0 2 17 (omega arith) (omega arith) refl refl)
 
 -- on the map with classes: class 1 uses road 1, which goes up by 10
 pub class-one : Example (Moves 10 20) cardA barred 1 1 20 (Gone 20 3 2) (Previewed (some 20) (some 27) (some (pos 7))) (Gone 27 4 2)
 unfolding answersTo
-class-one = (refl, moved barred-left refl refl 1 1 20 (omega arith) (omega arith) refl refl 10 refl (omega arith))
+class-one = (refl, moved barred-left refl refl 1 1 20 (omega arith) (omega arith) refl 10 refl (omega arith))
 
 -- class 0 does not: the same report moves nothing
 pub class-zero : Example (Moves 10 20) cardA barred 0 1 20 (Gone 27 4 2) (Previewed (some 27) (some 27) (some (pos 0))) (Gone 27 4 2)
 unfolding answersTo
-class-zero = (refl, moved barred-left refl refl 0 1 20 (omega arith) (omega arith) refl refl 10 refl (omega arith))
+class-zero = (refl, moved barred-left refl refl 0 1 20 (omega arith) (omega arith) refl 10 refl (omega arith))
 
 -- the first of these reports, and then the one on road 0: 27 is at most 14 more than 20, and no less
 pub two-reports : (T c k : ℕ) × (Gone 27 3 2 ≡ Gone T c k) × (T ≤ 20 + 14) × (20 ≤ T + 0)
@@ -234,8 +232,8 @@ two-reports =
     let can′ : CanGo again 0 0 = record { class-in = omega arith; start-in = omega arith; target = 3; aimed = refl } in
     let may : CanSet cardP delayed 1 14 = record { road-in = omega arith; time-in = refl } in
     let may′ : CanSet cardP again 0 20 = record { road-in = omega arith; time-in = refl } in
-    let one = turned delayed-left can may refl (roomP delayed refl) in
-    let two = turned again-left can′ may′ refl (roomP again refl) in
+    let one = turned delayed-left can may (roomP delayed refl) in
+    let two = turned again-left can′ may′ (roomP again refl) in
     let between : Like cardP (one .set .done .state) again = record { reached = again-left; live = refl; target = refl } in
     let first : Reports cardP delayed again 4 0 =
     one-more {t = 10} (no-report (like-self delayed-left)) may refl (omega arith) (one .set) between in

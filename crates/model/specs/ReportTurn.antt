@@ -6,7 +6,7 @@ use mathlib.Core.Logic.{_⊎_, inl, inr}
 use mathlib.Core.Bool.{Bool, _&&_, true}
 use mathlib.Core.Option.{Option, none, some}
 use mathlib.Core.List.{List, [], _++_, _∷_}
-use Prim.Native.Nat.{_+_, _-_, _<_, ℕ}
+use Prim.Native.Nat.{_*_, _+_, _-_, _/_, _<_, ℕ}
 use lib.IntN.{ℤ}
 use lib.ListN.{List·getD-eq-default, getD, length, set}
 use native.Mathlib.Decide.{decLt}
@@ -16,7 +16,8 @@ use Rattle.graph.specs.Map.{Map}
 use Rattle.model.specs.Word.{ofWord, unasked}
 use Rattle.model.specs.Types.{Absent, Accepted, At, Header, Previewed, Refusal, Target}
 use Rattle.model.specs.Limits.{classes}
-use Rattle.model.specs.Layout.{accessIn}
+use Rattle.model.specs.Bytes.{wordAt}
+use Rattle.model.specs.Layout.{accessIn, roadSize, roadsIn}
 use Rattle.model.specs.Classes.{accessOf, classTimes}
 use Rattle.model.specs.Card.{CardMap, cardMap, mapOn}
 use Rattle.model.specs.Areas.{Areas}
@@ -30,6 +31,8 @@ use Rattle.model.specs.Calls.{Aim, Asked, Call, Estimate, Go, HandsBack,
 use Rattle.model.specs.Calls.{made, previewCall, refusalBy, setCall, step, steps}
 use Rattle.model.specs.Contracts.{CallContract, baseOn}
 use Rattle.model.specs.Report.{Calls, CanGo, CanSet, LeftAccepted, Like, Room}
+use Rattle.model.specs.Laws.{listed-at}
+use Rattle.model.specs.Accept.{card-facts}
 use Rattle.model.specs.Good.{Aims, Filled, Good, filled-length, filled-no, filled-yes, fills-self, good-fits, left-usable, metTimes}
 use Rattle.model.specs.Chain.{Chain, hands-back, run-snoc}
 use Rattle.graph.specs.Pairs.{down}
@@ -258,8 +261,17 @@ meet-all {card} (c ∷ l) {s} r at h =
     let at′ = ap (λ (k : Header). isAt (k .target)) same ∙ at in
     (m, meet-all l (reached-on r m) at′ (subst (λ (k : Header). Unrefused card k l) (sym same) (h .3)))
 
-module _ {card : List ℕ} {s : State} {c i u j : ℕ} (r : LeftAccepted card s) (can : CanGo s c j) (may : CanSet card s i u)
-    (base : mapOn card .base .cost i ≡ baseOn card i) {l : Lent} (o : Room s l) where
+-- a road's base time, as the calls read it on the card, is the map's
+base-there : {card : List ℕ} {s : State} → Good card s → (i : ℕ) → i < s .header .m → mapOn card .base .cost i ≡ baseOn card i
+base-there {card} {s} g i l =
+    let roads = roadsIn card in
+    let m = g .m-is in
+    let size = card-facts card (g .accepted) .roads-length in
+    let e : 0 + 4 * (3 * i + 2) ≡ roadSize * i + 8 = omega arith in
+    ap some (listed-at (length roads / 4) (λ k. wordAt roads (0 + 4 * k)) (3 * i + 2) (omega (arith, l, m, size)) ∙ ap (wordAt roads) e)
+
+module _ {card : List ℕ} {s : State} {c i u j : ℕ} (r : LeftAccepted card s) (can : CanGo s c j) (may : CanSet card s i u) {l : Lent}
+    (o : Room s l) where
   pub unrefused : Unrefused card (s .header) (turn (s .header .n) c i u j l)
   unrefused =
       let f = mapOn card .base .cost in
@@ -268,6 +280,7 @@ module _ {card : List ℕ} {s : State} {c i u j : ℕ} (r : LeftAccepted card s)
       let at : isAt (h .target) ≡ true = ap isAt (can .aimed) in
       let lc : c < classes = omega (arith, can .class-in) in
       let li : i < h .m = omega (arith, may .road-in) in
+      let base = base-there (reached-good r) i li in
       let time-in′ : settable (f′ i) (ofWord u) ≡ true = subst (λ (x : Total). settable x (ofWord u) ≡ true) base (may .time-in) in
       let go = go-asked f h (can .start-in) at lc (o .route) (o .log) in
       let go′ = go-asked f′ h (can .start-in) at lc (o .route) (o .log) in

@@ -164,6 +164,8 @@ pub record JourneyRight (M : Map) (live : ℕ → Total) (stops : List ℕ) (leg
   pub whole-is : whole ≡ wholeOf legs
   -- "The whole is at most that of every other chain of open roads that meets the stops in that order, at the live times in force."
   pub at-most : (t : ℕ) → Meeting (liveNet M live) stops t → whole ≤ t
+  -- of which the legs' roads, one after the other, are one
+  pub attained : Meeting (liveNet M live) stops whole
   -- the log area holds the last leg's log
   pub log : (k : ℕ) → suc k ≡ length legs → FoundLogged M live stops k (legAt legs k .total) (areas .log)
 
@@ -180,6 +182,8 @@ pub record FirstLost (M : Map) (live : ℕ → Total) (stops : List ℕ) (k : �
 -- a journey that leg k ended, and the log of that leg
 pub record StrandedRight (M : Map) (live : ℕ → Total) (stops : List ℕ) (k : ℕ) (areas : Lent) : Type 0 where
   pub first-lost : FirstLost M live stops k
+  -- so no chain of open roads meets the stops
+  pub none-meets : (t : ℕ) → Meeting (liveNet M live) stops t → ⊥
   pub log : LostLogged M live stops k (areas .log)
 
 -- at these times; `passed` if no question refuses the list

@@ -12,11 +12,12 @@ use lib.Seq.{drop-append-seam, length-take-le, take-append-add, take-append-seam
 use native.Mathlib.Decide.{decLt}
 use native.Mathlib.Nat.{not-suc-le-zero}
 use native.Mathlib.Omega.{arith}
-use Rattle.graph.specs.Total.{Total, _⊕_, none-some, some-some, ⊕-some}
+use Rattle.graph.specs.Total.{Total, _⊕_, none-some, some-some, within, ⊕-some}
 use Rattle.graph.specs.Least.{IsLeast}
-use Rattle.graph.specs.Route.{listed-least, listed-path, path-listed}
+use Rattle.graph.specs.Network.{Network}
+use Rattle.graph.specs.Route.{Listed, leads-append, listed-least, listed-path, path-listed, totalOver-append}
 use Rattle.graph.specs.Search.{Problem, logOf, routeOf, totalOf, vertices}
-use Rattle.graph.specs.Stops.{Below, whole-at-most, wholeFrom}
+use Rattle.graph.specs.Stops.{Below, Meeting, Meets, all-met, meets-append, met-here, whole-at-most, wholeFrom}
 use Rattle.graph.specs.Map.{Map, liveNet, timeOf, timeOf-least}
 use Rattle.graph.specs.Go.{Demand}
 use Rattle.graph.specs.Effort.{Effort}
@@ -296,6 +297,32 @@ first-one {i = i} {k} f h = go (decLt i k) (decLt k i)
     go (no l) (yes m) = absurd (f .first k m (h .lost))
     go (no l) (no m) = omega arith
 
+-- from a, arcs of total t that meet the stops
+record Led (N : Network) (a : ℕ) (stops : List ℕ) (t : ℕ) : Type 0 where
+  to : ℕ
+  path : Listed N a to t
+  meets : Meets N a (path .arcs) stops
+
+-- the roads of right legs, one after the other
+legs-led : (M : Map) (live : ℕ → Total) (a : ℕ) (stops : List ℕ) (legs : List Leg) (area : List ℕ) → LegsRight M live a stops legs area
+    → Led (liveNet M live) a stops (wholeOf legs)
+legs-led M live a [] [] area h = record { to = a; path = record { arcs = []; leads = refl; sums = refl }; meets = all-met }
+legs-led M live a [] (x ∷ legs) area h = absurd h
+legs-led M live a (b ∷ stops) [] area h = absurd h
+legs-led M live a (b ∷ stops) (x ∷ legs) area h =
+    let N = liveNet M live in
+    let own = take (x .roads) area in
+    let on = legs-led M live b stops legs (drop (x .roads) area) (h .1) in
+    record {
+      to = on .to;
+      path = record {
+        arcs = own ++ on .path .arcs;
+        leads = leads-append N own (on .path .arcs) a b (on .to) (h .0 .leads) (on .path .leads);
+        sums = totalOver-append N own (on .path .arcs) ∙ ap₂ _⊕_ (h .0 .total) (on .path .sums);
+      };
+      meets = meets-append N own (on .path .arcs) (h .0 .leads) (met-here refl (on .meets));
+    }
+
 -- where the whole is a number, every leg has a total
 each-leg : (leg : ℕ → ℕ → Total) (a : ℕ) (stops : List ℕ) (t : ℕ) → wholeFrom leg a stops ≡ some t
     → (k : ℕ) → suc k < length (a ∷ stops) → (x : ℕ) × (leg (getD (a ∷ stops) k 0) (getD stops k 0) ≡ some x)
@@ -316,6 +343,10 @@ module _ {M : Map} {live : ℕ → Total} (least : (a b : ℕ) → IsLeast (Live
         legs-right = subst (λ (x : List Leg). LegsRight M live a stops x (j .lent .route)) legs-are r;
         whole-is = sym whole-is ∙ ap wholeOf legs-are;
         at-most = λ t m. rw (w ∙ ap some whole-is) at (whole-at-most (liveNet M live) (λ x y lx ly. least x y) a stops below t m);
+        attained =
+            let led = legs-led M live a stops (j .legs) (j .lent .route) r in
+            subst (λ (t : ℕ). Meeting (liveNet M live) (a ∷ stops) t) whole-is
+            (record { from = a; to = led .to; path = led .path; meets = met-here refl (led .meets) });
         log = rw legs-are at k;
       }
 
@@ -324,7 +355,15 @@ module _ {M : Map} {live : ℕ → Total} (least : (a b : ℕ) → IsLeast (Live
   lost-first (arrived c r w k stays) i e = absurd (stopped-not-refused e (answer-arrived (j .complete) (j .legs) c))
   lost-first (left-off c f logged) k e =
       let i-is = no-leg-is (answer-left-off (j .complete) (j .legs) c) e in
-      subst (λ (i : ℕ). StrandedRight M live (a ∷ stops) i (j .lent)) i-is (record { first-lost = f; log = logged })
+      subst (λ (i : ℕ). StrandedRight M live (a ∷ stops) i (j .lent)) i-is (record {
+        first-lost = f;
+        none-meets = λ t m.
+            let (p, whole-is, _) = within (wholeFrom (timeOf M live) a stops) t
+            (whole-at-most (liveNet M live) (λ x y lx ly. least x y) a stops below t m) in
+            let (x, e) = each-leg (timeOf M live) a stops p whole-is (length (j .legs)) (f .inside) in
+            f .lost x (least (getD (a ∷ stops) (length (j .legs)) 0) (getD stops (length (j .legs)) 0) .attained x e);
+        log = logged;
+      })
 
   first-told : Ended M live a stops log j → (k : ℕ) → FirstLost M live (a ∷ stops) k
       → stopsAnswer (j .complete) (j .legs) ≡ Refused (NoLeg k)

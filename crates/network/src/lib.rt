@@ -291,6 +291,13 @@ pub fn ask(passes: bool, q: Refusal, rest: Verdict) -> Verdict
     if passes { rest } else { Verdict::Failed(q) }
 }
 
+// The smaller of two numbers.
+pub fn smaller(a: usize, b: usize) -> usize
+    ensures { λ r. ⌜ r ≡ min a b ⌝ }
+{
+    if a < b { a } else { b }
+}
+
 // A byte as a word.
 pub fn wide(x: u8) -> u32
     ensures { λ r. ⌜ (r ≡ x) × (r < 256) ⌝ }

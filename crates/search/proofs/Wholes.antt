@@ -9,6 +9,7 @@ use lib.Seq.{length-take-le}
 use native.Mathlib.Omega.{arith}
 use Rattle.graph.specs.Search.{Entry, history, run}
 use Rattle.graph.specs.Map.{Map}
+use Rattle.model.specs.Limits.{mostJunctions}
 use Rattle.model.specs.Word.{noneWord}
 use Rattle.model.specs.State.{first}
 use Rattle.model.specs.Estimate.{filled}
@@ -76,9 +77,6 @@ module _ {g : Given} {leaving groups : List ℕ} {s z e t : ℕ} {l l′ : Writt
       let made = subst₂ (λ (n : ℕ) (m : ℕ). GroupsMade (g .roads) n m leaving groups) (r .n-is) (r .m-is) (left .grouped) in
       subst (λ (H : List Entry). Advanced g s z H l l′ c complete) (whole r) (ran .exact r made (left .aims))
 
-  pub finds-total : FindsTotal g leaving groups s z (l .estimates) (l′ .estimates) total
-  finds-total = record { kept = ran .kept; exact = λ left. answer-total (ready left) (ended left) read }
-
   module _ {route₀ : List ℕ} where
     pub searches-lost : eqb total noneWord ≡ true → Searches g leaving groups s z (routed l route₀) (routed l′ route₀) total c 0
     searches-lost q = record { kept = ran .kept; exact = λ left. answer-lost (ready left) (ended left) read q }
@@ -93,10 +91,24 @@ module _ {g : Given} {leaving groups : List ℕ} {s z e t : ℕ} {l l′ : Writt
 
 -- ---- the two searches of a preview
 
+-- of a search's answer, the total alone
+pub total-of : {g : Given} {leaving groups : List ℕ} {s z : ℕ} {l l′ : Written} {total count number : ℕ}
+    → Searches g leaving groups s z l l′ total count number
+    → FindsTotal g leaving groups s z (l .estimates) (l′ .estimates) total
+total-of r = record { kept = r .kept; exact = λ left. r .exact left .least }
+
+-- an area of as many entries as there may be junctions
+pub long-enough : {g : Given} {leaving groups : List ℕ} {s z e t : ℕ} {k : ℕ} → Within g leaving groups s z e t → k ≡ mostJunctions
+    → g .sizes .n ≤ k
+long-enough within e = omega (arith, within .sized .n-high)
+
 -- the halves of a work area: the second is lent when the first has come back in its place, as long as it was
 module _ {n : ℕ} (work : List ℕ) (twice : length work ≡ workSize n) where
   pub first-half : length (take n work) ≡ n
   first-half = length-take-le n work (omega arith)
+
+  pub half-left : (half : List ℕ) → length half ≡ length (take n work) → n ≤ length (half ++ drop n work)
+  half-left half kept = simp length-append (omega (arith, kept, first-half))
 
   pub second-half : (half : List ℕ) → length half ≡ length (take n work) → let back = half ++ drop n work in
       length (take (length back - n) (drop n back)) ≡ n

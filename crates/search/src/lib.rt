@@ -1,11 +1,9 @@
 // The search of a go (document 01: the search log): a run whose budget never ends it, its total and its route. The two searches of a
 // preview (document 02, A2): the total alone, twice.
-ghost use Prim.Native.Nat.{_≤_};
-ghost use lib.ListN.{length};
 ghost use Rattle.search_junctions.specs.Views.{met};
 ghost use Rattle.search_junctions.specs.State.{given, givenTo};
-ghost use Rattle.search_run.specs.Runs.{BlankRoom, Lends, Within, written};
-ghost use Rattle.search.specs.Searches.{FindsBoth, FindsTotal, LendsBoth, LendsIn, Searches, seenBy};
+ghost use Rattle.search_run.specs.Runs.{Lends, written};
+ghost use Rattle.search.specs.Searches.{FindsBoth, LendsBoth, LendsIn, Searches, seenBy};
 use network::MOST_JUNCTIONS;
 use network::Time;
 use network::TimeWord;
@@ -98,140 +96,6 @@ fn search_in(
     }
 }
 
-// The search of a go on a smaller map.
-fn search_small(
-    trip: Trip,
-    roads: &[u8],
-    order: &[u8],
-    ranks: &[u32],
-    pairs: &[u32],
-    times: &[TimeWord],
-    access: &[u8],
-    live: &[TimeWord],
-    down: &[TimeWord],
-    leaving: &[u32],
-    groups: &[u32],
-    estimates: &mut [TimeWord],
-    elapsed: &mut [TimeWord],
-    route: &mut [u32],
-    log: &mut [u32],
-) -> Searched
-    requires { ⌜ Lends (given trip roads order ranks pairs times access live down) (now leaving) (now groups)
-        (trip .start .0) (trip .target .0) (written estimates elapsed route log) × (trip .sizes .n ≤ 1024) ⌝ }
-    ensures { λ r. ⌜ Searches (givenTo trip roads order ranks pairs times access live down) (now (leaving .entry)) (now (groups .entry))
-        (trip .start .0) (trip .target .0) (written (estimates .entry) (elapsed .entry) (route .entry) (log .entry))
-        (written (estimates .exit) (elapsed .exit) (route .exit) (log .exit)) (r .total .0) (r .count) (r .roads) ⌝ }
-{
-    let n = trip.sizes.n as usize;
-    if n <= SMALL {
-        let mut room = [BLANK; WORDS * SMALL];
-        return search_in(
-            trip,
-            roads,
-            order,
-            ranks,
-            pairs,
-            times,
-            access,
-            live,
-            down,
-            leaving,
-            groups,
-            estimates,
-            elapsed,
-            route,
-            log,
-            &mut room,
-        );
-    }
-    let mut room = [BLANK; WORDS * MIDDLE];
-    search_in(
-        trip,
-        roads,
-        order,
-        ranks,
-        pairs,
-        times,
-        access,
-        live,
-        down,
-        leaving,
-        groups,
-        estimates,
-        elapsed,
-        route,
-        log,
-        &mut room,
-    )
-}
-
-// And on a larger one.
-fn search_large(
-    trip: Trip,
-    roads: &[u8],
-    order: &[u8],
-    ranks: &[u32],
-    pairs: &[u32],
-    times: &[TimeWord],
-    access: &[u8],
-    live: &[TimeWord],
-    down: &[TimeWord],
-    leaving: &[u32],
-    groups: &[u32],
-    estimates: &mut [TimeWord],
-    elapsed: &mut [TimeWord],
-    route: &mut [u32],
-    log: &mut [u32],
-) -> Searched
-    requires { ⌜ Lends (given trip roads order ranks pairs times access live down) (now leaving) (now groups)
-        (trip .start .0) (trip .target .0) (written estimates elapsed route log) ⌝ }
-    ensures { λ r. ⌜ Searches (givenTo trip roads order ranks pairs times access live down) (now (leaving .entry)) (now (groups .entry))
-        (trip .start .0) (trip .target .0) (written (estimates .entry) (elapsed .entry) (route .entry) (log .entry))
-        (written (estimates .exit) (elapsed .exit) (route .exit) (log .exit)) (r .total .0) (r .count) (r .roads) ⌝ }
-{
-    let n = trip.sizes.n as usize;
-    if n <= LARGE {
-        let mut room = [BLANK; WORDS * LARGE];
-        return search_in(
-            trip,
-            roads,
-            order,
-            ranks,
-            pairs,
-            times,
-            access,
-            live,
-            down,
-            leaving,
-            groups,
-            estimates,
-            elapsed,
-            route,
-            log,
-            &mut room,
-        );
-    }
-    let mut room = [BLANK; WORDS * LARGEST];
-    search_in(
-        trip,
-        roads,
-        order,
-        ranks,
-        pairs,
-        times,
-        access,
-        live,
-        down,
-        leaving,
-        groups,
-        estimates,
-        elapsed,
-        route,
-        log,
-        &mut room,
-    )
-}
-
 // The search of a go from the start to the target that was aimed at last.
 pub fn search(
     trip: Trip,
@@ -256,8 +120,10 @@ pub fn search(
         (trip .start .0) (trip .target .0) (written (estimates .entry) (elapsed .entry) (route .entry) (log .entry))
         (written (estimates .exit) (elapsed .exit) (route .exit) (log .exit)) (r .total .0) (r .count) (r .roads) ⌝ }
 {
-    if trip.sizes.n as usize <= MIDDLE {
-        return search_small(
+    let n = trip.sizes.n as usize;
+    if n <= SMALL {
+        let mut room = [BLANK; WORDS * SMALL];
+        return search_in(
             trip,
             roads,
             order,
@@ -273,9 +139,53 @@ pub fn search(
             elapsed,
             route,
             log,
+            &mut room,
         );
     }
-    search_large(
+    if n <= MIDDLE {
+        let mut room = [BLANK; WORDS * MIDDLE];
+        return search_in(
+            trip,
+            roads,
+            order,
+            ranks,
+            pairs,
+            times,
+            access,
+            live,
+            down,
+            leaving,
+            groups,
+            estimates,
+            elapsed,
+            route,
+            log,
+            &mut room,
+        );
+    }
+    if n <= LARGE {
+        let mut room = [BLANK; WORDS * LARGE];
+        return search_in(
+            trip,
+            roads,
+            order,
+            ranks,
+            pairs,
+            times,
+            access,
+            live,
+            down,
+            leaving,
+            groups,
+            estimates,
+            elapsed,
+            route,
+            log,
+            &mut room,
+        );
+    }
+    let mut room = [BLANK; WORDS * LARGEST];
+    search_in(
         trip,
         roads,
         order,
@@ -291,241 +201,11 @@ pub fn search(
         elapsed,
         route,
         log,
+        &mut room,
     )
 }
 
 // ---- the two searches of a preview
-
-// The total of a search, in a blank room; its log is not kept.
-fn total_in(
-    trip: Trip,
-    roads: &[u8],
-    order: &[u8],
-    ranks: &[u32],
-    pairs: &[u32],
-    times: &[TimeWord],
-    access: &[u8],
-    live: &[TimeWord],
-    down: &[TimeWord],
-    leaving: &[u32],
-    groups: &[u32],
-    estimates: &mut [TimeWord],
-    elapsed: &mut [TimeWord],
-    log: &mut [u32],
-    room: &mut [u64],
-) -> Time
-    requires { ⌜ Within (given trip roads order ranks pairs times access live down) (now leaving) (now groups)
-        (trip .start .0) (trip .target .0) (length (now estimates)) (length (now elapsed))
-        × (trip .sizes .n ≤ length (now log)) × BlankRoom (trip .sizes .n) (now room) ⌝ }
-    ensures { λ r. ⌜ FindsTotal (givenTo trip roads order ranks pairs times access live down) (now (leaving .entry)) (now (groups .entry))
-        (trip .start .0) (trip .target .0) (now (estimates .entry)) (now (estimates .exit)) (r .0) ⌝ }
-{
-    let target = trip.target;
-    // no junction is logged twice
-    let budget = trip.sizes.n;
-    advance(
-        trip,
-        budget,
-        roads,
-        order,
-        ranks,
-        pairs,
-        times,
-        access,
-        live,
-        down,
-        leaving,
-        groups,
-        estimates,
-        elapsed,
-        log,
-        room,
-    );
-    Time::of_word(elapsed[target.0 as usize])
-}
-
-// The total of a search on a smaller map, whose log and route are not kept.
-fn total_small(
-    trip: Trip,
-    roads: &[u8],
-    order: &[u8],
-    ranks: &[u32],
-    pairs: &[u32],
-    times: &[TimeWord],
-    access: &[u8],
-    live: &[TimeWord],
-    down: &[TimeWord],
-    leaving: &[u32],
-    groups: &[u32],
-    estimates: &mut [TimeWord],
-    elapsed: &mut [TimeWord],
-) -> Time
-    requires { ⌜ Within (given trip roads order ranks pairs times access live down) (now leaving) (now groups)
-        (trip .start .0) (trip .target .0) (length (now estimates)) (length (now elapsed)) × (trip .sizes .n ≤ 1024) ⌝ }
-    ensures { λ r. ⌜ FindsTotal (givenTo trip roads order ranks pairs times access live down) (now (leaving .entry)) (now (groups .entry))
-        (trip .start .0) (trip .target .0) (now (estimates .entry)) (now (estimates .exit)) (r .0) ⌝ }
-{
-    let n = trip.sizes.n as usize;
-    if n <= SMALL {
-        let mut log = [0u32; SMALL];
-        let mut room = [BLANK; WORDS * SMALL];
-        return total_in(
-            trip,
-            roads,
-            order,
-            ranks,
-            pairs,
-            times,
-            access,
-            live,
-            down,
-            leaving,
-            groups,
-            estimates,
-            elapsed,
-            &mut log,
-            &mut room,
-        );
-    }
-    let mut log = [0u32; MIDDLE];
-    let mut room = [BLANK; WORDS * MIDDLE];
-    total_in(
-        trip,
-        roads,
-        order,
-        ranks,
-        pairs,
-        times,
-        access,
-        live,
-        down,
-        leaving,
-        groups,
-        estimates,
-        elapsed,
-        &mut log,
-        &mut room,
-    )
-}
-
-// And on a larger one.
-fn total_large(
-    trip: Trip,
-    roads: &[u8],
-    order: &[u8],
-    ranks: &[u32],
-    pairs: &[u32],
-    times: &[TimeWord],
-    access: &[u8],
-    live: &[TimeWord],
-    down: &[TimeWord],
-    leaving: &[u32],
-    groups: &[u32],
-    estimates: &mut [TimeWord],
-    elapsed: &mut [TimeWord],
-) -> Time
-    requires { ⌜ Within (given trip roads order ranks pairs times access live down) (now leaving) (now groups)
-        (trip .start .0) (trip .target .0) (length (now estimates)) (length (now elapsed)) ⌝ }
-    ensures { λ r. ⌜ FindsTotal (givenTo trip roads order ranks pairs times access live down) (now (leaving .entry)) (now (groups .entry))
-        (trip .start .0) (trip .target .0) (now (estimates .entry)) (now (estimates .exit)) (r .0) ⌝ }
-{
-    let n = trip.sizes.n as usize;
-    if n <= LARGE {
-        let mut log = [0u32; LARGE];
-        let mut room = [BLANK; WORDS * LARGE];
-        return total_in(
-            trip,
-            roads,
-            order,
-            ranks,
-            pairs,
-            times,
-            access,
-            live,
-            down,
-            leaving,
-            groups,
-            estimates,
-            elapsed,
-            &mut log,
-            &mut room,
-        );
-    }
-    let mut log = [0u32; LARGEST];
-    let mut room = [BLANK; WORDS * LARGEST];
-    total_in(
-        trip,
-        roads,
-        order,
-        ranks,
-        pairs,
-        times,
-        access,
-        live,
-        down,
-        leaving,
-        groups,
-        estimates,
-        elapsed,
-        &mut log,
-        &mut room,
-    )
-}
-
-// The total of a search.
-fn least_total(
-    trip: Trip,
-    roads: &[u8],
-    order: &[u8],
-    ranks: &[u32],
-    pairs: &[u32],
-    times: &[TimeWord],
-    access: &[u8],
-    live: &[TimeWord],
-    down: &[TimeWord],
-    leaving: &[u32],
-    groups: &[u32],
-    estimates: &mut [TimeWord],
-    elapsed: &mut [TimeWord],
-) -> Time
-    requires { ⌜ Within (given trip roads order ranks pairs times access live down) (now leaving) (now groups)
-        (trip .start .0) (trip .target .0) (length (now estimates)) (length (now elapsed)) ⌝ }
-    ensures { λ r. ⌜ FindsTotal (givenTo trip roads order ranks pairs times access live down) (now (leaving .entry)) (now (groups .entry))
-        (trip .start .0) (trip .target .0) (now (estimates .entry)) (now (estimates .exit)) (r .0) ⌝ }
-{
-    if trip.sizes.n as usize <= MIDDLE {
-        return total_small(
-            trip,
-            roads,
-            order,
-            ranks,
-            pairs,
-            times,
-            access,
-            live,
-            down,
-            leaving,
-            groups,
-            estimates,
-            elapsed,
-        );
-    }
-    total_large(
-        trip,
-        roads,
-        order,
-        ranks,
-        pairs,
-        times,
-        access,
-        live,
-        down,
-        leaving,
-        groups,
-        estimates,
-        elapsed,
-    )
-}
 
 // The totals of a preview, each none where there is no chain.
 pub struct TwoTotals {
@@ -561,7 +241,9 @@ pub fn totals(
     let start = trip.start;
     let target = trip.target;
     let n = sizes.n as usize;
-    let present = least_total(
+    let mut route = [0u32; LARGEST];
+    let mut log = [0u32; LARGEST];
+    let present = search(
         trip,
         roads,
         order,
@@ -575,6 +257,8 @@ pub fn totals(
         groups,
         estimates,
         &mut work[..n],
+        &mut route,
+        &mut log,
     );
     let other = Trip {
         sizes: sizes,
@@ -583,7 +267,7 @@ pub fn totals(
         class: trip.class,
         view: view,
     };
-    let new = least_total(
+    let new = search(
         other,
         roads,
         order,
@@ -597,9 +281,13 @@ pub fn totals(
         groups,
         estimates,
         &mut work[n..],
+        &mut route,
+        &mut log,
     );
+    let now = present.total;
+    let then = new.total;
     TwoTotals {
-        present: present,
-        new: new,
+        present: now,
+        new: then,
     }
 }

@@ -1,7 +1,7 @@
 // What a node of the search is, and where it leads: nodes are junctions, the roads of each are lent as its group, and the estimates of open
 // roads' heads are asked before a junction's roads are relaxed (document 01: the search log).
 ghost use mathlib.Core.Path.{_≡_};
-ghost use Prim.Native.Nat.{_*_, _+_, _<_, _≤_, min};
+ghost use Prim.Native.Nat.{_*_, _+_, _<_, _≤_};
 ghost use lib.Dec.{eqb};
 ghost use lib.ListN.{getD, length};
 ghost use Rattle.model.specs.Layout.{roadSize};
@@ -20,19 +20,13 @@ use network::Time;
 use network::TimeWord;
 use network::admits;
 use network::head_of;
+use network::smaller;
 use network::tail_of;
 use pairs_hierarchy::estimate;
 use search_labels::take;
 use search_labels::via_of;
 
 // ---- the roads of a junction
-
-// The smaller of two numbers.
-fn smaller(a: usize, b: usize) -> usize
-    ensures { λ r. ⌜ r ≡ min a b ⌝ }
-{
-    if a < b { a } else { b }
-}
 
 // The group from a up to b of the roads by tail: what lies of it within the area.
 pub fn group_at(leaving: &[u32], a: u32, b: u32) -> &[u32]

@@ -28,7 +28,7 @@ use Rattle.network.specs.declared.Sizes.{Sizes}
 use Rattle.road_groups.specs.Lending.{GroupsMade, tailIn}
 use Rattle.search_queue.specs.Order.{settledKey}
 use Rattle.search_queue.specs.Tree.{Put}
-use Rattle.search_queue.specs.Sums.{Choice}
+use Rattle.search_queue.specs.Sums.{Choice, SumsKept}
 use Rattle.search_queue.specs.Laws.{chosen-inside, fresh-room}
 use Rattle.search_labels.specs.Labelling.{Room, labelsIn, orderOf}
 use Rattle.search_labels.specs.Labelled.{Labels}
@@ -241,6 +241,8 @@ module _ {g : Given} {s z : ℕ} (r : Ready g s z) {e₀ log₀ : List ℕ} {a :
     at : ℕ
     upto : ℕ
     labels : Labels (goGiven g s z) (d .past) at upto (labelsIn (g .sizes .n) (a .room))
+    sums : eqb (a .next) (g .sizes .n) ≡ false
+        → SumsKept (goGiven g s z) (d .past) (labelsIn (g .sizes .n) (a .room) .times) (orderOf (g .sizes .n) (a .room))
 
   ends : Ends
   ends = go (d .next)
@@ -261,6 +263,7 @@ module _ {g : Given} {s z : ℕ} (r : Ready g s z) {e₀ log₀ : List ℕ} {a :
         at = u;
         upto = k;
         labels = labels;
+        sums = λ f. absurd (true-false (eq-eqb v (g .sizes .n) q) f);
       }
       go (on u k labels full free sums inside waits next-is) =
           let short = length-le wf (grow (d .reached) free next-is) in
@@ -274,6 +277,7 @@ module _ {g : Given} {s z : ℕ} (r : Ready g s z) {e₀ log₀ : List ℕ} {a :
             at = u;
             upto = k;
             labels = labels;
+            sums = λ f. sums;
           }
         where
           used : Dec (c < min budget (g .sizes .n)) → c < g .sizes .n → v < g .sizes .n → c ≡ budget
@@ -292,6 +296,7 @@ module _ {g : Given} {s z : ℕ} (r : Ready g s z) {e₀ log₀ : List ℕ} {a :
         filling = d .filling;
         ways = λ v t lv h. way-at (labelsIn (g .sizes .n) (a .room)) (ends .labels) v t lv h;
         complete-is = ends .tells;
+        sums = ends .sums;
       })
 
 -- the run as a whole: its first candidate, and its turns. e₁, t₁, room₁ and v₁ stand when the loop begins.

@@ -15,7 +15,8 @@ use Rattle.model.specs.Estimate.{Kept}
 use Rattle.model.specs.Good.{AimFacts}
 use Rattle.road_groups.specs.Lending.{GroupsMade}
 use Rattle.search_queue.specs.Order.{blankWord}
-use Rattle.search_labels.specs.Labelling.{labelsIn}
+use Rattle.search_queue.specs.Sums.{SumsKept}
+use Rattle.search_labels.specs.Labelling.{labelsIn, orderOf}
 use Rattle.search_labels.specs.Labelled.{Way}
 use Rattle.search_junctions.specs.State.{Given, Ready, SizedIn, goGiven, mapGiven}
 use Rattle.search_junctions.specs.Asking.{Asked, Filling}
@@ -81,6 +82,8 @@ pub record Advanced (g : Given) (s z : ℕ) (H : List Entry) (l l′ : Written) 
   pub filling : Filling (mapGiven g) z (Asked (goGiven g s z) s z H) (g .down) (l .estimates) (l′ .estimates)
   pub ways : (v t : ℕ) → v < goGiven g s z .size → timeIn H v ≡ some t → Way (goGiven g s z) H v (labelsIn (g .sizes .n) (l′ .ways) .vias v)
   pub complete-is : Tells complete (Complete (goGiven g s z) H)
+  -- document 02, A4: "each kept sum is proved to be its candidate's key at every choice": after any number of steps, which a budget may be
+  pub sums : complete ≡ false → SumsKept (goGiven g s z) H (labelsIn (g .sizes .n) (l′ .ways) .times) (orderOf (g .sizes .n) (l′ .ways))
 
 -- From the beginning, as many nodes as the budget allows. A larger budget logs further ones behind these (`run-add`).
 pub record Advances (g : Given) (leaving groups : List ℕ) (s z budget : ℕ) (l l′ : Written) (c : ℕ) (complete : Bool) : Type 0 where

@@ -1,7 +1,7 @@
 // The run of a search (document 01: the search log): one node after the other is chosen, logged and gone on from; and the way back over the
 // arcs that gave the times. What a node is and where it leads is said in `search_junctions`, whose functions it calls.
 ghost use mathlib.Core.Path.{_≡_};
-ghost use Prim.Native.Nat.{_*_, _<_, _≤_, min};
+ghost use Prim.Native.Nat.{_*_, _<_, _≤_};
 ghost use lib.Dec.{eqb};
 ghost use lib.ListN.{length};
 ghost use Rattle.model.specs.Layout.{roadSize};
@@ -14,6 +14,7 @@ use areas::fill_times;
 use network::Junction;
 use network::Time;
 use network::TimeWord;
+use network::smaller;
 use search_junctions::Trip;
 use search_junctions::group_at;
 use search_junctions::step_back;
@@ -27,13 +28,6 @@ use search_queue::put;
 pub struct Progress {
     pub count: u32,
     pub complete: bool,
-}
-
-// The smaller of two numbers.
-fn smaller(a: u32, b: u32) -> u32
-    ensures { λ r. ⌜ r ≡ min a b ⌝ }
-{
-    if a < b { a } else { b }
 }
 
 // Logs one candidate after the other, until the goal is logged, no candidate is left or the budget is used up. Elapsed holds the times of
@@ -66,10 +60,10 @@ pub fn advance(
     let first = trip.ask_start(order, ranks, pairs, times, down, estimates);
     trip.begin(room, first);
     fill_times(elapsed, Time::NONE.0);
-    let most = smaller(budget, n);
+    let most = smaller(budget as usize, n as usize);
     let mut c: u32 = 0;
     let mut v = choose(room, n); // the node that is logged next, or n
-    while (v < n) & (c < most) {
+    while (v < n) & ((c as usize) < most) {
         log[c as usize] = v;
         c += 1;
         let from = time_of(room, n, v);

@@ -1,7 +1,1 @@
-pub mod Bodies
-pub mod Fitting
-pub mod Questions
-pub mod Made
-pub mod Trips
-pub mod Going
-pub mod Previewing
+pub mod Handed

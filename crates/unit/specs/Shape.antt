@@ -1,14 +1,9 @@
 -- The code's header, and what a call hands back, as document 01's. Definitions only.
 use Rattle.model.specs.Types as model
 use Rattle.unit_answers.specs.Shape.{answerIn}
-use Rattle.unit.specs.declared.Target.{Target}
-use Rattle.unit.specs.declared.Target.the-variants.{Absent, At}
+use Rattle.calls.specs.Shape.{targetIn}
 use Rattle.unit.specs.declared.Header.{Header}
 use Rattle.unit.specs.declared.Answered.{Answered}
-
-abbrev pub targetIn : Target → model.Target
-targetIn (At z) = model.At (z .0)
-targetIn Absent = model.Absent
 
 abbrev pub headerIn : Header → model.Header
 headerIn h = record { n = h .sizes .n; m = h .sizes .m; pairs = h .sizes .pairs; card = h .sizes .card; target = targetIn (h .target) }

@@ -16,7 +16,7 @@ use Rattle.model.specs.Card.{Rows}
 use Rattle.model.specs.Contracts.{WriteContract}
 use Rattle.model.specs.Areas.{Areas}
 use Rattle.model.specs.State.{Lent}
-use Rattle.model.specs.Calls.{Asked}
+use Rattle.model.specs.Calls.{Asked, Set}
 use Rattle.network.specs.Refusals.{refusalIn}
 use Rattle.network.specs.declared.Refusal as code
 use Rattle.network.specs.declared.Sizes.{Sizes}
@@ -29,19 +29,21 @@ use Rattle.unit_answers.specs.declared.Total.{Total}
 use Rattle.unit_answers.specs.declared.Change.{Change}
 use Rattle.unit_answers.specs.declared.Change.the-variants as change
 use Rattle.unit_answers.specs.Shape.{totalIn}
-use Rattle.unit.specs.declared.Target.{Target}
-use Rattle.unit.specs.declared.Target.the-variants.{Absent, At}
+use Rattle.calls.specs.declared.Target.{Target}
+use Rattle.calls.specs.declared.Target.the-variants.{Absent, At}
 use Rattle.unit.specs.declared.Header.{Header}
 use Rattle.unit.specs.declared.Answered.{Answered}
+use Rattle.unit.specs.Shape.{headerIn}
 use Rattle.unit.specs.Meets.{Meets, MeetsAlone, MeetsPreview}
-use Rattle.unit_stops.specs.declared.Legs.{Legs}
-use Rattle.unit_stops.specs.declared.Stopped.{Stopped}
-use Rattle.unit_stops.specs.declared.Stopping.{Stopping}
-use Rattle.unit_stops.specs.Legs.{MeetsStops}
+use Rattle.unit_script.specs.Script.{ReplayContract}
+use Rattle.call_stops.specs.declared.Legs.{Legs}
+use Rattle.unit.specs.declared.Stopped.{Stopped}
+use Rattle.call_stops.specs.declared.Stopping.{Stopping}
+use Rattle.unit.specs.Stops.{MeetsStops}
 use Rattle.unit_c.specs.declared.UnitHeader.{UnitHeader}
 use Rattle.unit_c.specs.declared.UnitAnswer.{UnitAnswer}
 use Rattle.unit_c.specs.declared.UnitStops.{UnitStops}
-use Rattle.unit_c.specs.Answers.{Tells, answerTo, answerWords, comparedTo, previewWords, targetOf}
+use Rattle.unit_c.specs.Answers.{Tells, TellsHeader, answerTo, answerWords, comparedTo, headerWords, previewWords, targetOf}
 use Rattle.unit_c.specs.Stops.{TellsStops, stoppingTo, stopsWords}
 use Rattle.unit_c.specs.Words.{Wrote, readingNumber, readingWords}
 
@@ -83,11 +85,26 @@ module _ {card : List ℕ} {a : Both Areas Areas} {c : Asked} {h k : Header} {w 
   pub alone-told : MeetsAlone card h a c x → Tells (MeetsAlone card k a c) w
   alone-told m = (x, told, subst (λ (y : Header). MeetsAlone card y a c x) e m)
 
-pub preview-told : {card : List ℕ} {a : Both Areas Areas} {work work′ : List ℕ} {class road time start : ℕ} {h k : Header}
-    {w : UnitAnswer} (x : Answered) → h ≡ k → w ≡ answerWords x → MeetsPreview card h a work work′ class road time start x
-    → Tells (MeetsPreview card k a work work′ class road time start) w
-preview-told {card} {a} {work} {work′} {class} {road} {time} {start} x e told m =
-    (x, told, subst (λ (y : Header). MeetsPreview card y a work work′ class road time start x) e m)
+-- t is the time of C's word u
+pub set-told : {card : List ℕ} {a : Both Areas Areas} {road t u : ℕ} {h k : Header} {w : UnitAnswer} (x : Answered)
+    → h ≡ k → w ≡ answerWords x → t ≡ u → MeetsAlone card h a (Set road t) x → Tells (MeetsAlone card k a (Set road u)) w
+set-told {card} {a} {road} {h = h} x e told time-is m =
+    alone-told x e told (subst (λ (t : ℕ). MeetsAlone card h a (Set road t) x) time-is m)
+
+pub preview-told : {card : List ℕ} {a : Both Areas Areas} {work work′ : List ℕ} {class road t u start : ℕ} {h k : Header}
+    {w : UnitAnswer} (x : Answered) → h ≡ k → w ≡ answerWords x → t ≡ u → MeetsPreview card h a work work′ class road t start x
+    → Tells (MeetsPreview card k a work work′ class road u start) w
+preview-told {card} {a} {work} {work′} {class} {road} {u = u} {start = start} {h} {k} x e told time-is m =
+    let timed = subst (λ (t : ℕ). MeetsPreview card h a work work′ class road t start x) time-is m in
+    (x, told, subst (λ (y : Header). MeetsPreview card y a work work′ class road u start x) e timed)
+
+-- ---- a script
+
+pub replay-told : {card : List ℕ} {a : Both Areas Areas} {l : Both Lent Lent} {v : ℕ} {script out₀ out : List ℕ} {h k : Header}
+    {w : UnitHeader} (x : Header) → h ≡ k → w ≡ headerWords x → ReplayContract card (headerIn h) a l v script out₀ out (headerIn x)
+    → TellsHeader (λ y. ReplayContract card (headerIn k) a l v script out₀ out (headerIn y)) w
+replay-told {card} {a} {l} {v} {script} {out₀} {out} x e told m =
+    (x, told, subst (λ (y : Header). ReplayContract card (headerIn y) a l v script out₀ out (headerIn x)) e m)
 
 -- ---- a list of stops
 

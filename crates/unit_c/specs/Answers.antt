@@ -11,8 +11,8 @@ use Rattle.unit_answers.specs.declared.Answer.the-variants.{Accepted, Estimated
 use Rattle.unit_answers.specs.declared.Change.{Change}
 use Rattle.unit_answers.specs.declared.Change.the-variants as change
 use Rattle.unit_answers.specs.Shape.{totalIn}
-use Rattle.unit.specs.declared.Target.{Target}
-use Rattle.unit.specs.declared.Target.the-variants.{Absent, At}
+use Rattle.calls.specs.declared.Target.{Target}
+use Rattle.calls.specs.declared.Target.the-variants.{Absent, At}
 use Rattle.unit.specs.declared.Header.{Header}
 use Rattle.unit.specs.declared.Answered.{Answered}
 use Rattle.unit_c.specs.declared.UnitHeader.{UnitHeader}
@@ -89,6 +89,10 @@ answerTo h (Previewed a b c) = comparedTo h (word (totalIn a)) (word (totalIn b)
 -- the words that stand for what is handed back
 abbrev pub answerWords : Answered → UnitAnswer
 answerWords r = answerTo (headerWords (r .header)) (r .answer)
+
+-- the words of a header that P holds of
+abbrev pub TellsHeader : (P : Header → Type 0) → UnitHeader → Type 0
+TellsHeader P w = (k : Header) × (w ≡ headerWords k) × P k
 
 -- the words of something handed back that P holds of
 abbrev pub Tells : (P : Answered → Type 0) → UnitAnswer → Type 0

@@ -1,10 +1,10 @@
 -- What a list of stops hands back, as C holds it. Definitions only.
 use mathlib.Core.Path.{_≡_}
 use Prim.Native.Nat.{ℕ}
-use Rattle.unit_stops.specs.declared.Legs.{Legs}
-use Rattle.unit_stops.specs.declared.Stopped.{Stopped}
-use Rattle.unit_stops.specs.declared.Stopping.{Stopping}
-use Rattle.unit_stops.specs.declared.Stopping.the-variants as stopping
+use Rattle.call_stops.specs.declared.Legs.{Legs}
+use Rattle.unit.specs.declared.Stopped.{Stopped}
+use Rattle.call_stops.specs.declared.Stopping.{Stopping}
+use Rattle.call_stops.specs.declared.Stopping.the-variants as stopping
 use Rattle.unit_c.specs.declared.UnitHeader.{UnitHeader}
 use Rattle.unit_c.specs.declared.UnitStops.{UnitStops}
 use Rattle.unit_c.specs.Answers.{headerWords}

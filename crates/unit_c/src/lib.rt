@@ -8,13 +8,18 @@ ghost use Rattle.card.specs.Answers.{rowsOf};
 ghost use Rattle.network.specs.Lending.{areas};
 ghost use Rattle.unit_questions.specs.Lending.{lent};
 ghost use Rattle.unit_preparing.specs.Preparing.{Prepares};
-ghost use Rattle.unit.specs.Shape.{answeredIn};
+ghost use Rattle.unit.specs.Shape.{answeredIn, headerIn};
 ghost use Rattle.unit.specs.Meets.{Meets, MeetsAlone, MeetsPreview};
-ghost use Rattle.unit_stops.specs.Legs.{MeetsStops};
+ghost use Rattle.unit.specs.Stops.{MeetsStops};
 ghost use Rattle.unit_script.specs.Script.{ReplayContract};
-ghost use Rattle.unit_c.specs.Answers.{Tells, answerWords, comparedTo, headerOf, headerWords, plainWords, previewWords, targetOf};
+ghost use Rattle.unit_c.specs.Answers.{Tells, TellsHeader, answerWords, comparedTo};
+ghost use Rattle.unit_c.specs.Answers.{headerOf, headerWords, plainWords, previewWords, targetOf};
 ghost use Rattle.unit_c.specs.Stops.{TellsStops, stopsTo, stopsWords};
 ghost use Rattle.unit_c.specs.Words.{Wrote, readingNumber, readingWords};
+use call_stops::Legs;
+use call_stops::MOST_LEGS;
+use call_stops::Stopping;
+use calls::Target;
 use card::Reading;
 use card::Writing;
 use network::Junction;
@@ -23,13 +28,9 @@ use network::Time;
 use network::TimeWord;
 use unit::Answered;
 use unit::Header;
-use unit::Target;
+use unit::Stopped;
 use unit_answers::Answer;
 use unit_answers::Change;
-use unit_stops::Legs;
-use unit_stops::MOST_LEGS;
-use unit_stops::Stopped;
-use unit_stops::Stopping;
 
 // ---- headers and answers as C holds them
 
@@ -344,7 +345,7 @@ pub extern "C" fn unit_set(
         leaving,
         groups,
         road,
-        Time(time),
+        Time::of_word(time),
     ))
 }
 
@@ -498,7 +499,7 @@ pub extern "C" fn unit_preview(
         work,
         class,
         road,
-        Time(time),
+        Time::of_word(time),
         Junction(start),
     ))
 }
@@ -526,8 +527,7 @@ pub extern "C" fn unit_stops(
         (areas ranks pairs times live down estimates elapsed leaving groups) (lent route log) class (now (stops .entry))) r ⌝ }
 {
     let h = header_of(header);
-    stopped_of(unit_stops::stops(
-        h,
+    stopped_of(h.stops(
         card,
         ranks,
         pairs,
@@ -547,36 +547,39 @@ pub extern "C" fn unit_stops(
 
 // ---- a script
 
-// Prepares a card on the nine areas and makes the calls of a script: a kind, and as many words as that call has. 0 road time is a set, 1
-// junction an aim, 2 junction an estimate, 3 class start r l a go, which is lent the first r entries of the route and l of the log, all if
-// there are fewer, 4 class road time start a preview, which is lent the work area, 5 class s r l and then s stops a list of stops, lent as
-// a go; a time takes two words, the lower one first. Any other kind ends the script, and so does a call that is cut short. `out` gets 66
-// words for each answer: the question that refuses, or 0; estimate, total or the leg of 17; count; number of roads; of a preview 0, present
-// total, new total, change as two's complement; of a list of stops 0, whole total, 0, number of legs; then total and number of roads of
-// each of 31 legs, 0 where there is none. As many calls are made as `out` has room for. What is handed back is preparing's answer with the
-// last header.
+// Makes the calls of a script from a header and the areas that belong to it: a kind, and as many words as that call has. 0 road time is a
+// set, 1 junction an aim, 2 junction an estimate, 3 class start r l a go, which is lent the first r entries of the route and l of the log,
+// all if there are fewer, 4 class road time start a preview, which is lent the work area, 5 class s r l and then s stops a list of stops,
+// lent as a go; a time takes two words, the lower one first. Any other kind ends the script, and so does a call that is cut short. `out`
+// gets 66 words for each answer: the question that refuses, or 0; estimate, total or the leg of 17; count; number of roads; of a preview 0,
+// present total, new total, change as two's complement; of a list of stops 0, whole total, 0, number of legs; then total and number of
+// roads of each of 31 legs, 0 where there is none. As many calls are made as `out` has room for. What is handed back is the last header.
 #[no_mangle]
 pub extern "C" fn unit_replay(
+    header: UnitHeader,
     card: &[u8],
-    ranks: &mut [u32],
-    pairs: &mut [u32],
-    times: &mut [TimeWord],
+    ranks: &[u32],
+    pairs: &[u32],
+    times: &[TimeWord],
     live: &mut [TimeWord],
     down: &mut [TimeWord],
     estimates: &mut [TimeWord],
     elapsed: &mut [TimeWord],
-    leaving: &mut [u32],
-    groups: &mut [u32],
+    leaving: &[u32],
+    groups: &[u32],
     route: &mut [u32],
     log: &mut [u32],
     work: &mut [TimeWord],
     script: &[u32],
     out: &mut [u64],
-) -> UnitAnswer
-    ensures { λ r. ⌜ Tells (λ x. ReplayContract (now (card .entry)) (areas ranks pairs times live down estimates elapsed leaving groups)
-        (lent route log) (length (now (work .entry))) (now (script .entry)) (now (out .entry)) (now (out .exit)) (answeredIn x)) r ⌝ }
+) -> UnitHeader
+    ensures { λ r. ⌜ TellsHeader (λ k. ReplayContract (now (card .entry)) (headerIn (headerOf header))
+        (areas ranks pairs times live down estimates elapsed leaving groups) (lent route log) (length (now (work .entry)))
+        (now (script .entry)) (now (out .entry)) (now (out .exit)) (headerIn k)) r ⌝ }
 {
-    answer_of(unit_script::replay(
+    let h = header_of(header);
+    words_of(unit_script::replay(
+        h,
         card,
         ranks,
         pairs,

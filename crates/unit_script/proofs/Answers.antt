@@ -14,11 +14,11 @@ use Rattle.graph.specs.Total.{Total}
 use Rattle.model.specs.Types.{Answer, Leg, Previewed}
 use Rattle.model.specs.Word.{word}
 use Rattle.model.specs.Limits.{mostLegs}
-use Rattle.unit_stops.specs.Shape.{legCount, legsFrom, stoppingIn}
-use Rattle.unit_stops.specs.Legs.{Rest}
-use Rattle.unit_stops.specs.declared.Stopped as stops
-use Rattle.unit_stops.specs.declared.Stopping.{Stopping}
-use Rattle.unit_stops.specs.declared.Stopping.the-variants as stopping
+use Rattle.call_stops.specs.Shape.{legCount, legsFrom, stoppingIn}
+use Rattle.unit.specs.Stops.{Rest}
+use Rattle.unit.specs.declared.Stopped as stops
+use Rattle.call_stops.specs.declared.Stopping.{Stopping}
+use Rattle.call_stops.specs.declared.Stopping.the-variants as stopping
 use Rattle.unit_script.specs.declared.Made.{Made}
 use Rattle.unit_script.specs.Words.{answerSize, answerWords, changeWord, fourWords, legWords, legsOf, legsWords, madeWords}
 use Rattle.unit_script.specs.Words.{putAt}

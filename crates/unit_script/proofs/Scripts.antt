@@ -26,8 +26,8 @@ use Rattle.unit_script.specs.declared.Asked as code-asked
 use Rattle.unit_script.specs.declared.Asked.the-variants as scripts
 use Rattle.unit_script.specs.declared.Scripted.{Scripted}
 use Rattle.unit_script.specs.Words.{Lending, answerSize, answerWords, askedIn, callAt, endAt, isCall, putAt, roomIn, scriptedIn}
-use Rattle.unit_script.specs.Script.{Held, Made, OneContract, ReplayContract, answersOf, begun, callsIn, callsOf, held, holding}
-use Rattle.unit_script.specs.Script.{isNext, lend, lending, machineAnswers, onward, scripted, told}
+use Rattle.unit_script.specs.Script.{Held, Made, OneContract, PreparedOn, PreparedReplay, ReplayContract, answersOf, begun, callsIn}
+use Rattle.unit_script.specs.Script.{callsOf, held, holding, isNext, lend, lending, machineAnswers, onward, scripted, told}
 use Rattle.unit_script.proofs.Words.{call-fits, ends-within}
 
 -- ---- the words of an answer
@@ -317,25 +317,43 @@ machine-answers C m [] (u ∷ r) d = absurd d
 machine-answers C m (c ∷ l) [] d = absurd d
 machine-answers C m (c ∷ l) (u ∷ r) d = ap₂ _∷_ (d .0 .same .answer) (machine-answers C (machineStep C m (plain c) .next) l r (d .1))
 
--- from a preparing on the areas a, which left a′ and handed back y
-pub replay-made : {card : List ℕ} {a b : Areas} {l m : Lent} {w : ℕ} {script out₀ out : List ℕ} {a′ : Areas} (y : Answered) {x : Answered}
-    → PrepareContract card a a′ y → x .answer ≡ y .answer
-    → Made card (callsIn script (lending l w) out₀) out₀ out (holding (y .header) a′ l) (holding (x .header) b m)
-    → ReplayContract card (record { entry = a; exit = b }) (record { entry = l; exit = m }) w script out₀ out x
-replay-made {card} {a} {b} {l} {m} {w} {script} {out₀} {out} y {x} e f c =
+-- a run as a replay
+pub replay-made : {card : List ℕ} {h k : Header} {a b : Areas} {l m : Lent} {w : ℕ} {script out₀ out : List ℕ}
+    → Made card (callsIn script (lending l w) out₀) out₀ out (holding h a l) (holding k b m)
+    → ReplayContract card h (record { entry = a; exit = b }) (record { entry = l; exit = m }) w script out₀ out k
+replay-made {card} {h} {k} {a} {b} {l} {m} {w} {script} {out₀} {out} run =
+    let demand : (c : Areas) → prepare card c .answer ≡ Accepted → PreparedOn card c (before h a)
+    → Demand3 (cardMap card) (started (mapOn card)) (run .calls) (run .results) =
+    λ c q e. chain-demand3 card c q (run .calls) (run .results)
+    (subst (λ (s : State). Chain card s (run .calls) (run .results)) e (run .meets)) in
+    record {
+      made = run;
+      exact = λ left. chain-steps card (before h a) (run .calls) (run .results) left (run .meets);
+      demand = demand;
+      machine = λ c q e.
+          run .written
+          ∙ ap (λ (z : List Answer). first (told z) out₀)
+          (machine-answers (cardMap card) (started (mapOn card)) (run .calls) (run .results) (demand c q e)
+          ∙ ap (machineAnswers (cardMap card) (started (mapOn card))) (run .fed));
+    }
+
+-- a preparing on the areas a, which left a′ and handed back y, and then a replay of what it left
+pub prepared-replay : {card : List ℕ} {a a′ b : Areas} {l m : Lent} {w : ℕ} {script out₀ out : List ℕ} (y : Answered) {k : Header}
+    → PrepareContract card a a′ y
+    → ReplayContract card (y .header) (record { entry = a′; exit = b }) (record { entry = l; exit = m }) w script out₀ out k
+    → PreparedReplay card (record { entry = a; exit = b }) (record { entry = l; exit = m }) w script out₀ out
+    (record { header = k; answer = y .answer })
+prepared-replay {card} {a} {a′} {b} {l} {m} {w} {script} {out₀} {out} y {k} e r =
     let spelled : List Plain = callsIn script (lending l w) out₀ in
-    let run : Made card spelled out₀ out (begun card a l) (holding (x .header) b m) =
-    subst (λ (u : Step). Made card spelled out₀ out (record { state = u .state; lent = l }) (holding (x .header) b m)) e c in
+    let state-is : before (y .header) a′ ≡ prepare card a .state = ap (λ (u : Step). u .state) e in
+    let run : Made card spelled out₀ out (begun card a l) (holding k b m) =
+    subst (λ (s : State). Made card spelled out₀ out (record { state = s; lent = l }) (holding k b m)) state-is (r .made) in
     let demand : prepare card a .answer ≡ Accepted → Demand3 (cardMap card) (started (mapOn card)) (run .calls) (run .results) =
     λ q. chain-demand3 card a q (run .calls) (run .results) (run .meets) in
     record {
-      prepared = f ∙ ap (λ (u : Step). u .answer) e;
+      prepared = ap (λ (u : Step). u .answer) e;
       made = run;
       exact = chain-steps card (prepare card a .state) (run .calls) (run .results) (left-prepared card a) (run .meets);
       demand = demand;
-      machine = λ q.
-          run .written
-          ∙ ap (λ (z : List Answer). first (told z) out₀)
-          (machine-answers (cardMap card) (started (mapOn card)) (run .calls) (run .results) (demand q)
-          ∙ ap (machineAnswers (cardMap card) (started (mapOn card))) (run .fed));
+      machine = λ q. r .machine a q state-is;
     }

@@ -11,7 +11,7 @@ use Rattle.model.specs.Card.{CardMap, cardMap, mapOn}
 use Rattle.model.specs.Areas.{Areas}
 use Rattle.model.specs.State.{Lent, State, Step, first, prepare}
 use Rattle.model.specs.Machine.{Machine, started}
-use Rattle.model.specs.Calls.{Call, Plain, calling, machineStep, plain, steps}
+use Rattle.model.specs.Calls.{Call, Left, Plain, calling, machineStep, plain, steps}
 use Rattle.model.specs.Demand3.{Demand3}
 use Rattle.model.specs.Contracts.{CallContract, before}
 use Rattle.model.specs.Chain.{Chain}
@@ -109,18 +109,34 @@ pub record OneContract (card : List ℕ) (h : Header) (a : Both Areas Areas) (l 
   pub meets : CallContract card (before h (a .entry)) (lend (l .entry) p) left
   pub leaves : holding k (a .exit) (l .exit) ≡ onward (holding h (a .entry) (l .entry)) left
 
--- the loop of calls, from the header h to the header k, with a work area of w entries
-abbrev pub MakeContract : (card : List ℕ) → Header → Both Areas Areas → Both Lent Lent → (w : ℕ) (script out₀ out : List ℕ) → Header
-    → Type 0
-MakeContract card h a l w script out₀ out k =
-    Made card (callsIn script (lending (l .entry) w) out₀) out₀ out (holding h (a .entry) (l .entry)) (holding k (a .exit) (l .exit))
+-- the areas and header that preparing on the areas b left
+abbrev pub PreparedOn : (card : List ℕ) → (b : Areas) → State → Type 0
+PreparedOn card b s = s ≡ prepare card b .state
+
+-- the contract of a replay from the header h and the areas a: it lends its calls of route and log, l, and a work area of w entries, and
+-- hands the header k back
+pub record ReplayContract (card : List ℕ) (h : Header) (a : Both Areas Areas) (l : Both Lent Lent) (w : ℕ) (script out₀ out : List ℕ)
+    (k : Header) : Type 0 where
+  -- the run, whatever header and areas hold
+  pub made : Made card (callsIn script (lending (l .entry) w) out₀) out₀ out
+      (holding h (a .entry) (l .entry)) (holding k (a .exit) (l .exit))
+  -- where a list of calls left header and areas, what its calls answered and left is what the step functions say
+  pub exact : Left card (before h (a .entry)) → made .results ≡ steps card (before h (a .entry)) (made .calls)
+  -- where they are as an accepted preparing left them, demand 3 of the whole list, as it was made and answered
+  pub demand : (b : Areas) → prepare card b .answer ≡ Accepted → PreparedOn card b (before h (a .entry))
+      → Demand3 (cardMap card) (started (mapOn card)) (made .calls) (made .results)
+  -- so the words written are those of the plain machine, fed the script
+  pub machine : (b : Areas) → prepare card b .answer ≡ Accepted → PreparedOn card b (before h (a .entry))
+      → out ≡ first (told (machineAnswers (cardMap card) (started (mapOn card)) (callsIn script (lending (l .entry) w) out₀))) out₀
+
+-- ---- a preparing, and a replay of what it left
 
 -- the areas and header that preparing on the areas a left, and route and log
 abbrev pub begun : (card : List ℕ) → Areas → Lent → Held
 begun card a l = record { state = prepare card a .state; lent = l }
 
--- the contract of a replay that prepares on the areas a, lends its calls of route and log, l, and a work area of w entries, hands x back
-pub record ReplayContract (card : List ℕ) (a : Both Areas Areas) (l : Both Lent Lent) (w : ℕ) (script out₀ out : List ℕ) (x : Answered)
+-- what both together do: on the areas a, with the answer x of the preparing and the header of the replay
+pub record PreparedReplay (card : List ℕ) (a : Both Areas Areas) (l : Both Lent Lent) (w : ℕ) (script out₀ out : List ℕ) (x : Answered)
     : Type 0 where
   pub prepared : x .answer ≡ prepare card (a .entry) .answer
   -- the run, from what preparing left

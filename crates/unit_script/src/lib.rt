@@ -9,23 +9,24 @@ ghost use Rattle.unit_answers.specs.Shape.{answerIn, callIn, changeIn};
 ghost use Rattle.network.specs.Lending.{areas};
 ghost use Rattle.unit_questions.specs.Lending.{lent};
 ghost use Rattle.unit.specs.Shape.{answeredIn, headerIn};
-ghost use Rattle.unit_stops.specs.Shape.{stoppingIn};
-ghost use Rattle.unit_stops.specs.Legs.{Rest};
+ghost use Rattle.call_stops.specs.Shape.{stoppingIn};
+ghost use Rattle.unit.specs.Stops.{Rest};
 ghost use Rattle.unit_script.specs.Words.{answerSize, answerWords, changeWord, legsWords, madeWords, putAt, roomIn};
 ghost use Rattle.unit_script.specs.Words.{callAt, endAt, scriptedIn, spelled, stopsAt, timeOf, wordsOf};
-ghost use Rattle.unit_script.specs.Script.{MakeContract, OneContract, ReplayContract, isNext};
+ghost use Rattle.unit_script.specs.Script.{OneContract, ReplayContract, isNext};
+use call_stops::Legs;
+use call_stops::MOST_LEGS;
+use call_stops::Stopping;
 use network::Junction;
 use network::Time;
 use network::TimeWord;
+use network::smaller;
 use unit::Answered;
 use unit::Header;
+use unit::Stopped;
 use unit_answers::Answer;
 use unit_answers::Call;
 use unit_answers::Change;
-use unit_stops::Legs;
-use unit_stops::MOST_LEGS;
-use unit_stops::Stopped;
-use unit_stops::Stopping;
 
 // ---- the words of a call
 
@@ -195,13 +196,6 @@ fn call_at(script: &[u32], at: usize, route: usize, log: usize) -> Scripted
         route,
         log,
     )
-}
-
-// The smaller of two numbers.
-fn smaller(a: usize, b: usize) -> usize
-    ensures { λ r. ⌜ r ≡ min a b ⌝ }
-{
-    if a < b { a } else { b }
 }
 
 // The stops of a list that stands there, as far as the script has them.
@@ -426,8 +420,7 @@ fn make_call(
             time,
             start,
         )),
-        Asked::Stops(class) => of_stopped(unit_stops::stops(
-            header,
+        Asked::Stops(class) => of_stopped(header.stops(
             card,
             ranks,
             pairs,
@@ -446,8 +439,9 @@ fn make_call(
     }
 }
 
-// Makes the calls of a script from a header and the areas that belong to it, and hands the last header back.
-fn make_calls(
+// Makes the calls of a script from a header and the areas that belong to it, as preparing or calls left them; writes the words of each
+// answer. A preview is lent the work area. Hands the last header back.
+pub fn replay(
     start: Header,
     card: &[u8],
     ranks: &[u32],
@@ -465,8 +459,9 @@ fn make_calls(
     script: &[u32],
     out: &mut [u64],
 ) -> Header
-    ensures { λ h. ⌜ MakeContract (now (card .entry)) (headerIn start) (areas ranks pairs times live down estimates elapsed leaving groups)
-        (lent route log) (length (now (work .entry))) (now (script .entry)) (now (out .entry)) (now (out .exit)) (headerIn h) ⌝ }
+    ensures { λ h. ⌜ ReplayContract (now (card .entry)) (headerIn start)
+        (areas ranks pairs times live down estimates elapsed leaving groups) (lent route log)
+        (length (now (work .entry))) (now (script .entry)) (now (out .entry)) (now (out .exit)) (headerIn h) ⌝ }
 {
     let room = room_in(out.len());
     let mut h = start;
@@ -498,64 +493,4 @@ fn make_calls(
         k += 1;
     }
     h
-}
-
-// Prepares the card and makes the calls of a script; writes the words of each answer. A preview is lent the work area.
-// Hands back preparing's answer and the last header.
-pub fn replay(
-    card: &[u8],
-    ranks: &mut [u32],
-    pairs: &mut [u32],
-    times: &mut [TimeWord],
-    live: &mut [TimeWord],
-    down: &mut [TimeWord],
-    estimates: &mut [TimeWord],
-    elapsed: &mut [TimeWord],
-    leaving: &mut [u32],
-    groups: &mut [u32],
-    route: &mut [u32],
-    log: &mut [u32],
-    work: &mut [TimeWord],
-    script: &[u32],
-    out: &mut [u64],
-) -> Answered
-    ensures { λ r. ⌜ ReplayContract (now (card .entry)) (areas ranks pairs times live down estimates elapsed leaving groups)
-        (lent route log) (length (now (work .entry))) (now (script .entry)) (now (out .entry)) (now (out .exit)) (answeredIn r) ⌝ }
-{
-    let prepared = unit_switch_on::prepare(
-        card,
-        ranks,
-        pairs,
-        times,
-        live,
-        down,
-        estimates,
-        elapsed,
-        leaving,
-        groups,
-    );
-    let header = prepared.header;
-    let answer = prepared.answer;
-    let last = make_calls(
-        header,
-        card,
-        ranks,
-        pairs,
-        times,
-        live,
-        down,
-        estimates,
-        elapsed,
-        leaving,
-        groups,
-        route,
-        log,
-        work,
-        script,
-        out,
-    );
-    Answered {
-        header: last,
-        answer: answer,
-    }
 }

@@ -7,6 +7,7 @@ ghost use Rattle.unit_questions.specs.Lending.{lengthsIn};
 ghost use Rattle.unit_preparing.specs.Preparing.{Prepares, handedBack, refusedBy};
 ghost use Rattle.unit.specs.Shape.{answeredIn};
 ghost use Rattle.unit_switch_on.specs.Asking.{Says};
+use calls::Target;
 use card::Reading;
 use network::Refusal;
 use network::Sizes;
@@ -14,7 +15,6 @@ use network::TimeWord;
 use pairs_contraction::Contracted;
 use unit::Answered;
 use unit::Header;
-use unit::Target;
 use unit_answers::Answer;
 use unit_questions::Lengths;
 

@@ -25,14 +25,9 @@ returns c = fill-end (c .before .loop .inv) (c .loop-test .left)
 pub fill-spec : {M : Type 1} → statement M
 fill-spec =
     tie.close
-    (tie.spec
-    Inv-loop
-    μ-loop
+    (tie.spec Inv-loop μ-loop
     (λ c. fill-start)
-    (λ c. search needs)
-    (λ c. search needs)
-    (λ c. search needs)
-    loop-less
-    loop-again
+    (λ c. search needs) (λ c. search needs) (λ c. search needs)
+    loop-less loop-again
     (λ c. search needs)
     returns)

@@ -20,46 +20,49 @@ use Rattle.card.proofs.read.Tie as tie
 
 -- the number of sections is what was read
 counted : (c : tie.After-count-ok) →
-    let start = c .before .before .before .before in
+    let start : tie.Start = search in
     countOk (sections (start .args .card .now)) ≡ c .count-ok .result
 counted c = ap countOk (sym (c .before .sections .ensures)) ∙ sym (c .count-ok .ensures)
 
 abbrev start : tie.Else3 → tie.Start
-start c = c .before .before .before .before .before .before .before
+start c = search
 
 table : (c : tie.Else3) → Tabled (start c .args .card .now)
 table c =
-    let after-table-size = c .before in
-    let else2 = after-table-size .before in
-    let after-count-ok = else2 .before in
-    let after-sections = after-count-ok .before in
-    let else1 = after-sections .before in record {
+    let after-table-size : tie.After-table-size = search in
+    let else2 : tie.Else2 = search in
+    let after-sections : tie.After-sections = search in
+    let else1 : tie.Else1 = search in
+    record {
       four = else1 .if1 .left;
-      count = counted after-count-ok ∙ not-false _ (else2 .if2 .left);
+      count = counted (search) ∙ not-false _ (else2 .if2 .left);
       long = omega (arith, c .if3 .left, after-table-size .table-size .ensures, after-sections .sections .ensures);
     }
 
 -- the third length was compared with the number of roads
 third : (c : tie.After-access-fits) →
-    let else3 = c .before .before .before .before .before .before in
-    accessFits (start else3 .args .card .now) (length (roadsIn (start else3 .args .card .now)) / roadSize)
-    ≡ c .access-fits .result
+    let start : tie.Start = search in
+    accessFits (start .args .card .now) (length (roadsIn (start .args .card .now)) / roadSize) ≡ c .access-fits .result
 third c =
-    let else3 = c .before .before .before .before .before .before in
-    let card = start else3 .args .card .now in
-    ap (λ (l : List ℕ). accessFits card (length l / roadSize)) (sym (c .before .roads-of .ensures)) ∙ sym (c .access-fits .ensures)
+    let after-roads-of : tie.After-roads-of = search in
+    let start : tie.Start = search in
+    let card = start .args .card .now in
+    ap (λ (l : List ℕ). accessFits card (length l / roadSize)) (sym (after-roads-of .roads-of .ensures)) ∙ sym (c .access-fits .ensures)
 
 abbrev else3 : tie.Else6 → tie.Else3
-else3 c = c .before .before .before .before .before .before .before
+else3 c = search
 
 right : (c : tie.Else6) → Right (start (else3 c) .args .card .now)
 right c =
-    let else5 = c .before .before .before in
-    let else4 = else5 .before .before in record {
-      table = table (else3 c);
-      kinds = sym (else4 .before .kinds-ok .ensures) ∙ not-false _ (else4 .if4 .left);
-      starts = sym (else5 .before .starts-ok .ensures) ∙ not-false _ (else5 .if5 .left);
-      third = third (c .before) ∙ not-false _ (c .if6 .left);
+    let else5 : tie.Else5 = search in
+    let after-starts-ok : tie.After-starts-ok = search in
+    let else4 : tie.Else4 = search in
+    let after-kinds-ok : tie.After-kinds-ok = search in
+    record {
+      table = table (search);
+      kinds = sym (after-kinds-ok .kinds-ok .ensures) ∙ not-false _ (else4 .if4 .left);
+      starts = sym (after-starts-ok .starts-ok .ensures) ∙ not-false _ (else5 .if5 .left);
+      third = third (search) ∙ not-false _ (c .if6 .left);
     }
 
 -- ---- the answers
@@ -69,44 +72,42 @@ returns c = read-1 _ (c .if1 .taken)
 
 returns-2 : tie.Need-returns-2
 returns-2 c =
-    let after-count-ok = c .before in
-    let else1 = after-count-ok .before .before in
-    read-2 _ (else1 .if1 .left) (counted after-count-ok ∙ not-true _ (c .if2 .taken))
+    let else1 : tie.Else1 = search in
+    read-2 _ (else1 .if1 .left) (counted (search) ∙ not-true _ (c .if2 .taken))
 
 returns-3 : tie.Need-returns-3
 returns-3 c =
-    let after-table-size = c .before in
-    let else2 = after-table-size .before in
-    let after-count-ok = else2 .before in
-    let after-sections = after-count-ok .before in
-    read-1-table _ (after-sections .before .if1 .left) (counted after-count-ok ∙ not-false _ (else2 .if2 .left))
+    let after-table-size : tie.After-table-size = search in
+    let else2 : tie.Else2 = search in
+    let after-sections : tie.After-sections = search in
+    let else1 : tie.Else1 = search in
+    read-1-table _ (else1 .if1 .left) (counted (search) ∙ not-false _ (else2 .if2 .left))
     (omega (arith, c .if3 .taken, after-table-size .table-size .ensures, after-sections .sections .ensures))
 
 returns-4 : tie.Need-returns-4
 returns-4 c =
-    let after-kinds-ok = c .before in
-    read-2-kinds (table (after-kinds-ok .before)) (sym (after-kinds-ok .kinds-ok .ensures) ∙ not-true _ (c .if4 .taken))
+    let after-kinds-ok : tie.After-kinds-ok = search in
+    read-2-kinds (table (search)) (sym (after-kinds-ok .kinds-ok .ensures) ∙ not-true _ (c .if4 .taken))
 
 returns-5 : tie.Need-returns-5
 returns-5 c =
-    let after-starts-ok = c .before in
-    let else4 = after-starts-ok .before in
-    let after-kinds-ok = else4 .before in
-    read-3 (table (after-kinds-ok .before)) (sym (after-kinds-ok .kinds-ok .ensures) ∙ not-false _ (else4 .if4 .left))
+    let after-starts-ok : tie.After-starts-ok = search in
+    let else4 : tie.Else4 = search in
+    let after-kinds-ok : tie.After-kinds-ok = search in
+    read-3 (table (search)) (sym (after-kinds-ok .kinds-ok .ensures) ∙ not-false _ (else4 .if4 .left))
     (sym (after-starts-ok .starts-ok .ensures) ∙ not-true _ (c .if5 .taken))
 
 returns-6 : tie.Need-returns-6
 returns-6 c =
-    let after-access-fits = c .before in
-    let else5 = after-access-fits .before .before in
-    let after-starts-ok = else5 .before in
-    let else4 = after-starts-ok .before in
-    let after-kinds-ok = else4 .before in
-    read-4 (table (after-kinds-ok .before)) (sym (after-kinds-ok .kinds-ok .ensures) ∙ not-false _ (else4 .if4 .left))
-    (sym (after-starts-ok .starts-ok .ensures) ∙ not-false _ (else5 .if5 .left)) (third after-access-fits ∙ not-true _ (c .if6 .taken))
+    let else5 : tie.Else5 = search in
+    let after-starts-ok : tie.After-starts-ok = search in
+    let else4 : tie.Else4 = search in
+    let after-kinds-ok : tie.After-kinds-ok = search in
+    read-4 (table (search)) (sym (after-kinds-ok .kinds-ok .ensures) ∙ not-false _ (else4 .if4 .left))
+    (sym (after-starts-ok .starts-ok .ensures) ∙ not-false _ (else5 .if5 .left)) (third (search) ∙ not-true _ (c .if6 .taken))
 
 abbrev after-check : tie.After-order-of → tie.After-check
-after-check c = c .before .before .before
+after-check c = search
 
 -- the verdict, once nothing was refused
 passed : (c : tie.After-order-of) → none ≡ verdictIn (after-check c .check .result)
@@ -114,26 +115,27 @@ passed c = ap verdictIn (sym (c .before .enum-told .given .1))
 
 cast-t21 : tie.Need-cast-t21
 cast-t21 c =
-    let after-check = after-check c in
-    record { fits = n-fits (right (after-check .before)) (after-check .check .ensures) (passed c) (ap length (c .order-of .ensures)) }
+    let after-check : tie.After-check = search in
+    record { fits = n-fits (right (search)) (after-check .check .ensures) (passed c) (ap length (c .order-of .ensures)) }
 
 cast-t22 : tie.Need-cast-t22
 cast-t22 c =
-    let after-check = after-check c in
-    let after-roads-of = after-check .before .before .before in
+    let after-check : tie.After-check = search in
+    let after-roads-of : tie.After-roads-of = search in
     let length-is = ap length (after-roads-of .roads-of .ensures) in
-    record { fits = m-fits (right (after-check .before)) (after-check .check .ensures) (passed c) length-is }
+    record { fits = m-fits (right (search)) (after-check .check .ensures) (passed c) length-is }
 
 returns-7 : tie.Need-returns-7
 returns-7 c =
-    let after-check = c .before .before .before in
-    read-failed (right (after-check .before)) (after-check .check .ensures) (ap verdictIn (sym (c .before .q .given .1)))
+    let after-q : tie.After-q = search in
+    let after-check : tie.After-check = search in
+    read-failed (right (search)) (after-check .check .ensures) (ap verdictIn (sym (after-q .q .given .1)))
 
 returns-8 : tie.Need-returns-8
 returns-8 c =
-    let after-check = after-check c in
-    let after-roads-of = after-check .before .before .before in
-    read-passed (right (after-check .before)) (after-check .check .ensures) (passed c) (ap length (c .order-of .ensures))
+    let after-check : tie.After-check = search in
+    let after-roads-of : tie.After-roads-of = search in
+    read-passed (right (search)) (after-check .check .ensures) (passed c) (ap length (c .order-of .ensures))
     (ap length (after-roads-of .roads-of .ensures))
 
 pub read-spec : {M : Type 1} → statement M
@@ -141,8 +143,7 @@ read-spec =
     tie.close
     (tie.spec
     returns
-    (λ c κs. search needs)
-    (λ c κs. search needs)
+    (λ c κs. search needs) (λ c κs. search needs)
     returns-2
     (λ c κs. search needs)
     returns-3
@@ -150,14 +151,7 @@ read-spec =
     returns-4
     (λ c κs. search needs)
     returns-5
-    (λ c κs. search needs)
-    (λ c κs. search needs)
+    (λ c κs. search needs) (λ c κs. search needs)
     returns-6
-    (λ c κs. search needs)
-    (λ c. search needs)
-    (λ c. search needs)
-    (λ c κs. search needs)
-    cast-t21
-    cast-t22
-    returns-7
-    returns-8)
+    (λ c κs. search needs) (λ c. search needs) (λ c. search needs) (λ c κs. search needs)
+    cast-t21 cast-t22 returns-7 returns-8)

@@ -11,11 +11,11 @@ use Rattle.card.proofs.write.Tie as tie
 -- ---- past questions 4 to 6
 
 abbrev start : tie.After-enum-told → tie.Start
-start c = c .before .before .before .before .before .before
+start c = search
 
 passed : (c : tie.After-enum-told) → Passes (start c .args .roads .now) (start c .args .order .now)
 passed c =
-    let after-check = c .before .before in
+    let after-check : tie.After-check = search in
     passes (start c .args .roads .now) (start c .args .order .now)
     (ap verdictIn (sym (c .enum-told .given .1)) ∙ after-check .check .ensures)
 
@@ -29,45 +29,40 @@ cast-m c = omega (arith, passed c .short .0)
 
 returns : tie.Need-returns
 returns c =
-    let after-card-size = c .before in
-    write-7 (passed (after-card-size .before)) (after-card-size .card-size .ensures) (c .if1 .taken)
+    let after-card-size : tie.After-card-size = search in
+    write-7 (passed (search)) (after-card-size .card-size .ensures) (c .if1 .taken)
 
 put-card-requires : tie.Need-put-card-requires
 put-card-requires c κs =
-    let else1 = c .before in
-    let after-card-size = else1 .before in
-    let after-enum-told = after-card-size .before in (
+    let else1 : tie.Else1 = search in
+    let after-card-size : tie.After-card-size = search in
+    let after-enum-told : tie.After-enum-told = search in (
       passed after-enum-told .short,
       area-is (passed after-enum-told) (after-card-size .card-size .ensures) (start after-enum-told .args .area .now) (else1 .if1 .left),
     )
 
 returns-2 : tie.Need-returns-2
 returns-2 c =
-    let after-check = c .before .before .before in
-    let start = after-check .before .before .before .before in
+    let after-q : tie.After-q = search in
+    let after-check : tie.After-check = search in
+    let start : tie.Start = search in
     write-refused (start .args .roads .now) (start .args .order .now)
-    (ap verdictIn (sym (c .before .q .given .1)) ∙ after-check .check .ensures)
+    (ap verdictIn (sym (after-q .q .given .1)) ∙ after-check .check .ensures)
 
 returns-3 : tie.Need-returns-3
 returns-3 c =
-    let after-put-card = c .before .before in
-    let else1 = after-put-card .before .before in
-    let after-card-size = else1 .before in
-    write-made (passed (after-card-size .before)) (after-card-size .card-size .ensures) (else1 .if1 .left)
-    (after-put-card .put-card .ensures)
+    let after-put-card : tie.After-put-card = search in
+    let else1 : tie.Else1 = search in
+    let after-card-size : tie.After-card-size = search in
+    write-made (passed (search)) (after-card-size .card-size .ensures) (else1 .if1 .left) (after-put-card .put-card .ensures)
 
 pub write-spec : {M : Type 1} → statement M
 write-spec =
     tie.close
     (tie.spec
+    (λ c κs. search needs) (λ c. search needs) (λ c. search needs)
+    cast-n cast-m
     (λ c κs. search needs)
-    (λ c. search needs)
-    (λ c. search needs)
-    cast-n
-    cast-m
-    (λ c κs. search needs)
-    returns
-    put-card-requires
-    returns-2
+    returns put-card-requires returns-2
     (λ c. search needs)
     returns-3)

@@ -12,22 +12,25 @@ returns c =
 
 returns-2 : tie.Need-returns-2
 returns-2 c =
-    let else1 = c .before in
-    let args = else1 .before .args in
+    let else1 : tie.Else1 = search in
+    let start : tie.Start = search in
+    let args = start .args in
     (no-flag (args .n) (args .j) (args .seen .now) (else1 .if1 .left) (c .if2 .taken), refl)
 
 returns-3 : tie.Need-returns-3
 returns-3 c =
-    let else2 = c .before .before in
-    let else1 = else2 .before in
-    let args = else1 .before .args in
+    let else2 : tie.Else2 = search in
+    let else1 : tie.Else1 = search in
+    let start : tie.Start = search in
+    let args = start .args in
     (seen-before (args .n) (args .j) (args .seen .now) (else1 .if1 .left) (else2 .if2 .left) (c .if3 .taken), refl)
 
 returns-4 : tie.Need-returns-4
 returns-4 c =
-    let else2 = c .before .before in
-    let else1 = else2 .before in
-    let args = else1 .before .args in
+    let else2 : tie.Else2 = search in
+    let else1 : tie.Else1 = search in
+    let start : tie.Start = search in
+    let args = start .args in
     (place-new (args .n) (args .j) (args .seen .now) (else1 .if1 .left) (else2 .if2 .left) (c .if3 .left), refl)
 
 pub place-ok-spec : {M : Type 1} → statement M

@@ -6,15 +6,16 @@ use Rattle.card_layout.proofs.access_fits.Tie as tie
 
 returns : tie.Need-returns
 returns c =
-    let start = c .before .before .before in
-    two-at-most (start .args .card .now) (start .args .m) (c .before .sections .ensures) (c .if1 .taken)
+    let after-sections : tie.After-sections = search in
+    let start : tie.Start = search in
+    two-at-most (start .args .card .now) (start .args .m) (after-sections .sections .ensures) (c .if1 .taken)
 
 returns-2 : tie.Need-returns-2
 returns-2 c =
-    let after-has-entry = c .before in
-    let else1 = after-has-entry .before in
-    let after-sections = else1 .before in
-    let start = after-sections .before .before in
+    let after-has-entry : tie.After-has-entry = search in
+    let else1 : tie.Else1 = search in
+    let after-sections : tie.After-sections = search in
+    let start : tie.Start = search in
     third-is (start .args .card .now) (start .args .m) (after-sections .sections .ensures) (else1 .if1 .left)
     (after-has-entry .has-entry .ensures) (c .names .ensures)
 
@@ -24,6 +25,5 @@ access-fits-spec =
     (tie.spec
     (λ c κs. search needs)
     returns
-    (λ c κs. search needs)
-    (λ c κs. search needs)
+    (λ c κs. search needs) (λ c κs. search needs)
     returns-2)

@@ -7,26 +7,21 @@ use Rattle.card_layout.proofs.body.Tie as tie
 
 returns : tie.Need-returns
 returns c =
-    let start = c .before .before .before .before in
-    no-part (start .args .card .now) (sectionIn (start .args .s)) (c .before .if1 .taken)
+    let then1 : tie.Then1 = search in
+    let start : tie.Start = search in
+    no-part (start .args .card .now) (sectionIn (start .args .s)) (then1 .if1 .taken)
 
 returns-2 : tie.Need-returns-2
 returns-2 c =
-    let start = c .before .before .before .before in
-    part (start .args .card .now) (sectionIn (start .args .s)) (c .before .if1 .left)
+    let else1 : tie.Else1 = search in
+    let start : tie.Start = search in
+    part (start .args .card .now) (sectionIn (start .args .s)) (else1 .if1 .left)
 
 pub body-spec : {M : Type 1} → statement M
 body-spec =
     tie.close
     (tie.spec
-    (λ c. search needs)
-    (λ c. search needs)
-    (λ c. search needs)
-    (λ c. search needs)
-    (λ c. search needs)
-    (λ c. search needs)
+    (λ c. search needs) (λ c. search needs) (λ c. search needs) (λ c. search needs) (λ c. search needs) (λ c. search needs)
     returns
-    (λ c. search needs)
-    (λ c. search needs)
-    (λ c. search needs)
+    (λ c. search needs) (λ c. search needs) (λ c. search needs)
     returns-2)

@@ -6,7 +6,7 @@ use Rattle.card_layout.proofs.byte_at.Tie as tie
 
 returns : tie.Need-returns
 returns c =
-    let start = c .before in
+    let start : tie.Start = search in
     no-byte (start .args .card .now) (start .args .i) (c .if1 .taken)
 
 pub byte-at-spec : {M : Type 1} → statement M
@@ -14,5 +14,4 @@ byte-at-spec =
     tie.close
     (tie.spec
     returns
-    (λ c. search needs)
-    (λ c. search needs))
+    (λ c. search needs) (λ c. search needs))

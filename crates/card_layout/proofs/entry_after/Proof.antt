@@ -5,23 +5,23 @@ use borrow.Author.Needs.{needs}
 use Rattle.card_layout.proofs.entry_after.Statement.{statement}
 use Rattle.card_layout.proofs.entry_after.Tie as tie
 
-abbrev start : tie.After-has-entry → tie.Start
-start c = c .before .before
-
 add-result : tie.Need-add-result
 add-result c =
-    let start = start (c .before) in
-    record { fits = omega (arith, fits (start .args .card .now) (start .args .i) (c .before .has-entry .ensures) (c .if1 .taken)) }
+    let after-has-entry : tie.After-has-entry = search in
+    let start : tie.Start = search in
+    record { fits = omega (arith, fits (start .args .card .now) (start .args .i) (after-has-entry .has-entry .ensures) (c .if1 .taken)) }
 
 returns : tie.Need-returns
 returns c =
-    let start = start (c .before) in
-    after-some (start .args .card .now) (start .args .i) (c .before .has-entry .ensures) (c .if1 .taken)
+    let after-has-entry : tie.After-has-entry = search in
+    let start : tie.Start = search in
+    after-some (start .args .card .now) (start .args .i) (after-has-entry .has-entry .ensures) (c .if1 .taken)
 
 returns-2 : tie.Need-returns-2
 returns-2 c =
-    let start = start (c .before) in
-    after-none (start .args .card .now) (start .args .i) (c .before .has-entry .ensures) (c .if1 .left)
+    let after-has-entry : tie.After-has-entry = search in
+    let start : tie.Start = search in
+    after-none (start .args .card .now) (start .args .i) (after-has-entry .has-entry .ensures) (c .if1 .left)
 
 pub entry-after-spec : {M : Type 1} → statement M
 entry-after-spec = tie.close (tie.spec (λ c κs. search needs) add-result returns returns-2)

@@ -6,8 +6,8 @@ use Rattle.card_layout.proofs.names.Tie as tie
 
 returns : tie.Need-returns
 returns c =
-    let after-section-at = c .before .before in
-    let start = after-section-at .before .before in
+    let after-section-at : tie.After-section-at = search in
+    let start : tie.Start = search in
     let a = start .args in
     names-by (a .card .now) (a .i) (a .k) (after-section-at .section-at .ensures)
 

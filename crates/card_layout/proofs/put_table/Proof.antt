@@ -6,20 +6,14 @@ use Rattle.card_layout.proofs.put_table.Tie as tie
 
 returns : tie.Need-returns
 returns c =
-    let after-put-words = c .before .before in
-    let start = after-put-words .before .before .before .before in
+    let after-put-words : tie.After-put-words = search in
+    let start : tie.Start = search in
     put-first (start .args .area .now) (after-put-words .put-words .ensures)
 
 pub put-table-spec : {M : Type 1} → statement M
 put-table-spec =
     tie.close
     (tie.spec
-    (λ c. search needs)
-    (λ c. search needs)
-    (λ c. search needs)
-    (λ c. search needs)
-    (λ c. search needs)
-    (λ c. search needs)
-    (λ c κs. search needs)
-    (λ c. search needs)
+    (λ c. search needs) (λ c. search needs) (λ c. search needs) (λ c. search needs) (λ c. search needs) (λ c. search needs)
+    (λ c κs. search needs) (λ c. search needs)
     returns)

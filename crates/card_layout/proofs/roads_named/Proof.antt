@@ -12,26 +12,24 @@ named : (c : tie.Start) → Named (c .args .card .now) 0
 named c = is-named (c .args .card .now) 0 (c .pre)
 
 word-at-requires : tie.Need-word-at-requires
-word-at-requires c κs = omega (arith, named (c .before) .inside)
-
-abbrev start : tie.After-word-at → tie.Start
-start c = c .before .before
+word-at-requires c κs = omega (arith, named (search) .inside)
 
 word-at-requires-2 : tie.Need-word-at-requires-2
-word-at-requires-2 c κs = omega (arith, named (start c) .inside)
+word-at-requires-2 c κs = omega (arith, named (search) .inside)
 
 -- ---- the part that it names
 
 part-result-end : tie.Need-part-result-end
 part-result-end c =
-    let first = c .before in
-    omega (arith, named (start first) .ends, first .word-at .ensures, c .word-at2 .ensures)
+    let first : tie.After-word-at = search in
+    omega (arith, named (search) .ends, first .word-at .ensures, c .word-at2 .ensures)
 
 returns : tie.Need-returns
 returns c =
-    let second = c .before in
-    let first = second .before in
-    named-part (start first .args .card .now) 0 (first .word-at .ensures) (second .word-at2 .ensures) (named (start first))
+    let second : tie.After-word-at2 = search in
+    let first : tie.After-word-at = search in
+    let start : tie.Start = search in
+    named-part (start .args .card .now) 0 (first .word-at .ensures) (second .word-at2 .ensures) (named start)
 
 pub roads-named-spec : {M : Type 1} → statement M
 roads-named-spec =
@@ -39,12 +37,7 @@ roads-named-spec =
     (tie.spec
     (λ c. search needs)
     word-at-requires
-    (λ c. search needs)
-    (λ c. search needs)
+    (λ c. search needs) (λ c. search needs)
     word-at-requires-2
-    (λ c. search needs)
-    (λ c. search needs)
-    (λ c. search needs)
-    (λ c. search needs)
-    part-result-end
-    returns)
+    (λ c. search needs) (λ c. search needs) (λ c. search needs) (λ c. search needs)
+    part-result-end returns)

@@ -23,13 +23,13 @@ abbrev μ-loop : tie.MeasureT-loop
 -- ---- in the loop
 
 abbrev at-loop : tie.In-loop Inv-loop μ-loop → tie.At-loop Inv-loop μ-loop
-at-loop c = c .before
+at-loop c = search
 
 abbrev start : tie.In-loop Inv-loop μ-loop → tie.Start Inv-loop μ-loop
-start c = c .before .before .before
+start c = search
 
 abbrev in-loop : tie.After-place-ok Inv-loop μ-loop → tie.In-loop Inv-loop μ-loop
-in-loop c = c .before .before .before
+in-loop c = search
 
 -- the test of place k is of the junction that the order names there
 place-tested : (c : tie.After-place-ok Inv-loop μ-loop) →
@@ -38,8 +38,8 @@ place-tested : (c : tie.After-place-ok Inv-loop μ-loop) →
     let (_, (_, (after, _))) = c .place-ok .last in
     PlaceTested (rowsIn [] order) (length order / placeSize) (at-loop .loop .k) (at-loop .loop .seen) (c .place-ok .result) after
 place-tested c =
-    let after-junction-of = c .before .before in
-    let in-loop = after-junction-of .before in
+    let after-junction-of : tie.After-junction-of Inv-loop μ-loop = search in
+    let in-loop : tie.In-loop Inv-loop μ-loop = search in
     let word = word-in (start in-loop .args .order .now) (at-loop in-loop .loop .k) (omega (arith, in-loop .loop-test .taken)) in record {
       j = after-junction-of .junction-of .result .0;
       named = after-junction-of .junction-of .ensures ∙ sym word;
@@ -54,16 +54,13 @@ loop-holds c = places-start (sym (junctions [] (c .before .args .order .now))) (
 
 returns : tie.Need-returns Inv-loop μ-loop
 returns c =
-    let after-place-ok = c .before .before in
-    let in-loop = in-loop after-place-ok in
-    places-fail (at-loop in-loop .loop .inv) (place-tested after-place-ok) (in-loop .loop-test .taken) (not-true _ (c .if1 .taken))
+    let in-loop : tie.In-loop Inv-loop μ-loop = search in
+    places-fail (at-loop in-loop .loop .inv) (place-tested (search)) (in-loop .loop-test .taken) (not-true _ (c .if1 .taken))
 
 loop-again : tie.Need-loop-again Inv-loop μ-loop
 loop-again c =
-    let after-place-ok = c .before .before in
-    let in-loop = in-loop after-place-ok in
-    places-turn (at-loop in-loop .loop .inv) (place-tested after-place-ok) (in-loop .loop-test .taken) (search needs)
-    (not-false _ (c .if1 .left))
+    let in-loop : tie.In-loop Inv-loop μ-loop = search in
+    places-turn (at-loop in-loop .loop .inv) (place-tested (search)) (in-loop .loop-test .taken) (search needs) (not-false _ (c .if1 .left))
 
 returns-2 : tie.Need-returns-2 Inv-loop μ-loop
 returns-2 c = places-end (c .before .loop .inv) (c .loop-test .left)
@@ -71,16 +68,10 @@ returns-2 c = places-end (c .before .loop .inv) (c .loop-test .left)
 pub failing-place-spec : {M : Type 1} → statement M
 failing-place-spec =
     tie.close
-    (tie.spec
-    Inv-loop
-    μ-loop
+    (tie.spec Inv-loop μ-loop
     (λ c. search needs)
     loop-holds
-    (λ c κs. search needs)
-    (λ c. search needs)
-    (λ c κs. search needs)
+    (λ c κs. search needs) (λ c. search needs) (λ c κs. search needs)
     returns
-    (λ c. search needs)
-    (λ c. search needs)
-    loop-again
-    returns-2)
+    (λ c. search needs) (λ c. search needs)
+    loop-again returns-2)

@@ -20,13 +20,13 @@ abbrev μ-loop : tie.MeasureT-loop
 -- ---- in the loop
 
 abbrev at-loop : tie.In-loop Inv-loop μ-loop → tie.At-loop Inv-loop μ-loop
-at-loop c = c .before
+at-loop c = search
 
 abbrev start : tie.In-loop Inv-loop μ-loop → tie.Start Inv-loop μ-loop
-start c = c .before .before .before
+start c = search
 
 abbrev in-loop : tie.After-place-ok Inv-loop μ-loop → tie.In-loop Inv-loop μ-loop
-in-loop c = c .before .before .before
+in-loop c = search
 
 -- the test of place k is of the junction that the order names there
 place-tested : (c : tie.After-place-ok Inv-loop μ-loop) →
@@ -34,12 +34,15 @@ place-tested : (c : tie.After-place-ok Inv-loop μ-loop) →
     let at-loop = at-loop (in-loop c) in
     let (_, (_, (after, _))) = c .place-ok .last in
     PlaceTested (rowsOf [] order) (length order) (at-loop .loop .k) (at-loop .loop .seen) (c .place-ok .result) after
-place-tested c = record {
-  j = getD (start (in-loop c) .args .order .now) (at-loop (in-loop c) .loop .k) 0;
-  named = refl;
-  answer = c .place-ok .ensures .0;
-  flags = c .place-ok .ensures .1;
-}
+place-tested c =
+    let at-loop : tie.At-loop Inv-loop μ-loop = search in
+    let start : tie.Start Inv-loop μ-loop = search in
+    record {
+      j = getD (start .args .order .now) (at-loop .loop .k) 0;
+      named = refl;
+      answer = c .place-ok .ensures .0;
+      flags = c .place-ok .ensures .1;
+    }
 
 -- ---- the answers
 
@@ -48,16 +51,13 @@ loop-holds c = places-start refl (search needs)
 
 returns : tie.Need-returns Inv-loop μ-loop
 returns c =
-    let after-place-ok = c .before .before in
-    let in-loop = in-loop after-place-ok in
-    places-fail (at-loop in-loop .loop .inv) (place-tested after-place-ok) (in-loop .loop-test .taken) (not-true _ (c .if1 .taken))
+    let in-loop : tie.In-loop Inv-loop μ-loop = search in
+    places-fail (at-loop in-loop .loop .inv) (place-tested (search)) (in-loop .loop-test .taken) (not-true _ (c .if1 .taken))
 
 loop-again : tie.Need-loop-again Inv-loop μ-loop
 loop-again c =
-    let after-place-ok = c .before .before in
-    let in-loop = in-loop after-place-ok in
-    places-turn (at-loop in-loop .loop .inv) (place-tested after-place-ok) (in-loop .loop-test .taken) (search needs)
-    (not-false _ (c .if1 .left))
+    let in-loop : tie.In-loop Inv-loop μ-loop = search in
+    places-turn (at-loop in-loop .loop .inv) (place-tested (search)) (in-loop .loop-test .taken) (search needs) (not-false _ (c .if1 .left))
 
 returns-2 : tie.Need-returns-2 Inv-loop μ-loop
 returns-2 c = places-end (c .before .loop .inv) (c .loop-test .left)
@@ -65,18 +65,10 @@ returns-2 c = places-end (c .before .loop .inv) (c .loop-test .left)
 pub failing-place-spec : {M : Type 1} → statement M
 failing-place-spec =
     tie.close
-    (tie.spec
-    Inv-loop
-    μ-loop
+    (tie.spec Inv-loop μ-loop
     (λ c. search needs)
     loop-holds
-    (λ c. search needs)
-    (λ c. search needs)
-    (λ c. search needs)
-    (λ c. search needs)
-    (λ c κs. search needs)
+    (λ c. search needs) (λ c. search needs) (λ c. search needs) (λ c. search needs) (λ c κs. search needs)
     returns
-    (λ c. search needs)
-    (λ c. search needs)
-    loop-again
-    returns-2)
+    (λ c. search needs) (λ c. search needs)
+    loop-again returns-2)

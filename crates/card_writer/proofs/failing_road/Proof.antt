@@ -19,23 +19,22 @@ abbrev μ-loop : tie.MeasureT-loop
 -- ---- in the loop
 
 abbrev at-loop : tie.In-loop Inv-loop μ-loop → tie.At-loop Inv-loop μ-loop
-at-loop c = c .before
-
-abbrev start : tie.In-loop Inv-loop μ-loop → tie.Start Inv-loop μ-loop
-start c = at-loop c .before .before .before
+at-loop c = search
 
 abbrev in-loop : tie.After-road-ok Inv-loop μ-loop → tie.In-loop Inv-loop μ-loop
-in-loop c = c .before .before .before .before .before
+in-loop c = search
 
 -- the test of road i answers what question 5 says of it
 road-tested : (c : tie.After-road-ok Inv-loop μ-loop) →
-    let start = start (in-loop c) in
+    let start : tie.Start Inv-loop μ-loop = search in
     roadOk (rowsOf (start .args .roads .now) (start .args .order .now)) (at-loop (in-loop c) .loop .i) ≡ c .road-ok .result
 road-tested c =
-    let start = start (in-loop c) in
-    let loop = at-loop (in-loop c) .loop in
+    let after-time-of : tie.After-time-of Inv-loop μ-loop = search in
+    let at-loop : tie.At-loop Inv-loop μ-loop = search in
+    let start : tie.Start Inv-loop μ-loop = search in
+    let loop = at-loop .loop in
     road-known (rowsOf (start .args .roads .now) (start .args .order .now)) (loop .i) (loop .inv .n-is) refl refl
-    (c .before .time-of .ensures) (c .road-ok .ensures)
+    (after-time-of .time-of .ensures) (c .road-ok .ensures)
 
 -- ---- the answers
 
@@ -44,13 +43,13 @@ loop-holds c = roads-start refl refl
 
 returns : tie.Need-returns Inv-loop μ-loop
 returns c =
-    let in-loop = in-loop (c .before) in
-    roads-fail (at-loop in-loop .loop .inv) (in-loop .loop-test .taken) (road-tested (c .before) ∙ not-true _ (c .if1 .taken))
+    let in-loop : tie.In-loop Inv-loop μ-loop = search in
+    roads-fail (at-loop in-loop .loop .inv) (in-loop .loop-test .taken) (road-tested (search) ∙ not-true _ (c .if1 .taken))
 
 loop-again : tie.Need-loop-again Inv-loop μ-loop
 loop-again c =
-    let in-loop = in-loop (c .before) in
-    roads-turn (at-loop in-loop .loop .inv) (in-loop .loop-test .taken) (road-tested (c .before) ∙ not-false _ (c .if1 .left))
+    let in-loop : tie.In-loop Inv-loop μ-loop = search in
+    roads-turn (at-loop in-loop .loop .inv) (in-loop .loop-test .taken) (road-tested (search) ∙ not-false _ (c .if1 .left))
 
 returns-2 : tie.Need-returns-2 Inv-loop μ-loop
 returns-2 c = roads-end (c .before .loop .inv) (c .loop-test .left)
@@ -58,26 +57,11 @@ returns-2 c = roads-end (c .before .loop .inv) (c .loop-test .left)
 pub failing-road-spec : {M : Type 1} → statement M
 failing-road-spec =
     tie.close
-    (tie.spec
-    Inv-loop
-    μ-loop
-    (λ c. search needs)
-    (λ c. search needs)
+    (tie.spec Inv-loop μ-loop
+    (λ c. search needs) (λ c. search needs)
     loop-holds
-    (λ c. search needs)
-    (λ c. search needs)
-    (λ c. search needs)
-    (λ c. search needs)
-    (λ c. search needs)
-    (λ c. search needs)
-    (λ c. search needs)
-    (λ c. search needs)
-    (λ c. search needs)
-    (λ c. search needs)
-    (λ c κs. search needs)
-    (λ c κs. search needs)
+    (λ c. search needs) (λ c. search needs) (λ c. search needs) (λ c. search needs) (λ c. search needs) (λ c. search needs)
+    (λ c. search needs) (λ c. search needs) (λ c. search needs) (λ c. search needs) (λ c κs. search needs) (λ c κs. search needs)
     returns
-    (λ c. search needs)
-    (λ c. search needs)
-    loop-again
-    returns-2)
+    (λ c. search needs) (λ c. search needs)
+    loop-again returns-2)

@@ -7,10 +7,10 @@ use Rattle.card_writer.proofs.put_card.Tie as tie
 
 returns : tie.Need-returns
 returns c =
-    let after-put-words2 = c .before .before in
-    let after-put-words = after-put-words2 .before .before .before .before in
-    let after-put-table = after-put-words .before .before .before .before in
-    let start = after-put-table .before .before .before .before .before in
+    let after-put-words2 : tie.After-put-words2 = search in
+    let after-put-words : tie.After-put-words = search in
+    let after-put-table : tie.After-put-table = search in
+    let start : tie.Start = search in
     card-put (start .args .roads .now) (start .args .order .now) (start .args .area .now) refl refl (start .pre .1)
     (after-put-table .put-table .ensures) (after-put-words .put-words .ensures) (after-put-words2 .put-words2 .ensures)
 
@@ -18,20 +18,7 @@ pub put-card-spec : {M : Type 1} → statement M
 put-card-spec =
     tie.close
     (tie.spec
-    (λ c. search needs)
-    (λ c. search needs)
-    (λ c. search needs)
-    (λ c. search needs)
-    (λ c. search needs)
-    (λ c κs. search needs)
-    (λ c. search needs)
-    (λ c. search needs)
-    (λ c. search needs)
-    (λ c κs. search needs)
-    (λ c. search needs)
-    (λ c. search needs)
-    (λ c. search needs)
-    (λ c. search needs)
-    (λ c κs. search needs)
-    (λ c. search needs)
+    (λ c. search needs) (λ c. search needs) (λ c. search needs) (λ c. search needs) (λ c. search needs) (λ c κs. search needs)
+    (λ c. search needs) (λ c. search needs) (λ c. search needs) (λ c κs. search needs) (λ c. search needs) (λ c. search needs)
+    (λ c. search needs) (λ c. search needs) (λ c κs. search needs) (λ c. search needs)
     returns)

@@ -9,7 +9,7 @@ use Rattle.line_answers.proofs.first_roads.Tie as tie
 
 returns : tie.Need-returns
 returns c =
-    let start = c .before .before in
+    let start : tie.Start = search in
     first-is (start .args .route .now) (start .args .k)
 
 returns-2 : tie.Need-returns-2

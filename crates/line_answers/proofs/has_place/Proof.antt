@@ -16,6 +16,4 @@ pub has-place-spec : {M : Type 1} → statement M
 has-place-spec =
     tie.close
     (tie.spec
-    returns
-    returns-2
-    returns-3)
+    returns returns-2 returns-3)

@@ -6,10 +6,10 @@ use Rattle.line_answers.proofs.put_trip.Tie as tie
 
 returns : tie.Need-returns
 returns c =
-    let after-put-words = c .before .before in
-    let after-put-word = after-put-words .before .before .before .before in
-    let after-put-named = after-put-word .before .before .before .before in
-    let start = after-put-named .before .before .before .before .before in
+    let after-put-words : tie.After-put-words = search in
+    let after-put-word : tie.After-put-word = search in
+    let after-put-named : tie.After-put-named = search in
+    let start : tie.Start = search in
     let args = start .args in
     trip-put (args .total) (args .count) (args .roads .now) (after-put-named .put-named .ensures) (after-put-word .put-word .ensures)
     (after-put-words .put-words .ensures)
@@ -18,9 +18,5 @@ pub put-trip-spec : {M : Type 1} → statement M
 put-trip-spec =
     tie.close
     (tie.spec
-    (λ c. search needs)
-    (λ c κs. search needs)
-    (λ c κs. search needs)
-    (λ c κs. search needs)
-    (λ c. search needs)
+    (λ c. search needs) (λ c κs. search needs) (λ c κs. search needs) (λ c κs. search needs) (λ c. search needs)
     returns)

@@ -11,10 +11,10 @@ use Rattle.line_console.proofs.call_of.Tie as tie
 -- ---- the words that it is not
 
 abbrev start : tie.Else1 → tie.Start
-start c = c .before .before .before .before
+start c = search
 
 abbrev else1 : tie.Else2 → tie.Else1
-else1 c = c .before .before .before
+else1 c = search
 
 not-aim : (c : tie.Else1) → false ≡ same (start c .args .word .now) (ascii "aim")
 not-aim c = sym (c .if1 .left) ∙ c .before .same-bytes .ensures
@@ -28,31 +28,22 @@ returns : tie.Need-returns
 returns c = is-aim _ (sym (c .if1 .taken) ∙ c .before .same-bytes .ensures)
 
 returns-2 : tie.Need-returns-2
-returns-2 c =
-    let else1 = c .before .before .before in
-    is-estimate _ (not-aim else1) (sym (c .if2 .taken) ∙ c .before .same-bytes2 .ensures)
+returns-2 c = is-estimate _ (not-aim (search)) (sym (c .if2 .taken) ∙ c .before .same-bytes2 .ensures)
 
 returns-3 : tie.Need-returns-3
-returns-3 c =
-    let else2 = c .before .before .before in
-    is-go _ (not-aim (else1 else2)) (not-estimate else2) (sym (c .if3 .taken) ∙ c .before .same-bytes3 .ensures)
+returns-3 c = is-go _ (not-aim (search)) (not-estimate (search)) (sym (c .if3 .taken) ∙ c .before .same-bytes3 .ensures)
 
 returns-4 : tie.Need-returns-4
 returns-4 c =
-    let else2 = c .before .before .before in
-    is-none _ _ (not-aim (else1 else2)) (not-estimate else2) (sym (c .if3 .left) ∙ c .before .same-bytes3 .ensures)
+    is-none _ _ (not-aim (search)) (not-estimate (search)) (sym (c .if3 .left) ∙ c .before .same-bytes3 .ensures)
 
 pub call-of-spec : {M : Type 1} → statement M
 call-of-spec =
     tie.close
     (tie.spec
-    (λ c. search needs)
-    (λ c κs. search needs)
+    (λ c. search needs) (λ c κs. search needs)
     returns
-    (λ c. search needs)
-    (λ c κs. search needs)
+    (λ c. search needs) (λ c κs. search needs)
     returns-2
-    (λ c. search needs)
-    (λ c κs. search needs)
-    returns-3
-    returns-4)
+    (λ c. search needs) (λ c κs. search needs)
+    returns-3 returns-4)

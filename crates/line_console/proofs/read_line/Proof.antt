@@ -9,54 +9,48 @@ use Rattle.line_console.proofs.read_line.Tie as tie
 -- ---- the parts
 
 abbrev start : tie.After-after-space → tie.Start
-start c = c .before .before .before
+start c = search
 
 line-parted : (c : tie.After-after-space)
     → Parted (start c .args .line .now) (c .before .before-space .result .now) (c .after-space .result .now)
 line-parted c = record { before-is = c .before .before-space .ensures; after-is = c .after-space .ensures }
 
-abbrev then1 : tie.After-after-space2 → tie.Then1
-then1 c = c .before .before .before
+abbrev after-after-space : tie.After-after-space2 → tie.After-after-space
+after-after-space c = search
 
-abbrev after-after-space : tie.Then1 → tie.After-after-space
-after-after-space c = c .before .before .before
+abbrev after-before-space2 : tie.After-after-space2 → tie.After-before-space2
+after-before-space2 c = search
 
 numbers-parted : (c : tie.After-after-space2)
-    → Parted (after-after-space (then1 c) .after-space .result .now) (c .before .before .before-space2 .result .now)
+    → Parted (after-after-space c .after-space .result .now) (after-before-space2 c .before-space2 .result .now)
     (c .after-space2 .result .now)
-numbers-parted c = record { before-is = c .before .before .before-space2 .ensures; after-is = c .after-space2 .ensures }
+numbers-parted c = record { before-is = after-before-space2 c .before-space2 .ensures; after-is = c .after-space2 .ensures }
 
 -- ---- the answers
 
 returns : tie.Need-returns
 returns c =
-    let after-after-space2 = c .before .before in
-    let then1 = then1 after-after-space2 in
-    is-set (line-parted (after-after-space then1)) (sym (then1 .if1 .taken) ∙ then1 .before .same-bytes .ensures)
-    (numbers-parted after-after-space2) (after-after-space2 .before .read-number .ensures) (c .before .read-number2 .ensures)
-    (c .read-set .ensures)
+    let after-read-number2 : tie.After-read-number2 = search in
+    let after-read-number : tie.After-read-number = search in
+    let then1 : tie.Then1 = search in
+    let after-same-bytes : tie.After-same-bytes = search in
+    is-set (line-parted (search)) (sym (then1 .if1 .taken) ∙ after-same-bytes .same-bytes .ensures)
+    (numbers-parted (search)) (after-read-number .read-number .ensures) (after-read-number2 .read-number2 .ensures) (c .read-set .ensures)
 
 returns-2 : tie.Need-returns-2
 returns-2 c =
-    let else1 = c .before .before in
-    let after-after-space = else1 .before .before .before in
-    is-one (line-parted after-after-space) (sym (else1 .if1 .left) ∙ else1 .before .same-bytes .ensures) (c .before .read-number3 .ensures)
-    (c .read-one .ensures)
+    let after-read-number3 : tie.After-read-number3 = search in
+    let else1 : tie.Else1 = search in
+    let after-same-bytes : tie.After-same-bytes = search in
+    is-one (line-parted (search)) (sym (else1 .if1 .left) ∙ after-same-bytes .same-bytes .ensures)
+    (after-read-number3 .read-number3 .ensures) (c .read-one .ensures)
 
 pub read-line-spec : {M : Type 1} → statement M
 read-line-spec =
     tie.close
     (tie.spec
-    (λ c κs. search needs)
-    (λ c κs. search needs)
-    (λ c. search needs)
-    (λ c κs. search needs)
-    (λ c κs. search needs)
-    (λ c κs. search needs)
-    (λ c κs. search needs)
-    (λ c κs. search needs)
-    (λ c κs. search needs)
+    (λ c κs. search needs) (λ c κs. search needs) (λ c. search needs) (λ c κs. search needs) (λ c κs. search needs) (λ c κs. search needs)
+    (λ c κs. search needs) (λ c κs. search needs) (λ c κs. search needs)
     returns
-    (λ c κs. search needs)
-    (λ c κs. search needs)
+    (λ c κs. search needs) (λ c κs. search needs)
     returns-2)

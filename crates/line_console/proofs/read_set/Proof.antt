@@ -7,20 +7,15 @@ use Rattle.line_console.proofs.read_set.Tie as tie
 
 returns : tie.Need-returns
 returns c =
-    let after-time = c .before .before .before in
-    let after-road = after-time .before .before .before in
-    set-is (after-road .road .given .1) (after-time .time .given .1) (c .before .in-range .ensures) (c .of-word .ensures)
+    let after-in-range : tie.After-in-range = search in
+    let after-time : tie.After-time = search in
+    let after-road : tie.After-road = search in
+    set-is (after-road .road .given .1) (after-time .time .given .1) (after-in-range .in-range .ensures) (c .of-word .ensures)
 
 pub read-set-spec : {M : Type 1} → statement M
 read-set-spec =
     tie.close
     (tie.spec
-    (λ c. search needs)
-    (λ c. search needs)
-    (λ c κs. search needs)
-    (λ c κs. search needs)
-    (λ c. search needs)
-    (λ c. search needs)
+    (λ c. search needs) (λ c. search needs) (λ c κs. search needs) (λ c κs. search needs) (λ c. search needs) (λ c. search needs)
     returns
-    (λ c. search needs)
-    (λ c. search needs))
+    (λ c. search needs) (λ c. search needs))

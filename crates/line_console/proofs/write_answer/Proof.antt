@@ -6,8 +6,8 @@ use Rattle.line_console.proofs.write_answer.Tie as tie
 
 returns : tie.Need-returns
 returns c =
-    let after-put-byte = c .before .before in
-    let after-put-answer = after-put-byte .before .before .before .before in
+    let after-put-byte : tie.After-put-byte = search in
+    let after-put-answer : tie.After-put-answer = search in
     puts-start (puts-then (after-put-answer .put-answer .ensures) (after-put-byte .put-byte .ensures))
 
 pub write-answer-spec : {M : Type 1} → statement M

@@ -17,14 +17,16 @@ abbrev μ-loop : tie.MeasureT-loop
 -- ---- the byte of a turn
 
 abbrev at-loop : tie.After-wide Inv-loop μ-loop → tie.At-loop Inv-loop μ-loop
-at-loop c = c .before .before .before
+at-loop c = search
 
 abbrev start : tie.At-loop Inv-loop μ-loop → tie.Start Inv-loop μ-loop
-start c = c .before .before .before .before
+start c = search
 
 byte-read : (c : tie.After-wide Inv-loop μ-loop)
     → Next (start (at-loop c) .args .s .now) (at-loop c .loop .i) (at-loop c .loop .v) (c .wide .result)
-byte-read c = record { passed = at-loop c .loop .inv; below = c .before .before .loop-test .taken; byte-is = c .wide .ensures }
+byte-read c =
+    let in-loop : tie.In-loop Inv-loop μ-loop = search in
+    record { passed = at-loop c .loop .inv; below = in-loop .loop-test .taken; byte-is = c .wide .ensures }
 
 -- ---- the answers
 
@@ -38,45 +40,34 @@ loop-holds : tie.Need-loop-holds Inv-loop μ-loop
 loop-holds c = passed-none
 
 returns-3 : tie.Need-returns-3 Inv-loop μ-loop
-returns-3 c = below-digits (byte-read (c .before)) (c .if3 .taken)
+returns-3 c = below-digits (byte-read (search)) (c .if3 .taken)
 
 returns-4 : tie.Need-returns-4 Inv-loop μ-loop
-returns-4 c = above-digits (byte-read (c .before .before)) (c .if4 .taken)
+returns-4 c = above-digits (byte-read (search)) (c .if4 .taken)
 
 returns-5 : tie.Need-returns-5 Inv-loop μ-loop
-returns-5 c =
-    let after-wide = c .before .before .before .before in
-    overflow (byte-read after-wide) (c .if5 .taken)
+returns-5 c = overflow (byte-read (search)) (c .if5 .taken)
 
 loop-again : tie.Need-loop-again Inv-loop μ-loop
 loop-again c =
-    let else4 = c .before .before in
-    let after-wide = else4 .before .before in
-    passed-more (byte-read after-wide) (else4 .before .if3 .left) (else4 .if4 .left) (c .if5 .left)
+    let else4 : tie.Else4 Inv-loop μ-loop = search in
+    let else3 : tie.Else3 Inv-loop μ-loop = search in
+    passed-more (byte-read (search)) (else3 .if3 .left) (else4 .if4 .left) (c .if5 .left)
 
 returns-6 : tie.Need-returns-6 Inv-loop μ-loop
 returns-6 c =
-    let else2 = c .before .before in
-    passed-all (c .loop-test .left) (else2 .before .if1 .left) (else2 .if2 .left) (c .before .loop .inv)
+    let else2 : tie.Else2 Inv-loop μ-loop = search in
+    let else1 : tie.Else1 Inv-loop μ-loop = search in
+    passed-all (c .loop-test .left) (else1 .if1 .left) (else2 .if2 .left) (c .before .loop .inv)
 
 pub read-number-spec : {M : Type 1} → statement M
 read-number-spec =
     tie.close
-    (tie.spec
-    Inv-loop
-    μ-loop
-    returns
-    returns-2
-    loop-holds
-    (λ c. search needs)
-    (λ c κs. search needs)
-    returns-3
-    returns-4
+    (tie.spec Inv-loop μ-loop
+    returns returns-2 loop-holds
+    (λ c. search needs) (λ c κs. search needs)
+    returns-3 returns-4
     (λ c. search needs)
     returns-5
-    (λ c. search needs)
-    (λ c. search needs)
-    (λ c. search needs)
-    (λ c. search needs)
-    loop-again
-    returns-6)
+    (λ c. search needs) (λ c. search needs) (λ c. search needs) (λ c. search needs)
+    loop-again returns-6)

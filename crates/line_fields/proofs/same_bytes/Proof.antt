@@ -21,12 +21,12 @@ loop-holds c = agreed-none (c .if1 .left)
 
 returns-2 : tie.Need-returns-2 Inv-loop μ-loop
 returns-2 c =
-    let in-loop = c .before .before .before in
+    let in-loop : tie.In-loop Inv-loop μ-loop = search in
     same-stop (in-loop .before .loop .inv) (in-loop .loop-test .taken) (c .if2 .taken)
 
 loop-again : tie.Need-loop-again Inv-loop μ-loop
 loop-again c =
-    let in-loop = c .before .before .before in
+    let in-loop : tie.In-loop Inv-loop μ-loop = search in
     agreed-more (in-loop .before .loop .inv) (in-loop .loop-test .taken) (c .if2 .left)
 
 returns-3 : tie.Need-returns-3 Inv-loop μ-loop
@@ -35,15 +35,9 @@ returns-3 c = same-end (c .before .loop .inv) (c .loop-test .left)
 pub same-bytes-spec : {M : Type 1} → statement M
 same-bytes-spec =
     tie.close
-    (tie.spec
-    Inv-loop
-    μ-loop
-    returns
-    loop-holds
-    (λ c. search needs)
-    (λ c. search needs)
+    (tie.spec Inv-loop μ-loop
+    returns loop-holds
+    (λ c. search needs) (λ c. search needs)
     returns-2
-    (λ c. search needs)
-    (λ c. search needs)
-    loop-again
-    returns-3)
+    (λ c. search needs) (λ c. search needs)
+    loop-again returns-3)

@@ -28,10 +28,7 @@ abbrev μ-loop : tie.MeasureT-loop
 -- ---- a step more is to be made
 
 abbrev at-loop : tie.Then1 Inv-loop μ-loop → tie.At-loop Inv-loop μ-loop
-at-loop c = c .before .before
-
-abbrev start : tie.At-loop Inv-loop μ-loop → tie.Start Inv-loop μ-loop
-start c = c .before .before .before
+at-loop c = search
 
 still-waiting : (c : tie.Then1 Inv-loop μ-loop) → waiting (at-loop c .loop .r) ≡ true
 still-waiting c = sym (c .before .waits .ensures) ∙ c .if1 .taken
@@ -45,40 +42,38 @@ loop-holds : tie.Need-loop-holds Inv-loop μ-loop
 loop-holds c = record { chunk-kept = refl; line-kept = refl; turned = turned-start _ }
 
 step-requires : tie.Need-step-requires Inv-loop μ-loop
-step-requires c κs = turns-left (c .before .before)
+step-requires c κs = turns-left (search)
 
 loop-less : tie.Need-loop-less Inv-loop μ-loop
 loop-less c =
-    let after-step = c .before .before .before .before in
-    let then1 = after-step .before .before .before in
-    fewer (turns-left then1) (after-step .step .ensures)
+    let after-step : tie.After-step Inv-loop μ-loop = search in
+    fewer (turns-left (search)) (after-step .step .ensures)
 
 loop-again : tie.Need-loop-again Inv-loop μ-loop
 loop-again c =
-    let after-step = c .before .before .before .before in
-    let then1 = after-step .before .before .before in
-    let at-loop = at-loop then1 in
+    let after-step : tie.After-step Inv-loop μ-loop = search in
+    let at-loop : tie.At-loop Inv-loop μ-loop = search in
+    let start : tie.Start Inv-loop μ-loop = search in
     let inv = at-loop .loop .inv in
     let (_, (_, (chunk-kept, (line-kept, _)))) = after-step .step .kept in record {
       chunk-kept = chunk-kept ∙ inv .chunk-kept;
       line-kept = line-kept ∙ inv .line-kept;
-      turned = turned (still-waiting then1) (omega (arith, start at-loop .pre, inv .line-kept)) (inv .turned) (after-step .step .ensures);
+      turned = turned (still-waiting (search)) (omega (arith, start .pre, inv .line-kept)) (inv .turned)
+          (after-step .step .ensures);
     }
 
 returns : tie.Need-returns Inv-loop μ-loop
-returns c = anew (turned-end (sym (c .before .waits .ensures) ∙ c .if1 .left) (c .before .before .loop .inv .turned))
+returns c =
+    let after-waits : tie.After-waits Inv-loop μ-loop = search in
+    let at-loop : tie.At-loop Inv-loop μ-loop = search in
+    anew (turned-end (sym (after-waits .waits .ensures) ∙ c .if1 .left) (at-loop .loop .inv .turned))
 
 pub read-line-spec : {M : Type 1} → statement M
 read-line-spec =
     tie.close
-    (tie.spec
-    Inv-loop
-    μ-loop
+    (tie.spec Inv-loop μ-loop
     loop-holds
     (λ c κs. search needs)
-    step-requires
-    loop-less
-    loop-again
-    (λ c. search needs)
-    (λ c. search needs)
+    step-requires loop-less loop-again
+    (λ c. search needs) (λ c. search needs)
     returns)

@@ -9,8 +9,8 @@ returns c = took-newline (c .if1 .taken)
 
 returns-2 : tie.Need-returns-2
 returns-2 c =
-    let after-take-byte = c .before .before in
-    let else1 = after-take-byte .before .before in
+    let after-take-byte : tie.After-take-byte = search in
+    let else1 : tie.Else1 = search in
     took-byte (else1 .if1 .left) (after-take-byte .take-byte .ensures)
 
 pub take-one-spec : {M : Type 1} → statement M

@@ -12,7 +12,7 @@ use Rattle.line_input.proofs.take_read.Tie as tie
 -- ---- the count
 
 abbrev start : tie.After-count → tie.Start
-start c = c .before .before .before
+start c = search
 
 counted : (c : tie.After-count) → c .count .result ≡ clamped (start c .args .got) (length (start c .args .chunk .now))
 counted c =
@@ -22,10 +22,12 @@ counted c =
 -- ---- the answers
 
 returns : tie.Need-returns
-returns c = (search needs, read-none (counted (c .before .before)) (c .before .if1 .taken))
+returns c = (search needs, read-none (counted (search)) (c .before .if1 .taken))
 
 returns-2 : tie.Need-returns-2
-returns-2 c = (c .before .count .ensures .0 .0, read-some (counted (c .before)) (c .if1 .left))
+returns-2 c =
+    let after-count : tie.After-count = search in
+    (after-count .count .ensures .0 .0, read-some (counted after-count) (c .if1 .left))
 
 pub take-read-spec : {M : Type 1} → statement M
 take-read-spec = tie.close (tie.spec (λ c κs. search needs) returns returns-2)

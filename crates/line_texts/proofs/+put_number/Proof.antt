@@ -34,31 +34,41 @@ calls t = (
   put-number.Post,
 )
 
+abbrev After-digit : ℕ → Type 0
+After-digit t = put-number-lts.After-digit (calls t) (put-number-at t) put-number.Post
+
+abbrev After-put-byte : ℕ → Type 0
+After-put-byte t = put-number-lts.After-put-byte (calls t) (put-number-at t) put-number.Post
+
+abbrev After-put-number : ℕ → Type 0
+After-put-number t = put-number-lts.After-put-number (calls t) (put-number-at t) put-number.Post
+
+abbrev After-digit2 : ℕ → Type 0
+After-digit2 t = put-number-lts.After-digit2 (calls t) (put-number-at t) put-number.Post
+
+abbrev After-put-byte2 : ℕ → Type 0
+After-put-byte2 t = put-number-lts.After-put-byte2 (calls t) (put-number-at t) put-number.Post
+
 -- ---- the answers
 
 returns : (t : ℕ) → put-number-lts.Need-returns (calls t) (put-number-at t) put-number.Post
 returns t c =
-    let after-put-byte = c .before .before in
-    let after-digit = after-put-byte .before .before in
+    let after-digit : After-digit t = search in
+    let after-put-byte : After-put-byte t = search in
     digit-put (after-digit .before .if1 .taken) (after-digit .digit .ensures) (after-put-byte .put-byte .ensures)
 
 returns-2 : (t : ℕ) → put-number-lts.Need-returns-2 (calls t) (put-number-at t) put-number.Post
 returns-2 t c =
-    let after-put-byte2 = c .before .before in
-    let after-digit2 = after-put-byte2 .before .before in
-    let after-put-number = after-digit2 .before .before .before in
+    let after-put-number : After-put-number t = search in
+    let after-digit2 : After-digit2 t = search in
+    let after-put-byte2 : After-put-byte2 t = search in
     digits-put (search needs) (search needs) (after-digit2 .digit2 .ensures) (after-put-number .put-number .ensures)
     (after-put-byte2 .put-byte2 .ensures)
 
 pub +put-number-spec : {M : Type 1} → statement M
 +put-number-spec =
     close μ-put-number λ t. put-number-lts.spec (calls t) (put-number-at t) put-number.Post
-    (λ c κs. search needs)
-    (λ c κs. search needs)
-    (λ c. search needs)
+    (λ c κs. search needs) (λ c κs. search needs) (λ c. search needs)
     (returns t)
-    (λ c κs. search needs)
-    (λ c κs. search needs)
-    (λ c κs. search needs)
-    (λ c. search needs)
+    (λ c κs. search needs) (λ c κs. search needs) (λ c κs. search needs) (λ c. search needs)
     (returns-2 t)

@@ -18,8 +18,8 @@ loop-holds c = put-none refl
 
 loop-again : tie.Need-loop-again Inv-loop μ-loop
 loop-again c =
-    let after-put-byte = c .before .before in
-    let in-loop = after-put-byte .before .before .before in
+    let after-put-byte : tie.After-put-byte Inv-loop μ-loop = search in
+    let in-loop : tie.In-loop Inv-loop μ-loop = search in
     put-more (λ l r. refl) (in-loop .loop-test .taken) (in-loop .before .loop .inv) (after-put-byte .put-byte .kept .1 .0)
     (after-put-byte .put-byte .ensures)
 
@@ -29,14 +29,9 @@ returns c = put-all (c .loop-test .left) (c .before .loop .inv)
 pub put-spec : {M : Type 1} → statement M
 put-spec =
     tie.close
-    (tie.spec
-    Inv-loop
-    μ-loop
+    (tie.spec Inv-loop μ-loop
     loop-holds
-    (λ c. search needs)
-    (λ c κs. search needs)
-    (λ c. search needs)
-    (λ c. search needs)
+    (λ c. search needs) (λ c κs. search needs) (λ c. search needs) (λ c. search needs)
     loop-again
     (λ c. search needs)
     returns)

@@ -6,8 +6,8 @@ use Rattle.line_texts.proofs.put_named.Tie as tie
 
 returns : tie.Need-returns
 returns c =
-    let after-put-spaced = c .before .before in
-    let after-put = after-put-spaced .before .before .before .before in
+    let after-put-spaced : tie.After-put-spaced = search in
+    let after-put : tie.After-put = search in
     puts-then (after-put .put .ensures) (after-put-spaced .put-spaced .ensures)
 
 pub put-named-spec : {M : Type 1} → statement M

@@ -6,8 +6,8 @@ use Rattle.line_texts.proofs.put_spaced.Tie as tie
 
 returns : tie.Need-returns
 returns c =
-    let after-put-number = c .before .before in
-    let after-put-byte = after-put-number .before .before .before .before in
+    let after-put-number : tie.After-put-number = search in
+    let after-put-byte : tie.After-put-byte = search in
     spaced-put _ (after-put-byte .put-byte .ensures) (after-put-number .put-number .ensures)
 
 pub put-spaced-spec : {M : Type 1} → statement M

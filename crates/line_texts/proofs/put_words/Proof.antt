@@ -21,8 +21,8 @@ loop-holds c = put-none refl
 
 loop-again : tie.Need-loop-again Inv-loop μ-loop
 loop-again c =
-    let after-put-word = c .before .before in
-    let in-loop = after-put-word .before .before .before in
+    let after-put-word : tie.After-put-word Inv-loop μ-loop = search in
+    let in-loop : tie.In-loop Inv-loop μ-loop = search in
     put-more spaced-append (in-loop .loop-test .taken) (in-loop .before .loop .inv) (after-put-word .put-word .kept .1 .0)
     (after-put-word .put-word .ensures)
 
@@ -32,15 +32,9 @@ returns c = put-all (c .loop-test .left) (c .before .loop .inv)
 pub put-words-spec : {M : Type 1} → statement M
 put-words-spec =
     tie.close
-    (tie.spec
-    Inv-loop
-    μ-loop
+    (tie.spec Inv-loop μ-loop
     loop-holds
-    (λ c. search needs)
-    (λ c. search needs)
-    (λ c κs. search needs)
-    (λ c. search needs)
-    (λ c. search needs)
+    (λ c. search needs) (λ c. search needs) (λ c κs. search needs) (λ c. search needs) (λ c. search needs)
     loop-again
     (λ c. search needs)
     returns)

@@ -6,13 +6,15 @@ use Rattle.network.proofs.byte_of.Tie as tie
 
 returns : tie.Need-returns
 returns c =
-    let args = c .before .before .args in
+    let start : tie.Start = search in
+    let args = start .args in
     (byte-past (args .access .now) (args .i) (c .if1 .taken), search needs)
 
 returns-2 : tie.Need-returns-2
 returns-2 c =
-    let else1 = c .before .before in
-    let args = else1 .before .before .args in
+    let else1 : tie.Else1 = search in
+    let start : tie.Start = search in
+    let args = start .args in
     let (byte-is, small) = c .wide .ensures in
     (byte-there (args .access .now) (args .i) (else1 .if1 .left) byte-is, small)
 

@@ -44,13 +44,13 @@ given : (c : tie.Start Inv-loop μ-loop) → Given (c .args .roads .now) (c .arg
 given c = record { sound = c .pre .0; ranks-are = c .pre .1 }
 
 abbrev called : tie.After-link-roads Inv-loop μ-loop → tie.Start Inv-loop μ-loop
-called c = c .before .before .before .before .before .before .before .before
+called c = search
 
 -- the roads are linked by their rows
 linked : (c : tie.After-link-roads Inv-loop μ-loop) → let (_, (_, (first, (next, _)))) = c .link-roads .last in
     Grouped (called c .args .roads .now) (called c .args .ranks .now) first next
 linked c =
-    let map = given (called c) in
+    let map = given (search) in
     let (_, (_, (first-kept, (next-kept, _)))) = c .link-roads .kept in record {
       ranked = ranked map;
       linked = c .link-roads .ensures;
@@ -60,18 +60,15 @@ linked c =
 
 -- ---- at the head of the loop, and after a row
 
-abbrev after-link-roads : tie.At-loop Inv-loop μ-loop → tie.After-link-roads Inv-loop μ-loop
-after-link-roads c = c .before .before .before
-
 abbrev start : tie.At-loop Inv-loop μ-loop → tie.Start Inv-loop μ-loop
-start c = called (after-link-roads c)
+start c = search
 
 -- the rank of this turn
 rank-in : (c : tie.In-loop Inv-loop μ-loop) → c .before .loop .r < length (start (c .before) .args .ranks .now)
-rank-in c = omega (arith, c .loop-test .taken, ranks-number (given (start (c .before))))
+rank-in c = omega (arith, c .loop-test .taken, ranks-number (given (search)))
 
 abbrev in-loop : tie.After-contract-row Inv-loop μ-loop → tie.In-loop Inv-loop μ-loop
-in-loop c = c .before .before .before .before .before .before .before .before .before .before .before
+in-loop c = search
 
 -- making its row changes no length
 lengths-kept : (c : tie.After-contract-row Inv-loop μ-loop) → let l = in-loop c .before .loop in
@@ -82,34 +79,18 @@ lengths-kept c =
     let (_, (_, (_, (_, (_, (cursor, (ahead, (ends, (soon, (ups, (downs, (pairs, (times, _))))))))))))) = c .contract-row .kept in
     record { pairs = pairs; times = times; cursor = cursor; ahead = ahead; ends = ends; soon = soon; ups = ups; downs = downs }
 
--- it does not fit
-abbrev overflowed : tie.After-enum-told Inv-loop μ-loop → tie.After-contract-row Inv-loop μ-loop
-overflowed c = c .before .before .before .before .before .before .before .before .before .before .before .before
-
--- it does
-abbrev fitted : tie.After-known-told Inv-loop μ-loop → tie.After-contract-row Inv-loop μ-loop
-fitted c = c .before .before .before .before .before .before .before .before .before .before .before .before .before
-
--- all rows are made, and the rest is cleared
-abbrev after-clear-from : tie.After-slice-known6 Inv-loop μ-loop → tie.After-clear-from Inv-loop μ-loop
-after-clear-from c = c .before .before .before .before
-
-abbrev after-loop : tie.After-clear-from Inv-loop μ-loop → tie.After-loop Inv-loop μ-loop
-after-loop c = c .before .before .before
-
 -- ---- the answers
 
 cast-n : tie.Need-cast-n Inv-loop μ-loop
 cast-n c =
-    let start = c .before .before .before .before .before in
+    let start : tie.Start Inv-loop μ-loop = search in
     let number = ranks-number (given start) in
     let most = ranks-most (given start) in
     search needs
 
 link-roads-requires : tie.Need-link-roads-requires Inv-loop μ-loop
 link-roads-requires c κs =
-    let start = c .before .before .before .before .before .before .before in
-    let map = given start in record {
+    let map = given (search) in record {
       ranked = ranked map;
       firsts-in = long mostJunctions 0 (ranks-most map);
       nexts-in = long mostRoads 0 (ranked map .most);
@@ -118,76 +99,82 @@ link-roads-requires c κs =
 
 loop-holds : tie.Need-loop-holds Inv-loop μ-loop
 loop-holds c =
-    let start = c .before .before .before .before .before .before .before .before .before .before in
+    let start : tie.Start Inv-loop μ-loop = search in
     record { to-go = search needs; lengths = lengths-same; ready = ready-start (given start) (start .pre .2) (start .pre .3) }
 
 contract-row-requires : tie.Need-contract-row-requires Inv-loop μ-loop
 contract-row-requires c κs =
-    let in-loop = c .before .before .before .before .before .before .before .before .before .before in
-    let at-loop = in-loop .before in record {
-      grouped = linked (after-link-roads at-loop);
+    let at-loop : tie.At-loop Inv-loop μ-loop = search in
+    record {
+      grouped = linked (search);
       ready = at-loop .loop .inv .ready;
-      rank-in = rank-in in-loop;
-      ranks-high = ranks-most (given (start at-loop));
+      rank-in = rank-in (search);
+      ranks-high = ranks-most (given (search));
     }
 
 same-length : tie.Need-same-length Inv-loop μ-loop
 same-length c =
-    let row-made = overflowed c in
-    lengths-kept row-made .pairs ∙ in-loop row-made .before .loop .inv .lengths .pairs
+    let at-loop : tie.At-loop Inv-loop μ-loop = search in
+    lengths-kept (search) .pairs ∙ at-loop .loop .inv .lengths .pairs
 
 same-length-2 : tie.Need-same-length-2 Inv-loop μ-loop
 same-length-2 c =
-    let row-made = overflowed c in
-    lengths-kept row-made .times ∙ in-loop row-made .before .loop .inv .lengths .times
+    let at-loop : tie.At-loop Inv-loop μ-loop = search in
+    lengths-kept (search) .times ∙ at-loop .loop .inv .lengths .times
 
 returns : tie.Need-returns Inv-loop μ-loop
 returns c =
-    let row-made = overflowed c in
-    let in-loop = in-loop row-made in
-    let at-loop = in-loop .before in
-    contract-overflow (given (start at-loop)) (rank-in in-loop) (lengths-kept row-made .pairs ∙ at-loop .loop .inv .lengths .pairs)
+    let row-made : tie.After-contract-row Inv-loop μ-loop = search in
+    let at-loop : tie.At-loop Inv-loop μ-loop = search in
+    contract-overflow (given (search)) (rank-in (search)) (lengths-kept row-made .pairs ∙ at-loop .loop .inv .lengths .pairs)
     (row-made .contract-row .ensures .overflow (c .enum-told .given .1))
 
 add-r : tie.Need-add-r Inv-loop μ-loop
 add-r c =
-    let in-loop = in-loop (fitted c) in
+    let in-loop : tie.In-loop Inv-loop μ-loop = search in
     row-fits (rank-in in-loop) (ranks-most (given (start (in-loop .before))))
 
 loop-less : tie.Need-loop-less Inv-loop μ-loop
-loop-less c = less (in-loop (fitted c) .loop-test .taken)
+loop-less c =
+    let in-loop : tie.In-loop Inv-loop μ-loop = search in
+    less (in-loop .loop-test .taken)
 
 loop-again : tie.Need-loop-again Inv-loop μ-loop
 loop-again c =
-    let in-loop = in-loop (fitted c) in record {
+    let after-k : tie.After-k Inv-loop μ-loop = search in
+    let fitted : tie.After-contract-row Inv-loop μ-loop = search in
+    let in-loop : tie.In-loop Inv-loop μ-loop = search in
+    record {
       to-go = lt-next (in-loop .loop-test .taken);
-      lengths = lengths-on (in-loop .before .loop .inv .lengths) (lengths-kept (fitted c));
-      ready = next-ready (fitted c .contract-row .ensures .kept _ (c .before .k .given .1));
+      lengths = lengths-on (in-loop .before .loop .inv .lengths) (lengths-kept fitted);
+      ready = next-ready (fitted .contract-row .ensures .kept _ (after-k .k .given .1));
     }
 
 clear-from-requires : tie.Need-clear-from-requires Inv-loop μ-loop
 clear-from-requires c κs =
-    let at-loop = c .before .before .before in
+    let at-loop : tie.At-loop Inv-loop μ-loop = search in
     let holds = at-loop .loop .inv .ready .holds in
     (holds .room, holds .same-room)
 
 same-length-3 : tie.Need-same-length-3 Inv-loop μ-loop
 same-length-3 c =
-    let after-clear-from = after-clear-from c in
+    let after-clear-from : tie.After-clear-from Inv-loop μ-loop = search in
+    let at-loop : tie.At-loop Inv-loop μ-loop = search in
     let (pairs-kept, _) = after-clear-from .clear-from .kept in
-    pairs-kept ∙ after-loop after-clear-from .before .loop .inv .lengths .pairs
+    pairs-kept ∙ at-loop .loop .inv .lengths .pairs
 
 same-length-4 : tie.Need-same-length-4 Inv-loop μ-loop
 same-length-4 c =
-    let after-clear-from = after-clear-from c in
+    let after-clear-from : tie.After-clear-from Inv-loop μ-loop = search in
+    let at-loop : tie.At-loop Inv-loop μ-loop = search in
     let (_, (times-kept, _)) = after-clear-from .clear-from .kept in
-    times-kept ∙ after-loop after-clear-from .before .loop .inv .lengths .times
+    times-kept ∙ at-loop .loop .inv .lengths .times
 
 returns-2 : tie.Need-returns-2 Inv-loop μ-loop
 returns-2 c =
-    let after-clear-from = after-clear-from c in
-    let after-loop = after-loop after-clear-from in
-    let at-loop = after-loop .before in
+    let after-clear-from : tie.After-clear-from Inv-loop μ-loop = search in
+    let after-loop : tie.After-loop Inv-loop μ-loop = search in
+    let at-loop : tie.At-loop Inv-loop μ-loop = search in
     let inv = at-loop .loop .inv in
     let map = given (start at-loop) in
     let (pairs-cleared, times-cleared) = after-clear-from .clear-from .ensures in
@@ -197,50 +184,39 @@ returns-2 c =
 pub contract-spec : {M : Type 1} → statement M
 contract-spec =
     tie.close
-    (tie.spec
-    Inv-loop
-    μ-loop
+    (tie.spec Inv-loop μ-loop
     cast-n
     (λ c. counted mostJunctions 0 refl)
     (λ c. counted mostRoads 0 refl)
-    link-roads-requires
-    loop-holds
+    link-roads-requires loop-holds
     (λ c.
-    let after-link-roads = c .before .before .before .before .before in
+    let after-link-roads : tie.After-link-roads Inv-loop μ-loop = search in
     let (_, (_, (first-kept, _))) = after-link-roads .link-roads .kept in
     counted mostJunctions 0 first-kept)
     (λ c.
-    let after-link-roads = c .before .before .before .before .before .before in
+    let after-link-roads : tie.After-link-roads Inv-loop μ-loop = search in
     let (_, (_, (_, (next-kept, _)))) = after-link-roads .link-roads .kept in
     counted mostRoads 0 next-kept)
     (λ c.
-    let at-loop = c .before .before .before .before in
+    let at-loop : tie.At-loop Inv-loop μ-loop = search in
     counted mostJunctions 0 (at-loop .loop .inv .lengths .cursor))
     (λ c.
-    let at-loop = c .before .before .before .before .before in
+    let at-loop : tie.At-loop Inv-loop μ-loop = search in
     counted mostJunctions 0 (at-loop .loop .inv .lengths .ahead))
     (λ c.
-    let at-loop = c .before .before .before .before .before .before in
+    let at-loop : tie.At-loop Inv-loop μ-loop = search in
     counted mostJunctions 0 (at-loop .loop .inv .lengths .ends))
     (λ c.
-    let at-loop = c .before .before .before .before .before .before .before in
+    let at-loop : tie.At-loop Inv-loop μ-loop = search in
     counted mostBlocks mostJunctions (at-loop .loop .inv .lengths .soon))
     (λ c.
-    let at-loop = c .before .before .before .before .before .before .before .before in
+    let at-loop : tie.At-loop Inv-loop μ-loop = search in
     counted mostJunctions noneWord (at-loop .loop .inv .lengths .ups))
     (λ c.
-    let at-loop = c .before .before .before .before .before .before .before .before .before in
+    let at-loop : tie.At-loop Inv-loop μ-loop = search in
     counted mostJunctions noneWord (at-loop .loop .inv .lengths .downs))
     contract-row-requires
     (λ c. c .match .keys1)
-    same-length
-    same-length-2
-    returns
+    same-length same-length-2 returns
     (λ c. c .match .keys2)
-    add-r
-    loop-less
-    loop-again
-    clear-from-requires
-    same-length-3
-    same-length-4
-    returns-2)
+    add-r loop-less loop-again clear-from-requires same-length-3 same-length-4 returns-2)

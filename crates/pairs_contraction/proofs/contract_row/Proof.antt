@@ -19,23 +19,19 @@ use Rattle.pairs_contraction.proofs.contract_row.Tie as tie
 -- ---- the places: the row is relaxed by its roads, passed over the lower ranks, and appended
 
 abbrev start : tie.After-relax-roads → tie.Start
-start c =
-    c .before .before .before .before .before .before .before .before .before .before .before .before .before .before .before
-    .before .before
+start c = search
 
 abbrev relaxed : tie.After-pass-lower → tie.After-relax-roads
-relaxed c = c .before .before .before .before .before .before .before .before .before .before .before .before .before .before .before
+relaxed c = search
 
 abbrev passed : tie.After-append-row → tie.After-pass-lower
-passed c =
-    c .before .before .before .before .before .before .before .before .before .before .before .before .before .before .before
-    .before .before
+passed c = search
 
 abbrev appended : tie.After-k → tie.After-append-row
-appended c = c .before .before .before .before .before .before .before .before .before .before
+appended c = search
 
 abbrev fitted : tie.After-begin-front → tie.After-k
-fitted c = c .before .before .before .before .before .before .before .before
+fitted c = search
 
 -- ---- the call, and its areas at the places
 
@@ -58,7 +54,7 @@ lent s =
 
 abbrev lent-passed : tie.After-pass-lower → Lent
 lent-passed c =
-    let a = lent (start (relaxed c)) in
+    let a = lent (search) in
     let (_, (_, (_, (_, (cursor, (ahead, (_, (soon, (ups, (downs, _)))))))))) = c .pass-lower .last in
     record { pairs = a .pairs; times = a .times; cursor = cursor; ahead = ahead; ends = a .ends; soon = soon; ups = ups; downs = downs }
 
@@ -69,13 +65,13 @@ marks-passed c =
 
 abbrev lent-appended : tie.After-append-row → Lent
 lent-appended c =
-    let a = lent-passed (passed c) in
+    let a = lent-passed (search) in
     let (_, (_, (_, (_, (ups, (downs, (pairs, (times, _)))))))) = c .append-row .last in
     record { pairs = pairs; times = times; cursor = a .cursor; ahead = a .ahead; ends = a .ends; soon = a .soon; ups = ups; downs = downs }
 
 abbrev lent-begun : tie.After-begin-front → Lent
 lent-begun c =
-    let a = lent-appended (appended (fitted c)) in
+    let a = lent-appended (search) in
     let (_, (_, (_, (_, (cursor, (ahead, (ends, (soon, _)))))))) = c .begin-front .last in
     record { pairs = a .pairs; times = a .times; cursor = cursor; ahead = ahead; ends = ends; soon = soon; ups = a .ups; downs = a .downs }
 
@@ -85,13 +81,14 @@ lent-begun c =
 lower : (c : tie.After-pass-lower) → let s = start (relaxed c) in
     LowerIn (weights s) (number s) (rank s) (rank s) (lent-passed c) (marks-passed c)
 lower c =
-    let asked = start (relaxed c) .pre in
+    let start : tie.Start = search in
+    let asked = start .pre in
     c .pass-lower .ensures _ (lower-start (asked .ready) (asked .rank-in) (relaxed c .relax-roads .ensures))
 
 -- its records stand in the area too, if they fit
 row-appended : (c : tie.After-append-row) → let s = called c in let a = lent-appended c in
     RowAppended (weights s) (number s) (rank s) (a .ups) (a .downs) (a .pairs) (a .times) (c .append-row .result)
-row-appended c = c .append-row .ensures _ (row-times (called c .pre .ready) (lower (passed c)))
+row-appended c = c .append-row .ensures _ (row-times (called c .pre .ready) (lower (search)))
 
 -- no area has another length
 lengths-appended : (c : tie.After-append-row) → SameLengths (lent (called c)) (lent-appended c)
@@ -112,7 +109,7 @@ lengths-appended c =
 
 lengths-begun : (c : tie.After-begin-front) → SameLengths (lent (called (appended (fitted c)))) (lent-begun c)
 lengths-begun c =
-    let so-far = lengths-appended (appended (fitted c)) in
+    let so-far = lengths-appended (search) in
     let (_, (_, (_, (_, (cursor-kept, (ahead-kept, (ends-kept, (soon-kept, _)))))))) = c .begin-front .kept in
     record {
       pairs = so-far .pairs;
@@ -129,8 +126,7 @@ lengths-begun c =
 
 relax-roads-requires : tie.Need-relax-roads-requires
 relax-roads-requires c κs =
-    let after-r = c .before .before .before in
-    let start = after-r .before .before .before .before .before .before .before .before .before .before .before .before .before in
+    let start : tie.Start = search in
     let asked = start .pre in record {
       grouped = asked .grouped;
       rank-in = asked .rank-in;
@@ -141,15 +137,13 @@ relax-roads-requires c κs =
 
 pass-lower-requires : tie.Need-pass-lower-requires
 pass-lower-requires c κs =
-    let after-touched2 = c .before .before .before .before .before .before .before .before .before in
-    let after-relax-roads = after-touched2 .before .before .before .before .before in
+    let after-relax-roads : tie.After-relax-roads = search in
     let asked = start after-relax-roads .pre in
     ((_, lower-start (asked .ready) (asked .rank-in) (after-relax-roads .relax-roads .ensures)), asked .ranks-high)
 
 append-row-requires : tie.Need-append-row-requires
 append-row-requires c κs =
-    let after-ahead = c .before .before .before .before .before .before .before .before .before .before .before .before .before in
-    let after-pass-lower = after-ahead .before .before .before in
+    let after-pass-lower : tie.After-pass-lower = search in
     let asked = start (relaxed after-pass-lower) .pre in
     let stage = lower after-pass-lower .stage in record {
       rank-in = asked .rank-in;
@@ -164,14 +158,14 @@ append-row-requires c κs =
 
 ahead-at-requires : tie.Need-ahead-at-requires
 ahead-at-requires c κs =
-    let after-k = c .before .before in
-    row-appended (appended after-k) .appended .all _ (after-k .k .given .1) .room
+    let after-k : tie.After-k = search in
+    row-appended (search) .appended .all _ (after-k .k .given .1) .room
 
 begin-front-requires : tie.Need-begin-front-requires
 begin-front-requires c κs =
-    let after-k = c .before .before .before .before .before .before .before in
-    let rank-in = called (appended after-k) .pre .rank-in in
-    let done = lower (passed (appended after-k)) in record {
+    let after-append-row : tie.After-append-row = search in
+    let rank-in = called after-append-row .pre .rank-in in
+    let done = lower (passed after-append-row) in record {
       cursor-in = lt-le rank-in (done .stage .wide .cursors);
       ahead-in = lt-le rank-in (done .stage .wide .aheads);
       ends-in = lt-le rank-in (done .stage .wide .ends-too);
@@ -180,74 +174,68 @@ begin-front-requires c κs =
 
 -- the records do not fit
 
-abbrev overflowed : tie.After-enum-told → tie.After-append-row
-overflowed c = c .before .before .before .before .before .before .before .before .before .before
-
 same-length : tie.Need-same-length
-same-length c = lengths-appended (overflowed c) .cursor
+same-length c = lengths-appended (search) .cursor
 
 same-length-2 : tie.Need-same-length-2
-same-length-2 c = lengths-appended (overflowed c) .ahead
+same-length-2 c = lengths-appended (search) .ahead
 
 same-length-3 : tie.Need-same-length-3
-same-length-3 c = lengths-appended (overflowed c) .ends
+same-length-3 c = lengths-appended (search) .ends
 
 same-length-4 : tie.Need-same-length-4
-same-length-4 c = lengths-appended (overflowed c) .soon
+same-length-4 c = lengths-appended (search) .soon
 
 same-length-5 : tie.Need-same-length-5
-same-length-5 c = lengths-appended (overflowed c) .ups
+same-length-5 c = lengths-appended (search) .ups
 
 same-length-6 : tie.Need-same-length-6
-same-length-6 c = lengths-appended (overflowed c) .downs
+same-length-6 c = lengths-appended (search) .downs
 
 same-length-7 : tie.Need-same-length-7
-same-length-7 c = lengths-appended (overflowed c) .pairs
+same-length-7 c = lengths-appended (search) .pairs
 
 same-length-8 : tie.Need-same-length-8
-same-length-8 c = lengths-appended (overflowed c) .times
+same-length-8 c = lengths-appended (search) .times
 
 returns : tie.Need-returns
 returns c =
-    let after-append-row = overflowed c in
+    let after-append-row : tie.After-append-row = search in
     row-overflow (called after-append-row .pre .ready) (lower (passed after-append-row)) (c .enum-told .given .1)
     (row-appended after-append-row)
 
 -- they do
 
-abbrev begun : tie.After-slice-known23 → tie.After-begin-front
-begun c = c .before .before .before .before .before .before .before .before
-
 same-length-9 : tie.Need-same-length-9
-same-length-9 c = lengths-begun (begun c) .cursor
+same-length-9 c = lengths-begun (search) .cursor
 
 same-length-10 : tie.Need-same-length-10
-same-length-10 c = lengths-begun (begun c) .ahead
+same-length-10 c = lengths-begun (search) .ahead
 
 same-length-11 : tie.Need-same-length-11
-same-length-11 c = lengths-begun (begun c) .ends
+same-length-11 c = lengths-begun (search) .ends
 
 same-length-12 : tie.Need-same-length-12
-same-length-12 c = lengths-begun (begun c) .soon
+same-length-12 c = lengths-begun (search) .soon
 
 same-length-13 : tie.Need-same-length-13
-same-length-13 c = lengths-begun (begun c) .ups
+same-length-13 c = lengths-begun (search) .ups
 
 same-length-14 : tie.Need-same-length-14
-same-length-14 c = lengths-begun (begun c) .downs
+same-length-14 c = lengths-begun (search) .downs
 
 same-length-15 : tie.Need-same-length-15
-same-length-15 c = lengths-begun (begun c) .pairs
+same-length-15 c = lengths-begun (search) .pairs
 
 same-length-16 : tie.Need-same-length-16
-same-length-16 c = lengths-begun (begun c) .times
+same-length-16 c = lengths-begun (search) .times
 
 returns-2 : tie.Need-returns-2
 returns-2 c =
-    let after-begin-front = begun c in
-    let after-ahead-at = after-begin-front .before .before .before .before .before in
-    let after-k = fitted after-begin-front in
-    let after-append-row = appended after-k in
+    let after-begin-front : tie.After-begin-front = search in
+    let after-ahead-at : tie.After-ahead-at = search in
+    let after-k : tie.After-k = search in
+    let after-append-row : tie.After-append-row = search in
     row-kept (called after-append-row .pre .ready) (lower (passed after-append-row)) (row-appended after-append-row) (after-k .k .given .1)
     (after-ahead-at .ahead-at .ensures) (lengths-appended after-append-row .pairs) (after-begin-front .begin-front .ensures)
 
@@ -255,8 +243,7 @@ pub contract-row-spec : {M : Type 1} → statement M
 contract-row-spec =
     tie.close
     (tie.spec
-    (λ c. search needs)
-    (λ c. refl)
+    (λ c. search needs) (λ c. refl)
     relax-roads-requires
     (λ c. search needs)
     pass-lower-requires
@@ -264,23 +251,6 @@ contract-row-spec =
     append-row-requires
     (λ c. c .match .keys1)
     (λ c. c .match .keys2)
-    ahead-at-requires
-    begin-front-requires
-    same-length
-    same-length-2
-    same-length-3
-    same-length-4
-    same-length-5
-    same-length-6
-    same-length-7
-    same-length-8
-    returns
-    same-length-9
-    same-length-10
-    same-length-11
-    same-length-12
-    same-length-13
-    same-length-14
-    same-length-15
-    same-length-16
-    returns-2)
+    ahead-at-requires begin-front-requires same-length same-length-2 same-length-3 same-length-4 same-length-5 same-length-6 same-length-7
+    same-length-8 returns same-length-9 same-length-10 same-length-11 same-length-12 same-length-13 same-length-14 same-length-15
+    same-length-16 returns-2)

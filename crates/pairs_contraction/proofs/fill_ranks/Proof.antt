@@ -24,7 +24,7 @@ abbrev μ-loop : tie.MeasureT-loop
 -- ---- at the head of the loop
 
 abbrev start : tie.At-loop Inv-loop μ-loop → tie.Start Inv-loop μ-loop
-start c = c .before .before .before
+start c = search
 
 -- the order is that of a map
 abbrev roads : tie.At-loop Inv-loop μ-loop → List ℕ
@@ -40,7 +40,9 @@ number : (c : tie.At-loop Inv-loop μ-loop) → length (start c .args .ranks .no
 number c = omega (arith, map-facts (sound c) .order-is, start c .pre .1)
 
 place-in : (c : tie.In-loop Inv-loop μ-loop) → c .before .loop .k < vertices (c .before)
-place-in c = omega (arith, c .loop-test .taken, c .before .loop .inv .length-kept, number (c .before))
+place-in c =
+    let at-loop : tie.At-loop Inv-loop μ-loop = search in
+    omega (arith, c .loop-test .taken, at-loop .loop .inv .length-kept, number at-loop)
 
 -- ---- the answers
 
@@ -49,37 +51,33 @@ loop-holds c = record { to-go = search needs; length-kept = search needs; filled
 
 slice-write-ranks : tie.Need-slice-write-ranks Inv-loop μ-loop
 slice-write-ranks c =
-    let after-junction-of = c .before in
-    let in-loop = after-junction-of .before in
-    let at-loop = in-loop .before in
+    let after-junction-of : tie.After-junction-of Inv-loop μ-loop = search in
+    let at-loop : tie.At-loop Inv-loop μ-loop = search in
     omega (
       arith,
       after-junction-of .junction-of .ensures,
-      junction-below (sound at-loop) (place-in in-loop),
+      junction-below (sound at-loop) (place-in (search)),
       number at-loop,
       at-loop .loop .inv .length-kept,
     )
 
 add-k : tie.Need-add-k Inv-loop μ-loop
-add-k c =
-    let in-loop = c .before .before in
-    omega (arith, place-in in-loop, map-facts (sound (in-loop .before)) .vertices-high)
+add-k c = omega (arith, place-in (search), map-facts (sound (search)) .vertices-high)
 
 loop-again : tie.Need-loop-again Inv-loop μ-loop
 loop-again c =
-    let after-junction-of = c .before in
-    let in-loop = after-junction-of .before in
-    let at-loop = in-loop .before in
+    let after-junction-of : tie.After-junction-of Inv-loop μ-loop = search in
+    let at-loop : tie.At-loop Inv-loop μ-loop = search in
     let inv = at-loop .loop .inv in record {
       to-go = search needs;
       length-kept = simp length-set (inv .length-kept);
-      filled = filled-turn (sound at-loop) (inv .length-kept ∙ number at-loop) (place-in in-loop) (after-junction-of .junction-of .ensures)
+      filled = filled-turn (sound at-loop) (inv .length-kept ∙ number at-loop) (place-in (search)) (after-junction-of .junction-of .ensures)
           (inv .filled);
     }
 
 returns : tie.Need-returns Inv-loop μ-loop
 returns c =
-    let at-loop = c .before in
+    let at-loop : tie.At-loop Inv-loop μ-loop = search in
     let inv = at-loop .loop .inv in
     λ roads. filled-end (sound at-loop) (inv .length-kept ∙ number at-loop) (omega (
       arith,
@@ -92,16 +90,10 @@ returns c =
 pub fill-ranks-spec : {M : Type 1} → statement M
 fill-ranks-spec =
     tie.close
-    (tie.spec
-    Inv-loop
-    μ-loop
+    (tie.spec Inv-loop μ-loop
     loop-holds
-    (λ c. search needs)
-    (λ c κs. search needs)
-    (λ c. search needs)
-    (λ c. search needs)
-    slice-write-ranks
-    add-k
+    (λ c. search needs) (λ c κs. search needs) (λ c. search needs) (λ c. search needs)
+    slice-write-ranks add-k
     (λ c. search needs)
     loop-again
     (λ c. search needs)

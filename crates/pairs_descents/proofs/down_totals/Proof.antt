@@ -21,23 +21,22 @@ Inv-loop n count order pairs times down₀ t i₀ down i = Passing n count order
 abbrev μ-loop : tie.MeasureT-loop
 μ-loop n count order pairs times down₀ t i₀ down i = count - i
 
-abbrev start : tie.After-word Inv-loop μ-loop → tie.Start Inv-loop μ-loop
-start c = c .before .before .before .before .before .before .before .before .before .before .before
-
 loop-holds : tie.Need-loop-holds Inv-loop μ-loop
 loop-holds c =
-    let after-fill-times = c .before .before .before .before .before in
-    let asked = start c .pre in record {
+    let after-of-word : tie.After-of-word Inv-loop μ-loop = search in
+    let after-fill-times : tie.After-fill-times Inv-loop μ-loop = search in
+    let start : tie.Start Inv-loop μ-loop = search in
+    let asked = start .pre in record {
       to-go = search needs;
       down-is = simp length-set (search needs);
       descending = descend-start (asked .target-in) (asked .down-is) (after-fill-times .fill-times .ensures)
-          (c .word .ensures ∙ c .before .of-word .ensures);
+          (c .word .ensures ∙ after-of-word .of-word .ensures);
     }
 
 loop-again : tie.Need-loop-again Inv-loop μ-loop
 loop-again c =
-    let after-hand-down = c .before .before in
-    let in-loop = after-hand-down .before .before in
+    let after-hand-down : tie.After-hand-down Inv-loop μ-loop = search in
+    let in-loop : tie.In-loop Inv-loop μ-loop = search in
     let inv = in-loop .before .loop .inv in record {
       to-go = search needs;
       down-is = search needs;
@@ -46,26 +45,18 @@ loop-again c =
 
 returns : tie.Need-returns Inv-loop μ-loop
 returns c =
-    let at-loop = c .before in
+    let at-loop : tie.At-loop Inv-loop μ-loop = search in
+    let start : tie.Start Inv-loop μ-loop = search in
     let inv = at-loop .loop .inv in
-    descend-end (c .loop-test .left) (inv .down-is) (start (at-loop .before) .pre .order-is) (inv .descending)
+    descend-end (c .loop-test .left) (inv .down-is) (start .pre .order-is) (inv .descending)
 
 pub down-totals-spec : {M : Type 1} → statement M
 down-totals-spec =
     tie.close
-    (tie.spec
-    Inv-loop
-    μ-loop
-    (λ c κs. search needs)
-    (λ c. search needs)
-    (λ c κs. search needs)
-    (λ c κs. search needs)
-    (λ c. search needs)
-    (λ c. search needs)
+    (tie.spec Inv-loop μ-loop
+    (λ c κs. search needs) (λ c. search needs) (λ c κs. search needs) (λ c κs. search needs) (λ c. search needs) (λ c. search needs)
     loop-holds
-    (λ c κs. search needs)
-    (λ c. search needs)
-    (λ c. search needs)
+    (λ c κs. search needs) (λ c. search needs) (λ c. search needs)
     loop-again
     (λ c. search needs)
     returns)

@@ -12,78 +12,66 @@ use Rattle.pairs_descents.proofs.hand_down.Tie as tie
 -- ---- the two junctions of the record
 
 abbrev start : tie.After-junction-of → tie.Start
-start c = c .before .before .before .before .before .before .before .before
+start c = search
 
 lower-is : (c : tie.After-junction-of)
     → c .junction-of .result .0 ≡ lowerIn (start c .args .order .now) (start c .args .pairs .now) (start c .args .i)
 lower-is c =
-    let after-low-of = c .before .before .before in
+    let after-low-of : tie.After-low-of = search in
     junction-at (start c .args .order .now) (after-low-of .low-of .ensures) (c .junction-of .ensures)
 
-abbrev after-junction-of : tie.After-is-none → tie.After-junction-of
-after-junction-of c = c .before .before .before .before .before .before
-
-abbrev after-is-none : tie.After-junction-of2 → tie.After-is-none
-after-is-none c = c .before .before .before .before .before
-
 abbrev start-2 : tie.After-junction-of2 → tie.Start
-start-2 c = start (after-junction-of (after-is-none c))
+start-2 c = search
 
 higher-is : (c : tie.After-junction-of2) → let s = start-2 c in
     c .junction-of2 .result .0 ≡ higherIn (s .args .order .now) (s .args .pairs .now) (s .args .i)
 higher-is c =
-    let after-high-of = c .before .before .before in
+    let after-high-of : tie.After-high-of = search in
     junction-at (start-2 c .args .order .now) (after-high-of .high-of .ensures) (c .junction-of2 .ensures)
 
 -- ---- the answers
 
 returns : tie.Need-returns
 returns c =
-    let after-low-of = c .before .before in
+    let after-low-of : tie.After-low-of = search in
     no-low (after-low-of .low-of .ensures) (c .if1 .taken)
 
 returns-2 : tie.Need-returns-2
-returns-2 c =
-    let after-junction-of = c .before .before in
-    no-lower (lower-is after-junction-of) (c .if2 .taken)
+returns-2 c = no-lower (lower-is (search)) (c .if2 .taken)
 
 returns-3 : tie.Need-returns-3
 returns-3 c =
-    let after-is-none = c .before in
-    let after-of-word = after-is-none .before in
-    no-rest (lower-is (after-junction-of after-is-none)) (after-of-word .of-word .ensures)
-    (eqb-true _ _ (sym (after-is-none .is-none .ensures) ∙ c .if3 .taken))
+    let after-is-none : tie.After-is-none = search in
+    let after-of-word : tie.After-of-word = search in
+    no-rest (lower-is (search)) (after-of-word .of-word .ensures) (eqb-true _ _ (sym (after-is-none .is-none .ensures) ∙ c .if3 .taken))
 
 returns-4 : tie.Need-returns-4
 returns-4 c =
-    let after-high-of = c .before .before in
+    let after-high-of : tie.After-high-of = search in
     no-high (after-high-of .high-of .ensures) (c .if4 .taken)
 
 returns-5 : tie.Need-returns-5
-returns-5 c =
-    let after-junction-of2 = c .before .before in
-    no-higher (higher-is after-junction-of2) (c .if5 .taken)
+returns-5 c = no-higher (higher-is (search)) (c .if5 .taken)
 
 down-of-requires : tie.Need-down-of-requires
 down-of-requires c κs =
-    let after-junction-of2 = c .before .before .before .before .before in
-    start-2 after-junction-of2 .pre .times-in
+    let start : tie.Start = search in
+    start .pre .times-in
 
 slice-write-down : tie.Need-slice-write-down
 slice-write-down c =
-    let else5 = c .before .before .before .before .before .before in
-    let after-junction-of2 = else5 .before .before in
+    let else5 : tie.Else5 = search in
+    let after-junction-of2 : tie.After-junction-of2 = search in
     omega (arith, else5 .if5 .left, start-2 after-junction-of2 .pre .down-is)
 
 returns-6 : tie.Need-returns-6
 returns-6 c =
-    let after-down-of = c .before .before in
-    let after-of-word2 = after-down-of .before in
-    let after-junction-of2 = after-of-word2 .before .before .before .before .before in
-    let after-is-none = after-is-none after-junction-of2 in
-    let after-of-word = after-is-none .before in
-    handed (lower-is (after-junction-of after-is-none)) (higher-is after-junction-of2) (after-of-word2 .of-word2 .ensures)
-    (after-down-of .down-of .ensures) (after-of-word .of-word .ensures) (c .before .or-sum .ensures) (c .word .ensures)
+    let after-of-word : tie.After-of-word = search in
+    let after-of-word2 : tie.After-of-word2 = search in
+    let after-down-of : tie.After-down-of = search in
+    let after-or-sum : tie.After-or-sum = search in
+    handed (lower-is (search)) (higher-is (search)) (after-of-word2 .of-word2 .ensures)
+    (after-down-of .down-of .ensures) (after-of-word .of-word .ensures) (after-or-sum .or-sum .ensures) (c .word .ensures)
 
 pub hand-down-spec : {M : Type 1} → statement M
 hand-down-spec =
@@ -93,24 +81,15 @@ hand-down-spec =
     returns
     (λ c κs. search needs)
     returns-2
-    (λ c. search needs)
-    (λ c. search needs)
-    (λ c. search needs)
-    (λ c κs. search needs)
-    (λ c κs. search needs)
+    (λ c. search needs) (λ c. search needs) (λ c. search needs) (λ c κs. search needs) (λ c κs. search needs)
     returns-3
     (λ c κs. search needs)
     returns-4
     (λ c κs. search needs)
     returns-5
-    (λ c. search needs)
-    (λ c. search needs)
-    (λ c. search needs)
-    (λ c κs. search needs)
+    (λ c. search needs) (λ c. search needs) (λ c. search needs) (λ c κs. search needs)
     down-of-requires
-    (λ c κs. search needs)
-    (λ c κs. search needs)
-    (λ c. search needs)
+    (λ c κs. search needs) (λ c κs. search needs) (λ c. search needs)
     slice-write-down
     (λ c. search needs)
     returns-6)

@@ -15,5 +15,4 @@ ahead-at-spec =
     tie.close
     (tie.spec
     (λ c κs. search needs)
-    returns
-    returns-2)
+    returns returns-2)

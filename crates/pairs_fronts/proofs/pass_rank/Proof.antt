@@ -31,54 +31,47 @@ next-high c = next-fits (met c .next-in) (met c .end-in) (c .pre .0 .1 .area)
 
 -- ---- the places after
 
-abbrev start : tie.After-relax-over → tie.Start
-start c = c .before .before .before .before .before .before .before .before .before .before .before .before .before .before .before
-
 abbrev after-relax-over : tie.After-ahead-at → tie.After-relax-over
-after-relax-over c = c .before .before .before .before .before .before .before
+after-relax-over c = search
 
 -- ---- the answers
 
 slice-read-i : tie.Need-slice-read-i
-slice-read-i c =
-    let start = c .before .before .before .before .before .before .before .before .before .before in
-    cursor-in start
+slice-read-i c = cursor-in (search)
 
 shared-slice-read-end : tie.Need-shared-slice-read-end
-shared-slice-read-end c =
-    let start = c .before .before .before .before .before .before .before .before .before .before .before in
-    end-in start
+shared-slice-read-end c = end-in (search)
 
 relax-over-requires : tie.Need-relax-over-requires
 relax-over-requires c κs =
-    let start = c .before .before .before .before .before .before .before .before .before .before .before .before .before .before in
+    let start : tie.Start = search in
     let ((_, stage), below, at-r) = start .pre in
     (met start .next-in, met start .end-in, stage .holds .same-room, reached stage below at-r)
 
 add-ahead-at : tie.Need-add-ahead-at
-add-ahead-at c =
-    let after-relax-over = c .before .before .before .before .before .before in
-    record { fits = next-high (start after-relax-over) }
+add-ahead-at c = record { fits = next-high (search) }
 
 ahead-at-requires : tie.Need-ahead-at-requires
-ahead-at-requires c κs =
-    let after-relax-over = c .before .before .before .before .before .before in
-    met (start after-relax-over) .end-in
+ahead-at-requires c κs = met (search) .end-in
 
 add-cursor : tie.Need-add-cursor
-add-cursor c = record { fits = next-high (start (after-relax-over c)) }
+add-cursor c = record { fits = next-high (search) }
 
 slice-write-cursor : tie.Need-slice-write-cursor
-slice-write-cursor c = cursor-in (start (after-relax-over c))
+slice-write-cursor c = cursor-in (search)
 
 slice-write-ahead : tie.Need-slice-write-ahead
-slice-write-ahead c = ahead-in (start (after-relax-over c))
+slice-write-ahead c = ahead-in (search)
 
 same-length : tie.Need-same-length
-same-length c = length-set (start (after-relax-over c) .args .cursor .now) _ _
+same-length c =
+    let start : tie.Start = search in
+    length-set (start .args .cursor .now) _ _
 
 same-length-2 : tie.Need-same-length-2
-same-length-2 c = length-set (start (after-relax-over c) .args .ahead .now) _ _
+same-length-2 c =
+    let start : tie.Start = search in
+    length-set (start .args .ahead .now) _ _
 
 same-length-3 : tie.Need-same-length-3
 same-length-3 c = let (_, (_, (_, (_, (ups-kept, _))))) = after-relax-over c .relax-over .kept in ups-kept
@@ -91,7 +84,7 @@ same-length-5 c = let (_, (_, (_, (_, (_, (_, (touched-kept, _))))))) = after-re
 
 returns : tie.Need-returns
 returns c =
-    let start = start (after-relax-over c) in
+    let start : tie.Start = search in
     let (_, below, at-r) = start .pre in (
       sym (getD-set-same (start .args .ahead .now) (start .args .v .0) _ 0 (ahead-in start)),
       λ w stage. stage-pass stage below (meeting stage below at-r) (after-relax-over c .relax-over .ensures) (c .ahead-at .ensures),
@@ -101,22 +94,11 @@ pub pass-rank-spec : {M : Type 1} → statement M
 pass-rank-spec =
     tie.close
     (tie.spec
-    (λ c. search needs)
-    (λ c. search needs)
+    (λ c. search needs) (λ c. search needs)
     slice-read-i
     (λ c. search needs)
-    shared-slice-read-end
-    relax-over-requires
-    add-ahead-at
-    ahead-at-requires
-    add-cursor
+    shared-slice-read-end relax-over-requires add-ahead-at ahead-at-requires add-cursor
     (λ c. search needs)
     slice-write-cursor
     (λ c. search needs)
-    slice-write-ahead
-    same-length
-    same-length-2
-    same-length-3
-    same-length-4
-    same-length-5
-    returns)
+    slice-write-ahead same-length same-length-2 same-length-3 same-length-4 same-length-5 returns)

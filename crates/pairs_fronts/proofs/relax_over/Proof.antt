@@ -36,30 +36,21 @@ record Entries (h : ℕ) (ups downs touched : List ℕ) : Type 0 where
   mark-in : h < block * length touched
 
 abbrev at-loop : tie.After-high-of Inv-loop μ-loop → tie.At-loop Inv-loop μ-loop
-at-loop c = c .before .before
-
-abbrev start : tie.After-high-of Inv-loop μ-loop → tie.Start Inv-loop μ-loop
-start c = at-loop c .before .before .before .before .before .before .before .before
+at-loop c = search
 
 entries : (c : tie.After-high-of Inv-loop μ-loop)
     → Entries (c .high-of .result .0) (at-loop c .loop .ups) (at-loop c .loop .downs) (at-loop c .loop .touched)
 entries c =
+    let in-loop : tie.In-loop Inv-loop μ-loop = search in
+    let start : tie.Start Inv-loop μ-loop = search in
     let j = at-loop c .loop .j in
     let inv = at-loop c .loop .inv in
-    let in-range = c .before .loop-test .taken in
-    let (_, _, _, reached) = start c .pre in record {
+    let in-range = in-loop .loop-test .taken in
+    let (_, _, _, reached) = start .pre in record {
       up-in = in-length (by-below (c .high-of .ensures) (reached .ups-in j (inv .after) in-range)) (inv .ups-kept);
       down-in = in-length (by-below (c .high-of .ensures) (reached .downs-in j (inv .after) in-range)) (inv .downs-kept);
       mark-in = in-blocks (by-below (c .high-of .ensures) (reached .marks-in j (inv .after) in-range)) (inv .touched-kept);
     }
-
--- ---- once both times of record j are read
-
-abbrev after-high-of : tie.After-down-of2 Inv-loop μ-loop → tie.After-high-of Inv-loop μ-loop
-after-high-of c = c .before .before .before .before .before .before .before .before
-
-abbrev in-loop : tie.After-down-of2 Inv-loop μ-loop → tie.In-loop Inv-loop μ-loop
-in-loop c = after-high-of c .before
 
 -- ---- the answers
 
@@ -74,38 +65,36 @@ loop-holds c = record {
 }
 
 relax-entry-requires : tie.Need-relax-entry-requires Inv-loop μ-loop
-relax-entry-requires c κs =
-    let after-high-of = c .before .before .before in
-    entries after-high-of .up-in
+relax-entry-requires c κs = entries (search) .up-in
 
 relax-entry-requires-2 : tie.Need-relax-entry-requires-2 Inv-loop μ-loop
-relax-entry-requires-2 c κs = entries (after-high-of c) .down-in
+relax-entry-requires-2 c κs = entries (search) .down-in
 
 mark-requires : tie.Need-mark-requires Inv-loop μ-loop
-mark-requires c κs =
-    let after-down-of2 = c .before .before .before .before in
-    entries (after-high-of after-down-of2) .mark-in
+mark-requires c κs = entries (search) .mark-in
 
 add-j-2 : tie.Need-add-j-2 Inv-loop μ-loop
 add-j-2 c =
-    let after-down-of2 = c .before .before .before .before .before .before .before in
-    let (_, (_, (_, (end-high, _)))) = start (after-high-of after-down-of2) .good in
-    record { fits = omega (arith, in-loop after-down-of2 .loop-test .taken, end-high) }
+    let in-loop : tie.In-loop Inv-loop μ-loop = search in
+    let start : tie.Start Inv-loop μ-loop = search in
+    let (_, (_, (_, (end-high, _)))) = start .good in
+    record { fits = omega (arith, in-loop .loop-test .taken, end-high) }
 
 loop-less : tie.Need-loop-less Inv-loop μ-loop
 loop-less c =
-    let after-down-of2 = c .before .before .before .before .before .before .before in
-    less (in-loop after-down-of2 .loop-test .taken)
+    let in-loop : tie.In-loop Inv-loop μ-loop = search in
+    less (in-loop .loop-test .taken)
 
 loop-again : tie.Need-loop-again Inv-loop μ-loop
 loop-again c =
-    let after-mark = c .before .before in
-    let after-relax-entry2 = after-mark .before .before .before .before in
-    let after-down-of2 = after-relax-entry2 .before in
-    let after-relax-entry = after-down-of2 .before .before .before .before in
-    let after-up-of2 = after-relax-entry .before in
-    let after-high-of = after-high-of after-down-of2 in
-    let in-range = in-loop after-down-of2 .loop-test .taken in
+    let after-mark : tie.After-mark Inv-loop μ-loop = search in
+    let after-relax-entry2 : tie.After-relax-entry2 Inv-loop μ-loop = search in
+    let after-down-of2 : tie.After-down-of2 Inv-loop μ-loop = search in
+    let after-relax-entry : tie.After-relax-entry Inv-loop μ-loop = search in
+    let after-up-of2 : tie.After-up-of2 Inv-loop μ-loop = search in
+    let after-high-of : tie.After-high-of Inv-loop μ-loop = search in
+    let in-loop : tie.In-loop Inv-loop μ-loop = search in
+    let in-range = in-loop .loop-test .taken in
     let inv = at-loop after-high-of .loop .inv in record {
       after = le-more (inv .after);
       within = lt-next in-range;
@@ -128,33 +117,19 @@ same-length-3 c = c .before .loop .inv .touched-kept
 
 returns : tie.Need-returns Inv-loop μ-loop
 returns c =
-    let at-loop = c .before in
-    let after-up-of = at-loop .before in
-    let after-down-of = after-up-of .before in
+    let at-loop : tie.At-loop Inv-loop μ-loop = search in
+    let after-up-of : tie.After-up-of Inv-loop μ-loop = search in
+    let after-down-of : tie.After-down-of Inv-loop μ-loop = search in
     going-end (at-loop .loop .inv .within) (c .loop-test .left) (after-down-of .down-of .ensures) (after-up-of .up-of .ensures)
     (at-loop .loop .inv .going)
 
 pub relax-over-spec : {M : Type 1} → statement M
 relax-over-spec =
     tie.close
-    (tie.spec
-    Inv-loop
-    μ-loop
-    (λ c κs. search needs)
-    (λ c κs. search needs)
-    (λ c. search needs)
+    (tie.spec Inv-loop μ-loop
+    (λ c κs. search needs) (λ c κs. search needs) (λ c. search needs)
     loop-holds
-    (λ c κs. search needs)
-    (λ c. search needs)
-    (λ c κs. search needs)
+    (λ c κs. search needs) (λ c. search needs) (λ c κs. search needs)
     relax-entry-requires
     (λ c κs. search needs)
-    relax-entry-requires-2
-    mark-requires
-    add-j-2
-    loop-less
-    loop-again
-    same-length
-    same-length-2
-    same-length-3
-    returns)
+    relax-entry-requires-2 mark-requires add-j-2 loop-less loop-again same-length same-length-2 same-length-3 returns)

@@ -82,68 +82,77 @@ rank-calls t = (
   word.Learnt,
 )
 
+abbrev Rank-called : ℕ → Type 0
+Rank-called t = rank-tie.Start (rank-calls t) (rank-at t) rank.Post
+
 abbrev After-known-of : ℕ → Type 0
 After-known-of t = rank-tie.After-known-of (rank-calls t) (rank-at t) rank.Post
+
+abbrev After-is-unasked : ℕ → Type 0
+After-is-unasked t = rank-tie.After-is-unasked (rank-calls t) (rank-at t) rank.Post
+
+abbrev Else1 : ℕ → Type 0
+Else1 t = rank-tie.Else1 (rank-calls t) (rank-at t) rank.Post
 
 abbrev After-junction-of : ℕ → Type 0
 After-junction-of t = rank-tie.After-junction-of (rank-calls t) (rank-at t) rank.Post
 
+abbrev After-of-word : ℕ → Type 0
+After-of-word t = rank-tie.After-of-word (rank-calls t) (rank-at t) rank.Post
+
 abbrev After-walk-pairs : ℕ → Type 0
 After-walk-pairs t = rank-tie.After-walk-pairs (rank-calls t) (rank-at t) rank.Post
 
-abbrev rank-called : {t : ℕ} → After-known-of t → rank-tie.Start (rank-calls t) (rank-at t) rank.Post
-rank-called c = c .before .before .before .before .before .before .before
+abbrev After-answer-of : ℕ → Type 0
+After-answer-of t = rank-tie.After-answer-of (rank-calls t) (rank-at t) rank.Post
 
-abbrev after-known-of : {t : ℕ} → After-junction-of t → After-known-of t
-after-known-of c = c .before .before .before
+module _ {t : ℕ} where
+  abbrev rank-called : After-junction-of t → Rank-called t
+  rank-called c = search
 
--- nothing stands for the rank: the entry of its junction is unasked
-entry : {t : ℕ} (c : After-junction-of t) → let s = rank-called (after-known-of c) in
-    (c .junction-of .result .0 < s .args .n) × (getD (s .args .estimates .now) (c .junction-of .result .0) 0 ≡ unasked)
-entry c =
-    let else1 = c .before in
-    let after-is-unasked = else1 .before in
-    let standing = after-known-of c .known-of .ensures in
-    let test = sym (after-is-unasked .is-unasked .ensures) ∙ not-false _ (else1 .if1 .left) in
-    unasked-entry (known-asked (rank-called (after-known-of c) .pre .1)) (c .junction-of .ensures) (sym standing ∙ eqb-true _ _ test)
+  -- nothing stands for the rank: the entry of its junction is unasked
+  entry : (c : After-junction-of t) → let s = rank-called c in
+      (c .junction-of .result .0 < s .args .n) × (getD (s .args .estimates .now) (c .junction-of .result .0) 0 ≡ unasked)
+  entry c =
+      let after-known-of : After-known-of t = search in
+      let after-is-unasked : After-is-unasked t = search in
+      let else1 : Else1 t = search in
+      let standing = after-known-of .known-of .ensures in
+      let test = sym (after-is-unasked .is-unasked .ensures) ∙ not-false _ (else1 .if1 .left) in
+      unasked-entry (known-asked (rank-called c .pre .1)) (c .junction-of .ensures) (sym standing ∙ eqb-true _ _ test)
 
-rank-returns : {t : ℕ} → rank-tie.Need-returns (rank-calls t) (rank-at t) rank.Post
-rank-returns c =
-    let after-is-unasked = c .before in
-    let after-known-of = after-is-unasked .before in
-    let test = sym (after-is-unasked .is-unasked .ensures) ∙ not-true _ (c .if1 .taken) in
-    stands (known-asked (rank-called after-known-of .pre .1)) (after-known-of .known-of .ensures) (eqb-false _ _ test)
+  rank-returns : rank-tie.Need-returns (rank-calls t) (rank-at t) rank.Post
+  rank-returns c =
+      let called : Rank-called t = search in
+      let after-known-of : After-known-of t = search in
+      let after-is-unasked : After-is-unasked t = search in
+      let test = sym (after-is-unasked .is-unasked .ensures) ∙ not-true _ (c .if1 .taken) in
+      stands (known-asked (called .pre .1)) (after-known-of .known-of .ensures) (eqb-false _ _ test)
 
-mul-of-word : {t : ℕ} → rank-tie.Need-mul-of-word (rank-calls t) (rank-at t) rank.Post
-mul-of-word c = let here = entry (c .before) in search needs
+  mul-of-word : rank-tie.Need-mul-of-word (rank-calls t) (rank-at t) rank.Post
+  mul-of-word c = let here = entry (search) in search needs
 
-slice-read-of-word : {t : ℕ} → rank-tie.Need-shared-slice-read-of-word (rank-calls t) (rank-at t) rank.Post
-slice-read-of-word c = let here = entry (c .before .before) in search needs
+  slice-read-of-word : rank-tie.Need-shared-slice-read-of-word (rank-calls t) (rank-at t) rank.Post
+  slice-read-of-word c = let here = entry (search) in search needs
 
--- the walk has answered
-abbrev after-walk-pairs : {t : ℕ} → rank-tie.After-word (rank-calls t) (rank-at t) rank.Post → After-walk-pairs t
-after-walk-pairs c = c .before .before .before .before
+  slice-write-estimates : rank-tie.Need-slice-write-estimates (rank-calls t) (rank-at t) rank.Post
+  slice-write-estimates c =
+      let after-junction-of : After-junction-of t = search in
+      let after-walk-pairs : After-walk-pairs t = search in
+      let (_, (_, (_, (_, (_, (_, (estimates-kept, _))))))) = after-walk-pairs .walk-pairs .kept in
+      omega (arith, entry after-junction-of .0, estimates-kept, rank-called after-junction-of .pre .1 .estimates-are)
 
-abbrev after-junction-of : {t : ℕ} → After-walk-pairs t → After-junction-of t
-after-junction-of c = c .before .before .before .before .before
-
-slice-write-estimates : {t : ℕ} → rank-tie.Need-slice-write-estimates (rank-calls t) (rank-at t) rank.Post
-slice-write-estimates c =
-    let after-junction-of = after-junction-of (after-walk-pairs c) in
-    let (_, (_, (_, (_, (_, (_, (estimates-kept, _))))))) = after-walk-pairs c .walk-pairs .kept in
-    let start = rank-called (after-known-of after-junction-of) in
-    omega (arith, entry after-junction-of .0, estimates-kept, start .pre .1 .estimates-are)
-
-rank-returns-2 : {t : ℕ} → rank-tie.Need-returns-2 (rank-calls t) (rank-at t) rank.Post
-rank-returns-2 c =
-    let after-walk-pairs = after-walk-pairs c in
-    let after-of-word = after-walk-pairs .before .before in
-    let after-junction-of = after-junction-of after-walk-pairs in
-    let (_, (_, (_, (_, (_, (_, (estimates-kept, _))))))) = after-walk-pairs .walk-pairs .kept in
-    let asked = rank-called (after-known-of after-junction-of) .pre .1 in
-    computed (asked .rank-in) (after-junction-of .junction-of .ensures) (entry after-junction-of .1)
-    (estimates-kept ∙ asked .estimates-are) (after-of-word .of-word .ensures) (after-walk-pairs .walk-pairs .ensures)
-    (c .before .answer-of .ensures) (c .word .ensures)
+  rank-returns-2 : rank-tie.Need-returns-2 (rank-calls t) (rank-at t) rank.Post
+  rank-returns-2 c =
+      let after-junction-of : After-junction-of t = search in
+      let after-of-word : After-of-word t = search in
+      let after-walk-pairs : After-walk-pairs t = search in
+      let after-answer-of : After-answer-of t = search in
+      let (_, (_, (_, (_, (_, (_, (estimates-kept, _))))))) = after-walk-pairs .walk-pairs .kept in
+      let asked = rank-called after-junction-of .pre .1 in
+      computed (asked .rank-in) (after-junction-of .junction-of .ensures) (entry after-junction-of .1)
+      (estimates-kept ∙ asked .estimates-are) (after-of-word .of-word .ensures) (after-walk-pairs .walk-pairs .ensures)
+      (after-answer-of .answer-of .ensures) (c .word .ensures)
 
 -- ---- the walk over the records of a rank
 
@@ -182,207 +191,211 @@ Inv-loop n count order pairs times down estimates₀ r best₀ k₀ estimates be
 abbrev μ-loop : walk-tie.MeasureT-loop
 μ-loop n count order pairs times down estimates₀ r best₀ k₀ estimates best k = count - k
 
+abbrev Walk-called : ℕ → Type 0
+Walk-called t = walk-tie.Start (walk-calls t) (walk-at t) walk.Post Inv-loop μ-loop
+
 abbrev At-loop : ℕ → Type 0
 At-loop t = walk-tie.At-loop (walk-calls t) (walk-at t) walk.Post Inv-loop μ-loop
+
+abbrev In-loop : ℕ → Type 0
+In-loop t = walk-tie.In-loop (walk-calls t) (walk-at t) walk.Post Inv-loop μ-loop
+
+abbrev After-low-of : ℕ → Type 0
+After-low-of t = walk-tie.After-low-of (walk-calls t) (walk-at t) walk.Post Inv-loop μ-loop
+
+abbrev After-high-of : ℕ → Type 0
+After-high-of t = walk-tie.After-high-of (walk-calls t) (walk-at t) walk.Post Inv-loop μ-loop
 
 abbrev After-up-of : ℕ → Type 0
 After-up-of t = walk-tie.After-up-of (walk-calls t) (walk-at t) walk.Post Inv-loop μ-loop
 
+abbrev After-leads-up : ℕ → Type 0
+After-leads-up t = walk-tie.After-leads-up (walk-calls t) (walk-at t) walk.Post Inv-loop μ-loop
+
 abbrev Then2 : ℕ → Type 0
 Then2 t = walk-tie.Then2 (walk-calls t) (walk-at t) walk.Post Inv-loop μ-loop
 
-abbrev walk-called : {t : ℕ} → At-loop t → walk-tie.Start (walk-calls t) (walk-at t) walk.Post Inv-loop μ-loop
-walk-called c = c .before .before .before .before .before .before .before
+abbrev High-known : ℕ → Type 0
+High-known t = walk-tie.After-known-of (walk-calls t) (walk-at t) walk.Post Inv-loop μ-loop
 
--- a record, once it is read
-abbrev after-low-of : {t : ℕ} → After-up-of t → walk-tie.After-low-of (walk-calls t) (walk-at t) walk.Post Inv-loop μ-loop
-after-low-of c = c .before .before .before .before .before
+abbrev High-unasked : ℕ → Type 0
+High-unasked t = walk-tie.After-is-unasked (walk-calls t) (walk-at t) walk.Post Inv-loop μ-loop
 
-abbrev in-loop : {t : ℕ} → After-up-of t → walk-tie.In-loop (walk-calls t) (walk-at t) walk.Post Inv-loop μ-loop
-in-loop c = after-low-of c .before
+abbrev Else3 : ℕ → Type 0
+Else3 t = walk-tie.Else3 (walk-calls t) (walk-at t) walk.Post Inv-loop μ-loop
 
-abbrev at-loop : {t : ℕ} → After-up-of t → At-loop t
-at-loop c = in-loop c .before
-
-abbrev low : {t : ℕ} → After-up-of t → ℕ
-low c = after-low-of c .low-of .result .0
-
-abbrev high : {t : ℕ} → After-up-of t → ℕ
-high c = c .before .high-of .result .0
-
-record-read : {t : ℕ} (c : After-up-of t) → let s = walk-called (at-loop c) in
-    RecordRead (s .args .pairs .now) (s .args .times .now) (at-loop c .loop .k) (low c) (high c) (c .up-of .result .0)
-record-read c = record { low-is = after-low-of c .low-of .ensures; high-is = c .before .high-of .ensures; up-is = c .up-of .ensures }
-
-one-more : {t : ℕ} (c : After-up-of t) → at-loop c .loop .k + 1 ≤ walk-called (at-loop c) .args .count
-one-more c = omega (arith, in-loop c .loop-test .taken)
-
--- if it leads up, what stands for its high may be asked
-abbrev after-up-of : {t : ℕ} → Then2 t → After-up-of t
-after-up-of c = c .before .before
-
-leads : {t : ℕ} (c : Then2 t) → let s = walk-called (at-loop (after-up-of c)) in
-    Leads (s .args .n) (s .args .r .0) (low (after-up-of c)) (high (after-up-of c)) (after-up-of c .up-of .result .0)
-leads c = leads-taken (c .before .leads-up .ensures) (c .if2 .taken)
-
-high-asked : {t : ℕ} (c : Then2 t) → let l = at-loop (after-up-of c) in
-    KnownAsked (walk-called l .args .n) (high (after-up-of c)) (walk-called l .args .order .now) (l .loop .estimates)
-high-asked c =
-    let at-loop = at-loop (after-up-of c) in
-    let asked = walk-called at-loop .pre .1 in record {
-      rank-in = leads c .below;
-      n-high = asked .n-high;
-      order-is = asked .order-is;
-      estimates-are = at-loop .loop .inv .length-kept;
-    }
-
-loop-holds : {t : ℕ} → walk-tie.Need-loop-holds (walk-calls t) (walk-at t) walk.Post Inv-loop μ-loop
-loop-holds c =
-    let start = c .before .before .before .before .before .before in
-    let asked = start .pre .1 in record {
-      to-go = c .start-of .ensures .bound;
-      length-kept = asked .estimates-are;
-      walked = walk-start (asked .rank-in) (c .start-of .ensures);
-    }
-
-walk-returns : {t : ℕ} → walk-tie.Need-returns (walk-calls t) (walk-at t) walk.Post Inv-loop μ-loop
-walk-returns c =
-    let after-low-of = c .before .before .before in
-    let in-loop = after-low-of .before in
-    let at-loop = in-loop .before in
-    walk-stop (walk-called at-loop .pre .1 .rank-in) (at-loop .loop .inv .walked) (in-loop .loop-test .taken)
-    (after-low-of .low-of .ensures) (c .if1 .taken)
-
-known-of-requires : {t : ℕ} → walk-tie.Need-known-of-requires (walk-calls t) (walk-at t) walk.Post Inv-loop μ-loop
-known-of-requires c κs = high-asked (c .before)
-
-estimate-rank-requires : {t : ℕ} → walk-tie.Need-estimate-rank-requires (walk-calls t) (walk-at t) walk.Post Inv-loop μ-loop
-estimate-rank-requires c κs =
-    let then2 = c .before .before .before .before .before in
-    let at-loop = at-loop (after-up-of then2) in
-    let (measure, asked) = walk-called at-loop .pre in (
-      omega (arith, leads then2 .rises, leads then2 .below, measure),
-      record {
-        rank-in = leads then2 .below;
-        n-high = asked .n-high;
-        order-is = asked .order-is;
-        down-is = asked .down-is;
-        estimates-are = at-loop .loop .inv .length-kept;
-        records-in = asked .records-in;
-        times-in = asked .times-in;
-        count-high = asked .count-high;
-      },
-    )
-
--- the estimate of the high was asked
 abbrev After-estimate-rank : ℕ → Type 0
 After-estimate-rank t = walk-tie.After-estimate-rank (walk-calls t) (walk-at t) walk.Post Inv-loop μ-loop
 
-abbrev then2 : {t : ℕ} → After-estimate-rank t → Then2 t
-then2 c = c .before .before .before .before .before .before
+module _ {t : ℕ} where
+  abbrev walk-called : At-loop t → Walk-called t
+  walk-called c = search
 
-loop-less : {t : ℕ} → walk-tie.Need-loop-less (walk-calls t) (walk-at t) walk.Post Inv-loop μ-loop
-loop-less c =
-    let after-estimate-rank = c .before .before .before in
-    omega (arith, one-more (after-up-of (then2 after-estimate-rank)))
+  -- a record, once it is read
+  abbrev after-low-of : After-up-of t → After-low-of t
+  after-low-of c = search
 
-loop-again : {t : ℕ} → walk-tie.Need-loop-again (walk-calls t) (walk-at t) walk.Post Inv-loop μ-loop
-loop-again c =
-    let after-estimate-rank = c .before .before .before in
-    let then2 = then2 after-estimate-rank in
-    let after-up-of = after-up-of then2 in
-    let inv = at-loop after-up-of .loop .inv in
-    let (_, (_, (_, (_, (_, (_, (estimates-kept, _))))))) = after-estimate-rank .estimate-rank .kept in record {
-      to-go = one-more after-up-of;
-      length-kept = estimates-kept ∙ inv .length-kept;
-      walked = walk-take (walk-called (at-loop after-up-of) .pre .1 .rank-in) (inv .walked) (in-loop after-up-of .loop-test .taken)
-          (record-read after-up-of) (leads then2) (after-estimate-rank .estimate-rank .ensures) (c .or-sum .ensures);
-    }
+  abbrev after-high-of : After-up-of t → After-high-of t
+  after-high-of c = search
 
--- it was known
-loop-again-2 : {t : ℕ} → walk-tie.Need-loop-again-2 (walk-calls t) (walk-at t) walk.Post Inv-loop μ-loop
-loop-again-2 c =
-    let after-is-unasked = c .before .before in
-    let after-known-of = after-is-unasked .before in
-    let then2 = after-known-of .before .before in
-    let after-up-of = after-up-of then2 in
-    let inv = at-loop after-up-of .loop .inv in
-    let test = sym (after-is-unasked .is-unasked .ensures) ∙ c .before .if3 .left in record {
-      to-go = one-more after-up-of;
-      length-kept = inv .length-kept;
-      walked = walk-take (walk-called (at-loop after-up-of) .pre .1 .rank-in) (inv .walked) (in-loop after-up-of .loop-test .taken)
-          (record-read after-up-of) (leads then2) (stands (high-asked then2) (after-known-of .known-of .ensures) (eqb-false _ _ test))
-          (c .or-sum2 .ensures);
-    }
+  abbrev in-loop : After-up-of t → In-loop t
+  in-loop c = search
 
--- the record does not lead up
-loop-again-3 : {t : ℕ} → walk-tie.Need-loop-again-3 (walk-calls t) (walk-at t) walk.Post Inv-loop μ-loop
-loop-again-3 c =
-    let after-leads-up = c .before in
-    let after-up-of = after-leads-up .before in
-    let inv = at-loop after-up-of .loop .inv in record {
-      to-go = one-more after-up-of;
-      length-kept = inv .length-kept;
-      walked = walk-skip (walk-called (at-loop after-up-of) .pre .1 .rank-in) (inv .walked) (in-loop after-up-of .loop-test .taken)
-          (record-read after-up-of) (sym (after-leads-up .leads-up .ensures) ∙ c .if2 .left);
-    }
+  abbrev at-loop : After-up-of t → At-loop t
+  at-loop c = search
 
-walk-returns-2 : {t : ℕ} → walk-tie.Need-returns-2 (walk-calls t) (walk-at t) walk.Post Inv-loop μ-loop
-walk-returns-2 c =
-    let at-loop = c .before in
-    let inv = at-loop .loop .inv in
-    walk-end (walk-called at-loop .pre .1 .rank-in) (inv .walked) (inv .to-go) (c .loop-test .left)
+  abbrev low : After-up-of t → ℕ
+  low c = after-low-of c .low-of .result .0
+
+  abbrev high : After-up-of t → ℕ
+  high c = after-high-of c .high-of .result .0
+
+  record-read : (c : After-up-of t) → let s = walk-called (at-loop c) in
+      RecordRead (s .args .pairs .now) (s .args .times .now) (at-loop c .loop .k) (low c) (high c) (c .up-of .result .0)
+  record-read c = record {
+    low-is = after-low-of c .low-of .ensures;
+    high-is = after-high-of c .high-of .ensures;
+    up-is = c .up-of .ensures;
+  }
+
+  one-more : (c : After-up-of t) → at-loop c .loop .k + 1 ≤ walk-called (at-loop c) .args .count
+  one-more c = omega (arith, in-loop c .loop-test .taken)
+
+  -- if it leads up, what stands for its high may be asked
+  abbrev after-up-of : Then2 t → After-up-of t
+  after-up-of c = search
+
+  leads : (c : Then2 t) → let s = walk-called (at-loop (after-up-of c)) in
+      Leads (s .args .n) (s .args .r .0) (low (after-up-of c)) (high (after-up-of c)) (after-up-of c .up-of .result .0)
+  leads c =
+      let after-leads-up : After-leads-up t = search in
+      leads-taken (after-leads-up .leads-up .ensures) (c .if2 .taken)
+
+  high-asked : (c : Then2 t) → let l = at-loop (after-up-of c) in
+      KnownAsked (walk-called l .args .n) (high (after-up-of c)) (walk-called l .args .order .now) (l .loop .estimates)
+  high-asked c =
+      let at-loop : At-loop t = search in
+      let asked = walk-called at-loop .pre .1 in record {
+        rank-in = leads c .below;
+        n-high = asked .n-high;
+        order-is = asked .order-is;
+        estimates-are = at-loop .loop .inv .length-kept;
+      }
+
+  loop-holds : walk-tie.Need-loop-holds (walk-calls t) (walk-at t) walk.Post Inv-loop μ-loop
+  loop-holds c =
+      let called : Walk-called t = search in
+      let asked = called .pre .1 in record {
+        to-go = c .start-of .ensures .bound;
+        length-kept = asked .estimates-are;
+        walked = walk-start (asked .rank-in) (c .start-of .ensures);
+      }
+
+  walk-returns : walk-tie.Need-returns (walk-calls t) (walk-at t) walk.Post Inv-loop μ-loop
+  walk-returns c =
+      let at-loop : At-loop t = search in
+      let in-loop : In-loop t = search in
+      let after-low-of : After-low-of t = search in
+      walk-stop (walk-called at-loop .pre .1 .rank-in) (at-loop .loop .inv .walked) (in-loop .loop-test .taken)
+      (after-low-of .low-of .ensures) (c .if1 .taken)
+
+  known-of-requires : walk-tie.Need-known-of-requires (walk-calls t) (walk-at t) walk.Post Inv-loop μ-loop
+  known-of-requires c κs = high-asked (search)
+
+  estimate-rank-requires : walk-tie.Need-estimate-rank-requires (walk-calls t) (walk-at t) walk.Post Inv-loop μ-loop
+  estimate-rank-requires c κs =
+      let at-loop : At-loop t = search in
+      let then2 : Then2 t = search in
+      let (measure, asked) = walk-called at-loop .pre in (
+        omega (arith, leads then2 .rises, leads then2 .below, measure),
+        record {
+          rank-in = leads then2 .below;
+          n-high = asked .n-high;
+          order-is = asked .order-is;
+          down-is = asked .down-is;
+          estimates-are = at-loop .loop .inv .length-kept;
+          records-in = asked .records-in;
+          times-in = asked .times-in;
+          count-high = asked .count-high;
+        },
+      )
+
+  loop-less : walk-tie.Need-loop-less (walk-calls t) (walk-at t) walk.Post Inv-loop μ-loop
+  loop-less c = omega (arith, one-more (search))
+
+  -- the estimate of the high was asked
+  loop-again : walk-tie.Need-loop-again (walk-calls t) (walk-at t) walk.Post Inv-loop μ-loop
+  loop-again c =
+      let after-up-of : After-up-of t = search in
+      let then2 : Then2 t = search in
+      let after-estimate-rank : After-estimate-rank t = search in
+      let inv = at-loop after-up-of .loop .inv in
+      let (_, (_, (_, (_, (_, (_, (estimates-kept, _))))))) = after-estimate-rank .estimate-rank .kept in record {
+        to-go = one-more after-up-of;
+        length-kept = estimates-kept ∙ inv .length-kept;
+        walked = walk-take (walk-called (at-loop after-up-of) .pre .1 .rank-in) (inv .walked) (in-loop after-up-of .loop-test .taken)
+            (record-read after-up-of) (leads then2) (after-estimate-rank .estimate-rank .ensures) (c .or-sum .ensures);
+      }
+
+  -- it was known
+  loop-again-2 : walk-tie.Need-loop-again-2 (walk-calls t) (walk-at t) walk.Post Inv-loop μ-loop
+  loop-again-2 c =
+      let after-up-of : After-up-of t = search in
+      let then2 : Then2 t = search in
+      let high-known : High-known t = search in
+      let high-unasked : High-unasked t = search in
+      let else3 : Else3 t = search in
+      let inv = at-loop after-up-of .loop .inv in
+      let test = sym (high-unasked .is-unasked .ensures) ∙ else3 .if3 .left in record {
+        to-go = one-more after-up-of;
+        length-kept = inv .length-kept;
+        walked = walk-take (walk-called (at-loop after-up-of) .pre .1 .rank-in) (inv .walked) (in-loop after-up-of .loop-test .taken)
+            (record-read after-up-of) (leads then2) (stands (high-asked then2) (high-known .known-of .ensures) (eqb-false _ _ test))
+            (c .or-sum2 .ensures);
+      }
+
+  -- the record does not lead up
+  loop-again-3 : walk-tie.Need-loop-again-3 (walk-calls t) (walk-at t) walk.Post Inv-loop μ-loop
+  loop-again-3 c =
+      let after-up-of : After-up-of t = search in
+      let after-leads-up : After-leads-up t = search in
+      let inv = at-loop after-up-of .loop .inv in record {
+        to-go = one-more after-up-of;
+        length-kept = inv .length-kept;
+        walked = walk-skip (walk-called (at-loop after-up-of) .pre .1 .rank-in) (inv .walked) (in-loop after-up-of .loop-test .taken)
+            (record-read after-up-of) (sym (after-leads-up .leads-up .ensures) ∙ c .if2 .left);
+      }
+
+  walk-returns-2 : walk-tie.Need-returns-2 (walk-calls t) (walk-at t) walk.Post Inv-loop μ-loop
+  walk-returns-2 c =
+      let at-loop : At-loop t = search in
+      let inv = at-loop .loop .inv in
+      walk-end (walk-called at-loop .pre .1 .rank-in) (inv .walked) (inv .to-go) (c .loop-test .left)
 
 pub +estimate-rank+walk-pairs-spec : {M : Type 1} → statement M
 +estimate-rank+walk-pairs-spec =
-    close
-    μ-estimate-rank
-    μ-walk-pairs
-    (λ t.
-    rank-tie.spec
-    (rank-calls t)
-    (rank-at t)
-    rank.Post
-    (λ c κs. search needs)
-    (λ c κs. search needs)
-    (λ c. search needs)
+    close μ-estimate-rank μ-walk-pairs
+    (λ t. rank-tie.spec (rank-calls t) (rank-at t) rank.Post
+    (λ c κs. search needs) (λ c κs. search needs) (λ c. search needs)
     rank-returns
-    (λ c κs. search needs)
-    (λ c. search needs)
-    mul-of-word
-    slice-read-of-word
-    (λ c κs. search needs)
-    (λ c κs. search needs)
-    (λ c κs. search needs)
-    (λ c κs. search needs)
-    (λ c. search needs)
+    (λ c κs. search needs) (λ c. search needs)
+    mul-of-word slice-read-of-word
+    (λ c κs. search needs) (λ c κs. search needs) (λ c κs. search needs) (λ c κs. search needs) (λ c. search needs)
     slice-write-estimates
     (λ c. search needs)
     rank-returns-2)
-    (λ t.
-    walk-tie.spec
-    (walk-calls t)
-    (walk-at t)
-    walk.Post
-    Inv-loop
-    μ-loop
+    (λ t. walk-tie.spec (walk-calls t) (walk-at t) walk.Post Inv-loop μ-loop
     (λ c κs. search needs)
     loop-holds
-    (λ c. search needs)
-    (λ c κs. search needs)
-    (λ c. search needs)
+    (λ c. search needs) (λ c κs. search needs) (λ c. search needs)
     walk-returns
-    (λ c κs. search needs)
-    (λ c κs. search needs)
-    (λ c κs. search needs)
+    (λ c κs. search needs) (λ c κs. search needs) (λ c κs. search needs)
     known-of-requires
     (λ c κs. search needs)
     estimate-rank-requires
     (λ c κs. search needs)
-    loop-less
-    loop-again
-    (λ c κs. search needs)
-    (λ c. search needs)
+    loop-less loop-again
+    (λ c κs. search needs) (λ c. search needs)
     loop-again-2
     (λ c. search needs)
     loop-again-3

@@ -6,18 +6,18 @@ use Rattle.pairs_hierarchy.proofs.estimate.Statement.{statement}
 use Rattle.pairs_hierarchy.proofs.estimate.Tie as tie
 
 abbrev start : tie.After-rank-of → tie.Start
-start c = c .before .before .before .before .before .before .before
+start c = search
 
 returns : tie.Need-returns
 returns c =
-    let after-rank-of = c .before .before .before in
+    let after-rank-of : tie.After-rank-of = search in
     let asked = start after-rank-of .pre in
     unranked (asked .junction-in) (asked .order-is) (after-rank-of .rank-of .ensures) (c .if1 .taken)
 
 returns-2 : tie.Need-returns-2
 returns-2 c =
-    let after-estimate-rank = c .before .before in
-    let after-rank-of = after-estimate-rank .before .before .before .before .before in
+    let after-estimate-rank : tie.After-estimate-rank = search in
+    let after-rank-of : tie.After-rank-of = search in
     let asked = start after-rank-of .pre in
     estimated (asked .junction-in) (asked .order-is) (after-rank-of .rank-of .ensures) (after-estimate-rank .estimate-rank .ensures)
 

@@ -5,17 +5,17 @@ use Rattle.pairs_hierarchy.proofs.known_of.Statement.{statement}
 use Rattle.pairs_hierarchy.proofs.known_of.Tie as tie
 
 abbrev start : tie.After-junction-of → tie.Start
-start c = c .before .before .before
+start c = search
 
 returns : tie.Need-returns
 returns c =
-    let after-junction-of = c .before .before in
+    let after-junction-of : tie.After-junction-of = search in
     standing-none (start after-junction-of .pre) (after-junction-of .junction-of .ensures) (c .if1 .taken)
 
 returns-2 : tie.Need-returns-2
 returns-2 c =
-    let else1 = c .before .before .before in
-    let after-junction-of = else1 .before .before in
+    let else1 : tie.Else1 = search in
+    let after-junction-of : tie.After-junction-of = search in
     standing-entry (start after-junction-of .pre) (after-junction-of .junction-of .ensures) (else1 .if1 .left) (c .of-word .ensures)
 
 pub known-of-spec : {M : Type 1} → statement M
@@ -24,8 +24,5 @@ known-of-spec =
     (tie.spec
     (λ c κs. search needs)
     returns
-    (λ c. search needs)
-    (λ c. search needs)
-    (λ c. search needs)
-    (λ c κs. search needs)
+    (λ c. search needs) (λ c. search needs) (λ c. search needs) (λ c κs. search needs)
     returns-2)

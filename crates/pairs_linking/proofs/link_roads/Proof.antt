@@ -27,10 +27,10 @@ abbrev μ-loop : tie.MeasureT-loop
 -- ---- once the row of road i is known: that row and the road have entries
 
 abbrev at-loop : tie.After-row-of Inv-loop μ-loop → tie.At-loop Inv-loop μ-loop
-at-loop c = c .before .before
+at-loop c = search
 
 abbrev start : tie.After-row-of Inv-loop μ-loop → tie.Start Inv-loop μ-loop
-start c = c .before .before .before .before .before .before .before
+start c = search
 
 row-in : (c : tie.After-row-of Inv-loop μ-loop) → c .row-of .result .0 < length (at-loop c .loop .first)
 row-in c = in-kept (c .row-of .ensures .1) (start c .pre .firsts-in) (at-loop c .loop .inv .first-kept)
@@ -42,30 +42,31 @@ road-in c = in-kept (c .before .loop-test .taken) (start c .pre .nexts-in) (at-l
 
 loop-holds : tie.Need-loop-holds Inv-loop μ-loop
 loop-holds c =
-    let start = c .before .before .before .before in
+    let start : tie.Start Inv-loop μ-loop = search in
     record { in-roads = search needs; first-kept = refl; next-kept = refl; linked = linked-start (start .pre .firsts-none) }
 
 slice-read-next : tie.Need-slice-read-next Inv-loop μ-loop
-slice-read-next c = row-in (c .before .before)
+slice-read-next c = row-in (search)
 
 slice-write-next : tie.Need-slice-write-next Inv-loop μ-loop
-slice-write-next c = road-in (c .before .before)
+slice-write-next c = road-in (search)
 
 cast-first : tie.Need-cast-first Inv-loop μ-loop
 cast-first c =
-    let after-row-of = c .before .before in
-    omega (arith, start after-row-of .pre .ranked .most)
+    let start : tie.Start Inv-loop μ-loop = search in
+    omega (arith, start .pre .ranked .most)
 
 slice-write-first : tie.Need-slice-write-first Inv-loop μ-loop
-slice-write-first c = row-in (c .before .before)
+slice-write-first c = row-in (search)
 
 loop-again : tie.Need-loop-again Inv-loop μ-loop
 loop-again c =
-    let after-row-of = c .before .before in
-    let at-loop = at-loop after-row-of in
+    let after-row-of : tie.After-row-of Inv-loop μ-loop = search in
+    let in-loop : tie.In-loop Inv-loop μ-loop = search in
+    let at-loop : tie.At-loop Inv-loop μ-loop = search in
     let inv = at-loop .loop .inv in
     let (row-is, row-below) = after-row-of .row-of .ensures in record {
-      in-roads = lt-next (after-row-of .before .loop-test .taken);
+      in-roads = lt-next (in-loop .loop-test .taken);
       first-kept = length-set (at-loop .loop .first) _ _ ∙ inv .first-kept;
       next-kept = length-set (at-loop .loop .next) _ _ ∙ inv .next-kept;
       linked = linked-turn (le-kept (start after-row-of .pre .firsts-in) (inv .first-kept)) (road-in after-row-of) row-below row-is refl
@@ -74,19 +75,15 @@ loop-again c =
 
 returns : tie.Need-returns Inv-loop μ-loop
 returns c =
-    let at-loop = c .before in
+    let at-loop : tie.At-loop Inv-loop μ-loop = search in
     linked-end (at-loop .loop .inv .in-roads) (c .loop-test .left) (at-loop .loop .inv .linked)
 
 pub link-roads-spec : {M : Type 1} → statement M
 link-roads-spec =
     tie.close
-    (tie.spec
-    Inv-loop
-    μ-loop
+    (tie.spec Inv-loop μ-loop
     loop-holds
-    (λ c κs. search needs)
-    (λ c. search needs)
-    (λ c. search needs)
+    (λ c κs. search needs) (λ c. search needs) (λ c. search needs)
     slice-read-next
     (λ c. search needs)
     slice-write-next
@@ -96,6 +93,5 @@ link-roads-spec =
     slice-write-first
     (λ c. search needs)
     loop-again
-    (λ c. search needs)
-    (λ c. search needs)
+    (λ c. search needs) (λ c. search needs)
     returns)

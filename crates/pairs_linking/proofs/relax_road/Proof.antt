@@ -14,17 +14,17 @@ use Rattle.pairs_linking.proofs.relax_road.Tie as tie
 -- ---- the road, once its words are read
 
 abbrev start : tie.After-base-of → tie.Start
-start c = c .before .before .before .before .before .before .before .before .before .before
+start c = search
 
 abbrev after-rank-of : tie.After-base-of → tie.After-rank-of
-after-rank-of c = c .before .before .before
+after-rank-of c = search
 
 road-read : (c : tie.After-base-of) → Road (start c .args .roads .now) (start c .args .ranks .now) (start c .args .i)
     (after-rank-of c .rank-of .result .0) (c .before .rank-of2 .result .0) (c .base-of .result .0)
 road-read c =
-    let after-rank-of2 = c .before in
-    let after-head-of = after-rank-of2 .before in
-    let after-tail-of = after-rank-of c .before in
+    let after-rank-of2 : tie.After-rank-of2 = search in
+    let after-head-of : tie.After-head-of = search in
+    let after-tail-of : tie.After-tail-of = search in
     let asked = start c .pre in record {
       ends = ends (asked .ranked) (asked .road-in) (after-tail-of .tail-of .ensures) (after-rank-of c .rank-of .ensures)
           (after-head-of .head-of .ensures) (after-rank-of2 .rank-of2 .ensures);
@@ -49,71 +49,67 @@ tail-marked c = lt-le (road-read c .ends .tail-below) (start c .pre .touched-lon
 
 rank-of-requires : tie.Need-rank-of-requires
 rank-of-requires c κs =
-    let start = c .before .before .before .before .before .before in
+    let start : tie.Start = search in
     by-below (c .tail-of .ensures) (start .pre .ranked .tails (start .args .i) (start .pre .road-in))
 
 rank-of-requires-2 : tie.Need-rank-of-requires-2
 rank-of-requires-2 c κs =
-    let start = c .before .before .before .before .before .before .before .before in
+    let start : tie.Start = search in
     by-below (c .head-of .ensures) (start .pre .ranked .heads (start .args .i) (start .pre .road-in))
 
 slice-read-least-time : tie.Need-slice-read-least-time
-slice-read-least-time c = head-in (c .before .before)
+slice-read-least-time c = head-in (search)
 
 slice-write-ups : tie.Need-slice-write-ups
-slice-write-ups c =
-    let after-base-of = c .before .before .before in
-    head-in after-base-of
+slice-write-ups c = head-in (search)
 
 mark-requires : tie.Need-mark-requires
-mark-requires c κs =
-    let after-base-of = c .before .before .before .before in
-    head-marked after-base-of
+mark-requires c κs = head-marked (search)
 
 slice-read-least-time-2 : tie.Need-slice-read-least-time-2
-slice-read-least-time-2 c = tail-in (c .before .before)
+slice-read-least-time-2 c = tail-in (search)
 
 slice-write-downs : tie.Need-slice-write-downs
-slice-write-downs c =
-    let after-base-of = c .before .before .before in
-    tail-in after-base-of
+slice-write-downs c = tail-in (search)
 
 mark-requires-2 : tie.Need-mark-requires-2
-mark-requires-2 c κs =
-    let after-base-of = c .before .before .before .before in
-    tail-marked after-base-of
+mark-requires-2 c κs = tail-marked (search)
 
 same-length : tie.Need-same-length
 same-length c =
-    let after-base-of = c .before .before .before .before .before .before .before in
-    length-set (start after-base-of .args .ups .now) _ _
+    let start : tie.Start = search in
+    length-set (start .args .ups .now) _ _
 
 same-length-2 : tie.Need-same-length-2
-same-length-2 c = c .before .before .mark .kept .0
+same-length-2 c =
+    let after-mark : tie.After-mark = search in
+    after-mark .mark .kept .0
 
 returns : tie.Need-returns
 returns c =
-    let after-mark = c .before .before in
-    let after-least-time = after-mark .before .before in
-    let then1 = after-least-time .before .before in
-    let after-base-of = then1 .before in
+    let after-mark : tie.After-mark = search in
+    let after-least-time : tie.After-least-time = search in
+    let then1 : tie.Then1 = search in
+    let after-base-of : tie.After-base-of = search in
     road-up (road-read after-base-of) (then1 .if1 .taken) (after-least-time .least-time .ensures) (head-marked after-base-of)
     (after-mark .mark .ensures)
 
 same-length-3 : tie.Need-same-length-3
 same-length-3 c =
-    let after-base-of = c .before .before .before .before .before .before .before in
-    length-set (start after-base-of .args .downs .now) _ _
+    let start : tie.Start = search in
+    length-set (start .args .downs .now) _ _
 
 same-length-4 : tie.Need-same-length-4
-same-length-4 c = c .before .before .mark2 .kept .0
+same-length-4 c =
+    let after-mark2 : tie.After-mark2 = search in
+    after-mark2 .mark2 .kept .0
 
 returns-2 : tie.Need-returns-2
 returns-2 c =
-    let after-mark2 = c .before .before in
-    let after-least-time2 = after-mark2 .before .before in
-    let else1 = after-least-time2 .before .before in
-    let after-base-of = else1 .before in
+    let after-mark2 : tie.After-mark2 = search in
+    let after-least-time2 : tie.After-least-time2 = search in
+    let else1 : tie.Else1 = search in
+    let after-base-of : tie.After-base-of = search in
     road-down (road-read after-base-of) (else1 .if1 .left) (after-least-time2 .least-time2 .ensures) (tail-marked after-base-of)
     (after-mark2 .mark2 .ensures)
 
@@ -125,24 +121,11 @@ relax-road-spec =
     rank-of-requires
     (λ c κs. search needs)
     rank-of-requires-2
-    (λ c κs. search needs)
-    (λ c. search needs)
-    (λ c. search needs)
+    (λ c κs. search needs) (λ c. search needs) (λ c. search needs)
     slice-read-least-time
-    (λ c κs. search needs)
-    (λ c. search needs)
-    slice-write-ups
-    mark-requires
-    (λ c. search needs)
-    (λ c. search needs)
+    (λ c κs. search needs) (λ c. search needs)
+    slice-write-ups mark-requires
+    (λ c. search needs) (λ c. search needs)
     slice-read-least-time-2
-    (λ c κs. search needs)
-    (λ c. search needs)
-    slice-write-downs
-    mark-requires-2
-    same-length
-    same-length-2
-    returns
-    same-length-3
-    same-length-4
-    returns-2)
+    (λ c κs. search needs) (λ c. search needs)
+    slice-write-downs mark-requires-2 same-length same-length-2 returns same-length-3 same-length-4 returns-2)

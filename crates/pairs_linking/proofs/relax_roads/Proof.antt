@@ -35,7 +35,7 @@ abbrev μ-loop : tie.MeasureT-loop
 -- ---- at the head of the loop
 
 abbrev start : tie.At-loop Inv-loop μ-loop → tie.Start Inv-loop μ-loop
-start c = c .before .before .before .before .before .before .before .before .before .before
+start c = search
 
 abbrev net : tie.At-loop Inv-loop μ-loop → Network
 net c = netIn (start c .args .roads .now) (start c .args .ranks .now)
@@ -50,26 +50,28 @@ walked c =
 
 -- the road of this turn, and the one that its link names
 road-in : (c : tie.In-loop Inv-loop μ-loop) → c .before .loop .c - 1 < net (c .before) .arcs
-road-in c = before-arc (walked (c .before) .below) (c .loop-test .taken)
+road-in c = before-arc (walked (search) .below) (c .loop-test .taken)
 
 link-is : (c : tie.In-loop Inv-loop μ-loop) → getD (start (c .before) .args .next .now) (c .before .loop .c - 1) 0
     ≡ lastOf (rowOf (net (c .before))) (rowOf (net (c .before)) (c .before .loop .c - 1)) (c .before .loop .c - 1)
-link-is c = start (c .before) .pre .grouped .linked .nexts (c .before .loop .c - 1) (road-in c)
+link-is c =
+    let start : tie.Start Inv-loop μ-loop = search in
+    start .pre .grouped .linked .nexts (c .before .loop .c - 1) (road-in c)
 
 link-low : (c : tie.In-loop Inv-loop μ-loop)
     → getD (start (c .before) .args .next .now) (c .before .loop .c - 1) 0 ≤ c .before .loop .c - 1
-link-low c = by-most (link-is c) (lastOf-le (rowOf (net (c .before))) _ _)
+link-low c = by-most (link-is c) (lastOf-le (rowOf (net (search))) _ _)
 
 -- ---- the answers
 
 shared-slice-read-c : tie.Need-shared-slice-read-c Inv-loop μ-loop
 shared-slice-read-c c =
-    let start = c .before .before .before .before .before .before .before .before .before in
+    let start : tie.Start Inv-loop μ-loop = search in
     lt-le (start .pre .rank-in) (start .pre .grouped .firsts-in)
 
 loop-holds : tie.Need-loop-holds Inv-loop μ-loop
 loop-holds c =
-    let start = c .before .before .before .before .before .before .before .before .before in
+    let start : tie.Start Inv-loop μ-loop = search in
     let N = netIn (start .args .roads .now) (start .args .ranks .now) in
     let r = start .args .r .0 in record {
       in-list = omega (
@@ -86,11 +88,10 @@ loop-holds c =
 
 relax-road-requires : tie.Need-relax-road-requires Inv-loop μ-loop
 relax-road-requires c κs =
-    let in-loop = c .before .before .before in
-    let at-loop = in-loop .before in
+    let at-loop : tie.At-loop Inv-loop μ-loop = search in
     let asked = start at-loop .pre in record {
       ranked = asked .grouped .ranked;
-      road-in = road-in in-loop;
+      road-in = road-in (search);
       ups-long = le-kept (asked .ups-none .wide) (at-loop .loop .inv .ups-kept);
       downs-long = le-kept (asked .downs-none .wide) (at-loop .loop .inv .downs-kept);
       touched-long = le-blocks (asked .touched-long) (at-loop .loop .inv .touched-kept);
@@ -98,18 +99,18 @@ relax-road-requires c κs =
 
 shared-slice-read-c-2 : tie.Need-shared-slice-read-c-2 Inv-loop μ-loop
 shared-slice-read-c-2 c =
-    let in-loop = c .before .before .before .before .before .before .before .before .before .before .before in
-    lt-le (road-in in-loop) (start (in-loop .before) .pre .grouped .nexts-in)
+    let start : tie.Start Inv-loop μ-loop = search in
+    lt-le (road-in (search)) (start .pre .grouped .nexts-in)
 
 loop-less : tie.Need-loop-less Inv-loop μ-loop
 loop-less c =
-    let in-loop = c .before .before .before .before .before .before .before .before .before .before .before in
+    let in-loop : tie.In-loop Inv-loop μ-loop = search in
     back-less (link-low in-loop) (in-loop .loop-test .taken)
 
 loop-again : tie.Need-loop-again Inv-loop μ-loop
 loop-again c =
-    let after-relax-road = c .before .before .before .before .before .before .before in
-    let in-loop = after-relax-road .before .before .before .before in
+    let after-relax-road : tie.After-relax-road Inv-loop μ-loop = search in
+    let in-loop : tie.In-loop Inv-loop μ-loop = search in
     let inv = in-loop .before .loop .inv in
     let (_, (_, (_, (ups-kept, (downs-kept, (touched-kept, _)))))) = after-relax-road .relax-road .kept in record {
       in-list = back-most (link-low in-loop) (inv .in-list);
@@ -130,26 +131,15 @@ same-length-3 : tie.Need-same-length-3 Inv-loop μ-loop
 same-length-3 c = c .before .loop .inv .touched-kept
 
 returns : tie.Need-returns Inv-loop μ-loop
-returns c = walked-end (by-none (c .loop-test .left)) (walked (c .before))
+returns c = walked-end (by-none (c .loop-test .left)) (walked (search))
 
 pub relax-roads-spec : {M : Type 1} → statement M
 relax-roads-spec =
     tie.close
-    (tie.spec
-    Inv-loop
-    μ-loop
-    (λ c. search needs)
-    (λ c. search needs)
-    shared-slice-read-c
-    loop-holds
-    (λ c. search needs)
-    (λ c. search needs)
+    (tie.spec Inv-loop μ-loop
+    (λ c. search needs) (λ c. search needs)
+    shared-slice-read-c loop-holds
+    (λ c. search needs) (λ c. search needs)
     relax-road-requires
     (λ c. search needs)
-    shared-slice-read-c-2
-    loop-less
-    loop-again
-    same-length
-    same-length-2
-    same-length-3
-    returns)
+    shared-slice-read-c-2 loop-less loop-again same-length same-length-2 same-length-3 returns)

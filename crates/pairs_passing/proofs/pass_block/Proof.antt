@@ -28,46 +28,44 @@ abbrev μ-loop : tie.MeasureT-loop
 -- ---- in the loop
 
 abbrev start : tie.At-loop Inv-loop μ-loop → tie.Start Inv-loop μ-loop
-start c = c .before .before .before .before .before .before .before .before .before
+start c = search
 
 below-r : (c : tie.In-loop Inv-loop μ-loop) → c .before .loop .v < start (c .before) .args .r .0
-below-r c = lt-le (c .loop-test .taken) (start (c .before) .pre .2)
-
-abbrev in-loop : tie.After-pass-rank Inv-loop μ-loop → tie.In-loop Inv-loop μ-loop
-in-loop c = c .before .before .before .before .before .before .before .before .before
-
-abbrev after-pass-rank : tie.After-least Inv-loop μ-loop → tie.After-pass-rank Inv-loop μ-loop
-after-pass-rank c = c .before .before .before .before .before .before .before .before .before .before .before
+below-r c =
+    let start : tie.Start Inv-loop μ-loop = search in
+    lt-le (c .loop-test .taken) (start .pre .2)
 
 -- ---- the answers
 
 loop-holds : tie.Need-loop-holds Inv-loop μ-loop
 loop-holds c =
-    let start = c .before .before .before .before .before .before .before .before in
+    let start : tie.Start Inv-loop μ-loop = search in
     record { from-low = le-same; in-block = start .pre .1; kept = kept-all; scanned = λ w s. scanned-start s }
 
 slice-read-high : tie.Need-slice-read-high Inv-loop μ-loop
 slice-read-high c =
-    let in-loop = c .before in
-    let at-loop = in-loop .before in
+    let in-loop : tie.In-loop Inv-loop μ-loop = search in
+    let at-loop : tie.At-loop Inv-loop μ-loop = search in
     let ((_, stage), _, to-low) = start at-loop .pre in
     in-fronts-kept (in-loop .loop-test .taken) to-low (stage .inside) (stage .wide .aheads) (at-loop .loop .inv .kept .ahead-kept)
 
 pass-rank-requires : tie.Need-pass-rank-requires Inv-loop μ-loop
 pass-rank-requires c κs =
-    let then1 = c .before .before .before .before .before in
-    let in-loop = then1 .before .before .before in
-    let at-loop = in-loop .before in
+    let then1 : tie.Then1 Inv-loop μ-loop = search in
+    let at-loop : tie.At-loop Inv-loop μ-loop = search in
     let ((w, stage), _, _) = start at-loop .pre in
-    ((w, at-loop .loop .inv .scanned w stage .stage), below-r in-loop, then1 .if1 .taken)
+    ((w, at-loop .loop .inv .scanned w stage .stage), below-r (search), then1 .if1 .taken)
 
 loop-less : tie.Need-loop-less Inv-loop μ-loop
-loop-less c = less (in-loop (after-pass-rank c) .loop-test .taken)
+loop-less c =
+    let in-loop : tie.In-loop Inv-loop μ-loop = search in
+    less (in-loop .loop-test .taken)
 
 loop-again : tie.Need-loop-again Inv-loop μ-loop
 loop-again c =
-    let passed = after-pass-rank c .pass-rank in
-    let in-loop = in-loop (after-pass-rank c) in
+    let after-pass-rank : tie.After-pass-rank Inv-loop μ-loop = search in
+    let in-loop : tie.In-loop Inv-loop μ-loop = search in
+    let passed = after-pass-rank .pass-rank in
     let inv = in-loop .before .loop .inv in
     let (high-is, staged) = passed .ensures in
     let (_, (_, (_, (_, (_, (cursor-kept, (ahead-kept, (_, (ups-kept, (downs-kept, (touched-kept, _))))))))))) = passed .kept in record {
@@ -79,13 +77,13 @@ loop-again c =
 
 loop-less-2 : tie.Need-loop-less-2 Inv-loop μ-loop
 loop-less-2 c =
-    let in-loop = c .before .before .before .before in
+    let in-loop : tie.In-loop Inv-loop μ-loop = search in
     less (in-loop .loop-test .taken)
 
 loop-again-2 : tie.Need-loop-again-2 Inv-loop μ-loop
 loop-again-2 c =
-    let else1 = c .before in
-    let in-loop = else1 .before .before .before in
+    let else1 : tie.Else1 Inv-loop μ-loop = search in
+    let in-loop : tie.In-loop Inv-loop μ-loop = search in
     let inv = in-loop .before .loop .inv in record {
       from-low = le-more (inv .from-low);
       in-block = lt-next (in-loop .loop-test .taken);
@@ -116,24 +114,11 @@ returns c =
 pub pass-block-spec : {M : Type 1} → statement M
 pass-block-spec =
     tie.close
-    (tie.spec
-    Inv-loop
-    μ-loop
+    (tie.spec Inv-loop μ-loop
     loop-holds
-    (λ c. search needs)
-    (λ c. search needs)
-    (λ c. search needs)
-    slice-read-high
-    pass-rank-requires
+    (λ c. search needs) (λ c. search needs) (λ c. search needs)
+    slice-read-high pass-rank-requires
     (λ c κs. search needs)
-    loop-less
-    loop-again
+    loop-less loop-again
     (λ c κs. search needs)
-    loop-less-2
-    loop-again-2
-    same-length
-    same-length-2
-    same-length-3
-    same-length-4
-    same-length-5
-    returns)
+    loop-less-2 loop-again-2 same-length same-length-2 same-length-3 same-length-4 same-length-5 returns)

@@ -32,10 +32,10 @@ abbrev μ-loop : tie.MeasureT-loop
 -- ---- in the loop: the block begins at v, and has its bound
 
 abbrev at-loop : tie.Then1 Inv-loop μ-loop → tie.At-loop Inv-loop μ-loop
-at-loop c = c .before .before
+at-loop c = search
 
 abbrev start : tie.Then1 Inv-loop μ-loop → tie.Start Inv-loop μ-loop
-start c = at-loop c .before .before .before .before .before .before .before .before .before .before
+start c = search
 
 even-here : (c : tie.Then1 Inv-loop μ-loop) → block * (at-loop c .loop .v / block) ≡ at-loop c .loop .v
 even-here c = at-loop c .loop .inv .even (c .if1 .taken)
@@ -52,16 +52,11 @@ end-in c = min-le _ (c .least .ensures)
 
 end-even : (c : tie.After-least Inv-loop μ-loop) → c .least .result < start (c .before) .args .r .0
     → block * (c .least .result / block) ≡ c .least .result
-end-even c h = next-even (even-here (c .before)) (c .least .ensures) h
+end-even c h = next-even (even-here (search)) (c .least .ensures) h
 
 end-less : (c : tie.After-least Inv-loop μ-loop)
     → start (c .before) .args .r .0 - c .least .result < start (c .before) .args .r .0 - at-loop (c .before) .loop .v
 end-less c = block-less (c .least .ensures) (c .before .if1 .taken)
-
--- ---- once the block is passed
-
-abbrev after-least : tie.After-pass-block Inv-loop μ-loop → tie.After-least Inv-loop μ-loop
-after-least c = c .before .before .before .before .before .before .before .before .before
 
 -- ---- the answers
 
@@ -74,12 +69,12 @@ add-least c =
     let r-in = lower .stage .inside in search needs
 
 slice-read-if2 : tie.Need-slice-read-if2 Inv-loop μ-loop
-slice-read-if2 c = bound-in (c .before .before)
+slice-read-if2 c = bound-in (search)
 
 pass-block-requires : tie.Need-pass-block-requires Inv-loop μ-loop
 pass-block-requires c κs =
-    let after-least = c .before .before .before .before .before .before .before .before in
-    let then1 = after-least .before in
+    let after-least : tie.After-least Inv-loop μ-loop = search in
+    let then1 : tie.Then1 Inv-loop μ-loop = search in
     let ((w, lower), _) = start then1 .pre in (
       (w, at-loop then1 .loop .inv .lower w lower .stage),
       block-from (after-least .least .ensures) (then1 .if1 .taken),
@@ -87,20 +82,16 @@ pass-block-requires c κs =
     )
 
 slice-write-soon : tie.Need-slice-write-soon Inv-loop μ-loop
-slice-write-soon c =
-    let after-pass-block = c .before .before .before .before .before .before .before .before .before .before in
-    bound-in (after-least after-pass-block .before)
+slice-write-soon c = bound-in (search)
 
 loop-less : tie.Need-loop-less Inv-loop μ-loop
-loop-less c =
-    let after-pass-block = c .before .before .before .before .before .before .before .before .before .before in
-    end-less (after-least after-pass-block)
+loop-less c = end-less (search)
 
 loop-again : tie.Need-loop-again Inv-loop μ-loop
 loop-again c =
-    let after-pass-block = c .before .before .before .before .before .before .before .before .before .before in
-    let after-least = after-least after-pass-block in
-    let then1 = after-least .before in
+    let after-pass-block : tie.After-pass-block Inv-loop μ-loop = search in
+    let after-least : tie.After-least Inv-loop μ-loop = search in
+    let then1 : tie.Then1 Inv-loop μ-loop = search in
     let inv = at-loop then1 .loop .inv in
     let passed = after-pass-block .pass-block in
     let (_, (_, (_, (_, (_, (_, (cursor-kept, (ahead-kept, (_, (ups-kept, (downs-kept, (touched-kept, _)))))))))))) = passed .kept in
@@ -114,14 +105,12 @@ loop-again c =
     }
 
 loop-less-2 : tie.Need-loop-less-2 Inv-loop μ-loop
-loop-less-2 c =
-    let after-least = c .before .before .before in
-    end-less after-least
+loop-less-2 c = end-less (search)
 
 loop-again-2 : tie.Need-loop-again-2 Inv-loop μ-loop
 loop-again-2 c =
-    let after-least = c .before .before .before in
-    let then1 = after-least .before in
+    let after-least : tie.After-least Inv-loop μ-loop = search in
+    let then1 : tie.Then1 Inv-loop μ-loop = search in
     let inv = at-loop then1 .loop .inv in record {
       in-rows = end-in after-least;
       even = end-even after-least;
@@ -131,51 +120,50 @@ loop-again-2 c =
     }
 
 same-length : tie.Need-same-length Inv-loop μ-loop
-same-length c = c .before .before .loop .inv .kept .cursor-kept
+same-length c =
+    let at-loop : tie.At-loop Inv-loop μ-loop = search in
+    at-loop .loop .inv .kept .cursor-kept
 
 same-length-2 : tie.Need-same-length-2 Inv-loop μ-loop
-same-length-2 c = c .before .before .loop .inv .kept .ahead-kept
+same-length-2 c =
+    let at-loop : tie.At-loop Inv-loop μ-loop = search in
+    at-loop .loop .inv .kept .ahead-kept
 
 same-length-3 : tie.Need-same-length-3 Inv-loop μ-loop
-same-length-3 c = c .before .before .loop .inv .soon-kept
+same-length-3 c =
+    let at-loop : tie.At-loop Inv-loop μ-loop = search in
+    at-loop .loop .inv .soon-kept
 
 same-length-4 : tie.Need-same-length-4 Inv-loop μ-loop
-same-length-4 c = c .before .before .loop .inv .kept .ups-kept
+same-length-4 c =
+    let at-loop : tie.At-loop Inv-loop μ-loop = search in
+    at-loop .loop .inv .kept .ups-kept
 
 same-length-5 : tie.Need-same-length-5 Inv-loop μ-loop
-same-length-5 c = c .before .before .loop .inv .kept .downs-kept
+same-length-5 c =
+    let at-loop : tie.At-loop Inv-loop μ-loop = search in
+    at-loop .loop .inv .kept .downs-kept
 
 same-length-6 : tie.Need-same-length-6 Inv-loop μ-loop
-same-length-6 c = c .before .before .loop .inv .kept .touched-kept
+same-length-6 c =
+    let at-loop : tie.At-loop Inv-loop μ-loop = search in
+    at-loop .loop .inv .kept .touched-kept
 
 returns : tie.Need-returns Inv-loop μ-loop
 returns c =
-    let inv = c .before .before .loop .inv in
+    let at-loop : tie.At-loop Inv-loop μ-loop = search in
+    let inv = at-loop .loop .inv in
     λ w s. lower-end (inv .in-rows) (c .if1 .left) (inv .lower w s)
 
 pub pass-lower-spec : {M : Type 1} → statement M
 pass-lower-spec =
     tie.close
-    (tie.spec
-    Inv-loop
-    μ-loop
+    (tie.spec Inv-loop μ-loop
     loop-holds
     (λ c. search needs)
     add-least
-    (λ c κs. search needs)
+    (λ c κs. search needs) (λ c. search needs)
+    slice-read-if2 pass-block-requires
     (λ c. search needs)
-    slice-read-if2
-    pass-block-requires
-    (λ c. search needs)
-    slice-write-soon
-    loop-less
-    loop-again
-    loop-less-2
-    loop-again-2
-    same-length
-    same-length-2
-    same-length-3
-    same-length-4
-    same-length-5
-    same-length-6
-    returns)
+    slice-write-soon loop-less loop-again loop-less-2 loop-again-2 same-length same-length-2 same-length-3 same-length-4 same-length-5
+    same-length-6 returns)

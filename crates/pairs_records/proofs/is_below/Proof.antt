@@ -7,14 +7,14 @@ use Rattle.pairs_records.proofs.is_below.Tie as tie
 
 returns : tie.Need-returns
 returns c =
-    let after-low-of = c .before .before .before in
-    let start = after-low-of .before .before in
+    let after-low-of : tie.After-low-of = search in
+    let start : tie.Start = search in
     below-one (start .args .pairs .now) (start .args .i) (omega (arith, after-low-of .low-of .ensures, c .if1 .taken))
 
 returns-2 : tie.Need-returns-2
 returns-2 c =
-    let after-low-of = c .before .before .before in
-    let start = after-low-of .before .before in
+    let after-low-of : tie.After-low-of = search in
+    let start : tie.Start = search in
     below-zero (start .args .pairs .now) (start .args .i) (omega (arith, after-low-of .low-of .ensures, c .if1 .left))
 
 pub is-below-spec : {M : Type 1} → statement M

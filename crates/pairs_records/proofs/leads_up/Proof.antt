@@ -6,30 +6,30 @@ use Rattle.pairs_records.proofs.leads_up.Statement.{statement}
 use Rattle.pairs_records.proofs.leads_up.Tie as tie
 
 abbrev start : tie.Else1 → tie.Start
-start c = c .before .before .before
+start c = search
 
 returns : tie.Need-returns
 returns c =
-    let start = c .before .before .before in
+    let start : tie.Start = search in
     leads-other (start .args .n) (start .args .high .0) (start .args .up .0) (c .if1 .taken)
 
 returns-2 : tie.Need-returns-2
 returns-2 c =
-    let else1 = c .before .before .before in
+    let else1 : tie.Else1 = search in
     leads-down (start else1 .args .n) (start else1 .args .up .0) (else1 .if1 .left) (c .if2 .taken)
 
 returns-3 : tie.Need-returns-3
 returns-3 c =
-    let else2 = c .before .before in
-    let else1 = else2 .before .before .before in
+    let else2 : tie.Else2 = search in
+    let else1 : tie.Else1 = search in
     leads-out (start else1 .args .up .0) (else1 .if1 .left) (else2 .if2 .left) (c .if3 .taken)
 
 returns-4 : tie.Need-returns-4
 returns-4 c =
-    let else3 = c .before in
-    let else2 = else3 .before .before in
-    let else1 = else2 .before .before .before in
-    let start = start else1 in
+    let else3 : tie.Else3 = search in
+    let else2 : tie.Else2 = search in
+    let else1 : tie.Else1 = search in
+    let start : tie.Start = search in
     leads-by (start .args .n) (start .args .r .0) (start .args .low .0) (start .args .high .0) (start .args .up .0) (else1 .if1 .left)
     (else2 .if2 .left) (else3 .if3 .left) _ (c .is-none .ensures)
 

@@ -17,11 +17,7 @@ pub put-ranks-spec : {M : Type 1} → statement M
 put-ranks-spec =
     tie.close
     (tie.spec
-    (λ c. search needs)
-    (λ c. search needs)
-    (λ c. search needs)
-    (λ c. search needs)
-    (λ c. search needs)
+    (λ c. search needs) (λ c. search needs) (λ c. search needs) (λ c. search needs) (λ c. search needs)
     slice-write-pairs-2
     (λ c. search needs)
     returns)

@@ -7,14 +7,17 @@ use Rattle.pairs_rows.proofs.is_kept.Tie as tie
 
 returns : tie.Need-returns
 returns c =
-    let after-is-none = c .before .before in
-    let args = after-is-none .before .args in
-    kept-by-down (args .up .0) (args .down .0) (after-is-none .is-none .ensures) (c .before .if1 .taken) (c .is-none2 .ensures)
+    let then1 : tie.Then1 = search in
+    let after-is-none : tie.After-is-none = search in
+    let start : tie.Start = search in
+    let args = start .args in
+    kept-by-down (args .up .0) (args .down .0) (after-is-none .is-none .ensures) (then1 .if1 .taken) (c .is-none2 .ensures)
 
 returns-2 : tie.Need-returns-2
 returns-2 c =
-    let after-is-none = c .before in
-    let args = after-is-none .before .args in
+    let after-is-none : tie.After-is-none = search in
+    let start : tie.Start = search in
+    let args = start .args in
     kept-by-up (args .up .0) (args .down .0) (after-is-none .is-none .ensures) (c .if1 .left)
 
 pub is-kept-spec : {M : Type 1} → statement M

@@ -37,7 +37,7 @@ abbrev μ-loop : tie.MeasureT-loop
 -- ---- in the loop: h has its two entries, and a place more can be counted
 
 abbrev start : tie.In-loop Inv-loop μ-loop → tie.Start Inv-loop μ-loop
-start c = c .before .before .before .before .before .before .before .before
+start c = search
 
 up-in : (c : tie.In-loop Inv-loop μ-loop) → c .before .loop .h < length (c .before .loop .ups)
 up-in c = in-kept (c .loop-test .taken) (start c .pre .ups-long) (c .before .loop .inv .ups-kept)
@@ -51,16 +51,16 @@ count-high c = count-fits _ (c .before .loop .inv .records-in) (start c .pre .pa
 -- ---- once both times of h are taken
 
 abbrev after-take-time2 : tie.After-is-kept Inv-loop μ-loop → tie.After-take-time2 Inv-loop μ-loop
-after-take-time2 c = c .before .before .before
+after-take-time2 c = search
 
 abbrev after-take-time : tie.After-is-kept Inv-loop μ-loop → tie.After-take-time Inv-loop μ-loop
-after-take-time c = after-take-time2 c .before .before .before .before
+after-take-time c = search
 
 abbrev in-loop : tie.After-is-kept Inv-loop μ-loop → tie.In-loop Inv-loop μ-loop
-in-loop c = after-take-time c .before .before .before .before
+in-loop c = search
 
 abbrev at-loop : tie.After-is-kept Inv-loop μ-loop → tie.At-loop Inv-loop μ-loop
-at-loop c = in-loop c .before
+at-loop c = search
 
 taken : (c : tie.After-is-kept Inv-loop μ-loop) → Taken (start (in-loop c) .args .n) (start (in-loop c) .args .r .0) (at-loop c .loop .h)
     (after-take-time c .take-time .result .0) (after-take-time2 c .take-time2 .result .0) (at-loop c .loop .ups) (at-loop c .loop .downs)
@@ -90,7 +90,7 @@ downs-kept c = after-take-time2 c .take-time2 .kept .0 ∙ at-loop c .loop .inv 
 -- ---- where the next record has room
 
 abbrev after-is-kept : tie.Else3 Inv-loop μ-loop → tie.After-is-kept Inv-loop μ-loop
-after-is-kept c = c .before .before .before
+after-is-kept c = search
 
 room : (c : tie.Else3 Inv-loop μ-loop)
     → recordSize * at-loop (after-is-kept c) .loop .k + recordSize ≤ length (at-loop (after-is-kept c) .loop .pairs)
@@ -100,15 +100,17 @@ room c = room-in _ (c .before .words-of .ensures) (c .if3 .left)
 times-room : (c : tie.Else3 Inv-loop μ-loop)
     → recordSize * at-loop (after-is-kept c) .loop .k + recordSize ≤ length (at-loop (after-is-kept c) .loop .times)
 times-room c =
-    let start = start (in-loop (after-is-kept c)) in
-    let inv = at-loop (after-is-kept c) .loop .inv in
+    let at-loop : tie.At-loop Inv-loop μ-loop = search in
+    let start : tie.Start Inv-loop μ-loop = search in
+    let inv = at-loop .loop .inv in
     omega (arith, room c, inv .pairs-kept, inv .times-kept, start .pre .same-room)
 
 -- ---- the answers
 
 loop-holds : tie.Need-loop-holds Inv-loop μ-loop
 loop-holds c =
-    let start = c .before .before .before .before .before .before in record {
+    let start : tie.Start Inv-loop μ-loop = search in
+    record {
       above = search needs;
       within = lt-next (start .pre .rank-in);
       records-in = start .pre .records-in;
@@ -121,30 +123,30 @@ loop-holds c =
 
 shared-slice-read-if1 : tie.Need-shared-slice-read-if1 Inv-loop μ-loop
 shared-slice-read-if1 c =
-    let in-loop = c .before in
+    let in-loop : tie.In-loop Inv-loop μ-loop = search in
     omega (arith, start in-loop .pre .touched-long, in-loop .loop-test .taken)
 
 mul-least : tie.Need-mul-least Inv-loop μ-loop
 mul-least c =
-    let in-loop = c .before .before in
+    let in-loop : tie.In-loop Inv-loop μ-loop = search in
     let n-high = start in-loop .pre .n-high in
     let in-range = in-loop .loop-test .taken in search needs
 
 add-least : tie.Need-add-least Inv-loop μ-loop
 add-least c =
-    let in-loop = c .before .before in
+    let in-loop : tie.In-loop Inv-loop μ-loop = search in
     let n-high = start in-loop .pre .n-high in
     let in-range = in-loop .loop-test .taken in search needs
 
 loop-less : tie.Need-loop-less Inv-loop μ-loop
 loop-less c =
-    let in-loop = c .before .before .before in
+    let in-loop : tie.In-loop Inv-loop μ-loop = search in
     over-less (c .least .ensures) (in-loop .loop-test .taken)
 
 loop-again : tie.Need-loop-again Inv-loop μ-loop
 loop-again c =
-    let then1 = c .before in
-    let in-loop = then1 .before .before in
+    let then1 : tie.Then1 Inv-loop μ-loop = search in
+    let in-loop : tie.In-loop Inv-loop μ-loop = search in
     let inv = in-loop .before .loop .inv in record {
       above = over-above (c .least .ensures) (inv .above) (in-loop .loop-test .taken);
       within = min-le _ (c .least .ensures);
@@ -158,70 +160,59 @@ loop-again c =
     }
 
 take-time-requires : tie.Need-take-time-requires Inv-loop μ-loop
-take-time-requires c κs =
-    let in-loop = c .before .before .before in
-    up-in in-loop
+take-time-requires c κs = up-in (search)
 
 take-time-requires-2 : tie.Need-take-time-requires-2 Inv-loop μ-loop
-take-time-requires-2 c κs =
-    let in-loop = c .before .before .before .before .before .before .before in
-    down-in in-loop
+take-time-requires-2 c κs = down-in (search)
 
 add-words-of : tie.Need-add-words-of Inv-loop μ-loop
-add-words-of c = record { fits = count-high (in-loop (c .before)) }
+add-words-of c = record { fits = count-high (search) }
 
 same-length : tie.Need-same-length Inv-loop μ-loop
-same-length c =
-    let after-is-kept = c .before .before .before in
-    ups-kept after-is-kept
+same-length c = ups-kept (search)
 
 same-length-2 : tie.Need-same-length-2 Inv-loop μ-loop
-same-length-2 c =
-    let after-is-kept = c .before .before .before in
-    downs-kept after-is-kept
+same-length-2 c = downs-kept (search)
 
 same-length-3 : tie.Need-same-length-3 Inv-loop μ-loop
 same-length-3 c =
-    let after-is-kept = c .before .before .before in
-    at-loop after-is-kept .loop .inv .pairs-kept
+    let at-loop : tie.At-loop Inv-loop μ-loop = search in
+    at-loop .loop .inv .pairs-kept
 
 same-length-4 : tie.Need-same-length-4 Inv-loop μ-loop
 same-length-4 c =
-    let after-is-kept = c .before .before .before in
-    at-loop after-is-kept .loop .inv .times-kept
+    let at-loop : tie.At-loop Inv-loop μ-loop = search in
+    at-loop .loop .inv .times-kept
 
 returns : tie.Need-returns Inv-loop μ-loop
 returns c =
-    let then2 = c .before .before in
-    let after-is-kept = then2 .before in
-    λ w g. append-full g (taken after-is-kept) (at-loop after-is-kept .loop .inv .appending w g) (then2 .if2 .taken)
-    (room-out _ (c .before .words-of .ensures) (c .if3 .taken))
+    let at-loop : tie.At-loop Inv-loop μ-loop = search in
+    let then2 : tie.Then2 Inv-loop μ-loop = search in
+    let after-words-of : tie.After-words-of Inv-loop μ-loop = search in
+    λ w g. append-full g (taken (search)) (at-loop .loop .inv .appending w g) (then2 .if2 .taken)
+    (room-out _ (after-words-of .words-of .ensures) (c .if3 .taken))
 
 put-ranks-requires : tie.Need-put-ranks-requires Inv-loop μ-loop
-put-ranks-requires c κs = room (c .before)
+put-ranks-requires c κs = room (search)
 
 put-times-requires : tie.Need-put-times-requires Inv-loop μ-loop
-put-times-requires c κs =
-    let else3 = c .before .before .before .before .before in
-    times-room else3
+put-times-requires c κs = times-room (search)
 
 add-k : tie.Need-add-k Inv-loop μ-loop
-add-k c =
-    let after-is-kept = c .before .before .before .before .before .before .before .before .before .before .before in
-    record { fits = count-high (in-loop after-is-kept) }
+add-k c = record { fits = count-high (search) }
 
 loop-less-2 : tie.Need-loop-less-2 Inv-loop μ-loop
 loop-less-2 c =
-    let after-is-kept = c .before .before .before .before .before .before .before .before .before .before .before in
-    less (in-loop after-is-kept .loop-test .taken)
+    let in-loop : tie.In-loop Inv-loop μ-loop = search in
+    less (in-loop .loop-test .taken)
 
 loop-again-2 : tie.Need-loop-again-2 Inv-loop μ-loop
 loop-again-2 c =
-    let after-put-times = c .before .before in
-    let after-put-ranks = after-put-times .before .before .before .before in
-    let else3 = after-put-ranks .before .before in
-    let then2 = else3 .before .before in
-    let after-is-kept = then2 .before in
+    let after-put-times : tie.After-put-times Inv-loop μ-loop = search in
+    let after-put-ranks : tie.After-put-ranks Inv-loop μ-loop = search in
+    let else3 : tie.Else3 Inv-loop μ-loop = search in
+    let then2 : tie.Then2 Inv-loop μ-loop = search in
+    let after-is-kept : tie.After-is-kept Inv-loop μ-loop = search in
     let inv = at-loop after-is-kept .loop .inv in
     let pairs-kept = after-put-ranks .put-ranks .kept .0 in
     let times-kept = after-put-times .put-times .kept .0 in record {
@@ -237,11 +228,13 @@ loop-again-2 c =
     }
 
 loop-less-3 : tie.Need-loop-less-3 Inv-loop μ-loop
-loop-less-3 c = less (in-loop (c .before) .loop-test .taken)
+loop-less-3 c =
+    let in-loop : tie.In-loop Inv-loop μ-loop = search in
+    less (in-loop .loop-test .taken)
 
 loop-again-3 : tie.Need-loop-again-3 Inv-loop μ-loop
 loop-again-3 c =
-    let after-is-kept = c .before in
+    let after-is-kept : tie.After-is-kept Inv-loop μ-loop = search in
     let inv = at-loop after-is-kept .loop .inv in record {
       above = lt-more (inv .above);
       within = lt-next (in-loop after-is-kept .loop-test .taken);
@@ -273,40 +266,17 @@ returns-2 c =
 pub append-row-spec : {M : Type 1} → statement M
 append-row-spec =
     tie.close
-    (tie.spec
-    Inv-loop
-    μ-loop
+    (tie.spec Inv-loop μ-loop
     (λ c. search needs)
     loop-holds
-    (λ c. search needs)
-    (λ c. search needs)
-    shared-slice-read-if1
-    mul-least
-    add-least
+    (λ c. search needs) (λ c. search needs)
+    shared-slice-read-if1 mul-least add-least
     (λ c κs. search needs)
-    loop-less
-    loop-again
-    (λ c. search needs)
-    (λ c. search needs)
-    take-time-requires
-    take-time-requires-2
+    loop-less loop-again
+    (λ c. search needs) (λ c. search needs)
+    take-time-requires take-time-requires-2
     (λ c κs. search needs)
     add-words-of
     (λ c κs. search needs)
-    same-length
-    same-length-2
-    same-length-3
-    same-length-4
-    returns
-    put-ranks-requires
-    put-times-requires
-    add-k
-    loop-less-2
-    loop-again-2
-    loop-less-3
-    loop-again-3
-    same-length-5
-    same-length-6
-    same-length-7
-    same-length-8
-    returns-2)
+    same-length same-length-2 same-length-3 same-length-4 returns put-ranks-requires put-times-requires add-k loop-less-2 loop-again-2
+    loop-less-3 loop-again-3 same-length-5 same-length-6 same-length-7 same-length-8 returns-2)

@@ -7,10 +7,10 @@ use Rattle.pairs_storing.proofs.clear_from.Tie as tie
 
 returns : tie.Need-returns
 returns c =
-    let after-fill-times = c .before .before in
-    let after-fill = after-fill-times .before .before .before .before in
-    let after-words-of = after-fill .before .before in
-    let start = after-words-of .before .before .before in
+    let after-fill-times : tie.After-fill-times = search in
+    let after-fill : tie.After-fill = search in
+    let after-words-of : tie.After-words-of = search in
+    let start : tie.Start = search in
     let (records-in, same-room) = start .pre in
     let count = start .args .count in
     let words-are = after-words-of .words-of .ensures in (
@@ -23,17 +23,7 @@ pub clear-from-spec : {M : Type 1} → statement M
 clear-from-spec =
     tie.close
     (tie.spec
-    (λ c κs. search needs)
-    (λ c. search needs)
-    (λ c. search needs)
-    (λ c. search needs)
-    (λ c. search needs)
-    (λ c κs. search needs)
-    (λ c. search needs)
-    (λ c. search needs)
-    (λ c. search needs)
-    (λ c. search needs)
-    (λ c κs. search needs)
-    (λ c. search needs)
+    (λ c κs. search needs) (λ c. search needs) (λ c. search needs) (λ c. search needs) (λ c. search needs) (λ c κs. search needs)
+    (λ c. search needs) (λ c. search needs) (λ c. search needs) (λ c. search needs) (λ c κs. search needs) (λ c. search needs)
     (λ c. search needs)
     returns)

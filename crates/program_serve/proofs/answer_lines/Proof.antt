@@ -40,21 +40,24 @@ abbrev μ-loop : tie.MeasureT-loop
 -- ---- the first turn
 
 abbrev after-text-of : tie.After-turn Inv-loop μ-loop → tie.After-text-of Inv-loop μ-loop
-after-text-of c = c .before .before .before
+after-text-of c = search
 
 abbrev start : tie.After-turn Inv-loop μ-loop → tie.Start Inv-loop μ-loop
-start c = after-text-of c .before .before .before .before .before .before .before .before .before .before .before .before
+start c = search
 
 -- ---- a turn of the loop
 
 abbrev after-text-of2 : tie.After-turn2 Inv-loop μ-loop → tie.After-text-of2 Inv-loop μ-loop
-after-text-of2 c = c .before .before .before
+after-text-of2 c = search
 
 abbrev after-answer-line : tie.After-turn2 Inv-loop μ-loop → tie.After-answer-line Inv-loop μ-loop
-after-answer-line c = after-text-of2 c .before .before .before .before .before .before .before .before .before .before .before .before
+after-answer-line c = search
 
 abbrev after-heard : tie.After-answer-line Inv-loop μ-loop → tie.After-heard Inv-loop μ-loop
-after-heard c = c .before .before .before .before .before .before .before .before
+after-heard c = search
+
+abbrev in-loop-before : tie.After-heard Inv-loop μ-loop → tie.In-loop Inv-loop μ-loop
+in-loop-before c = search
 
 -- ---- the answers
 
@@ -70,7 +73,7 @@ loop-holds c = record {
 
 loop-less : tie.Need-loop-less Inv-loop μ-loop
 loop-less c =
-    let in-loop = after-heard (after-answer-line c) .before .before in
+    let in-loop = in-loop-before (after-heard (after-answer-line c)) in
     steps-fall (in-loop .loop-test .taken) (c .turn2 .ensures .next)
 
 loop-again : tie.Need-loop-again Inv-loop μ-loop
@@ -78,7 +81,7 @@ loop-again c =
     let after-text-of2 = after-text-of2 c in
     let after-answer-line = after-answer-line c in
     let after-heard = after-heard after-answer-line in
-    let in-loop = after-heard .before .before in
+    let in-loop : tie.In-loop Inv-loop μ-loop = search in
     let loop = in-loop .before .loop in
     let reply = after-answer-line .answer-line in
     let (_, (_, (_, (_, (_, (_, (live-kept, (down-kept, (estimates-kept, (elapsed-kept, _)))))))))) = reply .kept in
@@ -97,7 +100,7 @@ loop-again c =
 returns : tie.Need-returns Inv-loop μ-loop
 returns c =
     let inv = c .before .loop .inv in
-    let after-turn = c .before .before in
+    let after-turn : tie.After-turn Inv-loop μ-loop = search in
     loop-end (start after-turn .args .out .now) (after-text-of after-turn .text-of .ensures) (after-turn .turn .ensures) (inv .underway)
     (c .loop-test .left) (inv .said)
 

@@ -9,22 +9,28 @@ use Rattle.program_serve.proofs.serve.Tie as tie
 -- ---- the card, and then the lines
 
 abbrev after-answer-lines : tie.After-slice-known18 → tie.After-answer-lines
-after-answer-lines c = c .before .before .before .before .before .before .before .before
+after-answer-lines c = search
 
 abbrev after-begin : tie.After-answer-lines → tie.After-begin
-after-begin c = c .before .before .before .before .before .before .before .before .before .before .before .before .before
+after-begin c = search
+
+abbrev live-before : tie.After-begin → tie.After-live
+live-before c = search
+
+abbrev card-before : tie.After-live → tie.After-open-card
+card-before c = search
 
 abbrev after-live : tie.After-answer-lines → tie.After-live
-after-live c = after-begin c .before .before .before .before .before .before .before .before .before .before .before .before
+after-live c = live-before (after-begin c)
 
 abbrev after-open-card : tie.After-answer-lines → tie.After-open-card
-after-open-card c = after-live c .before .before .before
+after-open-card c = card-before (after-live c)
 
 abbrev at-hand : tie.After-open-card → tie.After-slice-known7
-at-hand c = c .before .before .before .before .before .before .before .before .before .before .before
+at-hand c = search
 
 abbrev start : tie.After-open-card → tie.Start
-start c = at-hand c .before .before .before .before .before .before .before .before
+start c = search
 
 abbrev lent : tie.Start → Areas
 lent c =

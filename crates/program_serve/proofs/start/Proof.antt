@@ -17,42 +17,42 @@ ranks-part c = part junctionLimit _ (c .before .room-for .ensures .0)
 
 live-part : tie.Need-slice-aggregate-serve-2
 live-part c =
-    let after-room-for = c .before .before .before .before in
+    let after-room-for : tie.After-room-for = search in
     part roadLimit _ (after-room-for .room-for .ensures .1)
 
 down-part : tie.Need-slice-aggregate-serve-3
 down-part c =
-    let after-room-for = c .before .before .before .before .before in
+    let after-room-for : tie.After-room-for = search in
     part junctionLimit _ (after-room-for .room-for .ensures .0)
 
 estimates-part : tie.Need-slice-aggregate-serve-4
 estimates-part c =
-    let after-room-for = c .before .before .before .before .before .before in
+    let after-room-for : tie.After-room-for = search in
     part junctionLimit _ (after-room-for .room-for .ensures .0)
 
 elapsed-part : tie.Need-slice-aggregate-serve-5
 elapsed-part c =
-    let after-room-for = c .before .before .before .before .before .before .before in
+    let after-room-for : tie.After-room-for = search in
     part junctionLimit _ (after-room-for .room-for .ensures .0)
 
 leaving-part : tie.Need-slice-aggregate-serve-6
 leaving-part c =
-    let after-room-for = c .before .before .before .before .before .before .before .before in
+    let after-room-for : tie.After-room-for = search in
     part roadLimit _ (after-room-for .room-for .ensures .1)
 
 groups-part : tie.Need-slice-aggregate-serve-7
 groups-part c =
-    let after-room-for = c .before .before .before .before .before .before .before .before .before in
+    let after-room-for : tie.After-room-for = search in
     part-more junctionLimit _ (after-room-for .room-for .ensures .0)
 
 -- ---- the answer
 
 returns : tie.Need-returns
 returns c =
-    let after-serve = c .before .before .before .before .before .before .before in
-    let after-groups = after-serve .before .before .before .before in
-    let after-room-for = after-groups .before .before .before .before .before .before .before .before .before in
-    let start = after-room-for .before .before in
+    let after-serve : tie.After-serve = search in
+    let after-groups : tie.After-groups = search in
+    let after-room-for : tie.After-room-for = search in
+    let start : tie.Start = search in
     let served = after-serve .serve in
     let size = after-room-for .room-for in
     let lent = lends (start .args .file .now) (size .ensures .0) (size .ensures .1) in
@@ -70,8 +70,7 @@ pub start-spec : {M : Type 1} → statement M
 start-spec =
     tie.close
     (tie.spec
-    (λ c κs. search needs)
-    (λ c. search needs)
+    (λ c κs. search needs) (λ c. search needs)
     ranks-part
     (λ c. search needs)
     live-part
@@ -83,8 +82,7 @@ start-spec =
     elapsed-part
     (λ c. search needs)
     leaving-part
-    (λ c. search needs)
-    (λ c. search needs)
+    (λ c. search needs) (λ c. search needs)
     groups-part
     (λ c κs. search needs)
     returns)

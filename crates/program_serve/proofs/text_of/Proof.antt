@@ -6,7 +6,7 @@ use Rattle.program_serve.proofs.text_of.Tie as tie
 
 returns : tie.Need-returns
 returns c =
-    let start = c .before .before in
+    let start : tie.Start = search in
     first-bytes (start .args .k) (start .args .out .now)
 
 returns-2 : tie.Need-returns-2

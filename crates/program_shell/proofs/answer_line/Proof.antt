@@ -16,7 +16,7 @@ use Rattle.program_shell.proofs.answer_line.Tie as tie
 -- ---- what is at hand when the line is read
 
 abbrev start : tie.After-read-line → tie.Start
-start c = c .before .before .before .before .before .before .before .before .before .before
+start c = search
 
 abbrev state : tie.Start → State
 state c =
@@ -31,10 +31,10 @@ lent c = lentOf (c .args .route .now) (c .args .log .now)
 -- ---- the call of a readable line
 
 abbrev after-call : tie.After-write-answer → tie.After-call
-after-call c = c .before .before .before .before .before .before .before .before .before .before .before .before .before
+after-call c = search
 
 abbrev after-c : tie.After-call → tie.After-c
-after-c c = c .before .before .before .before .before .before .before .before .before .before
+after-c c = search
 
 roomy : (c : tie.After-call) → Roomy (lent (start (after-c c .before .before)))
 roomy c = (c .before .before .call-arg7 .given .0 .1, c .before .call-arg8 .given .0 .1)
@@ -55,8 +55,8 @@ elapsed-kept c = let (_, (_, (_, (_, (_, (_, (_, (_, (elapsed, _))))))))) = afte
 
 returns : tie.Need-returns
 returns c =
-    let after-enum-told = c .before .before in
-    let after-read-line = after-enum-told .before .before in
+    let after-enum-told : tie.After-enum-told = search in
+    let after-read-line : tie.After-read-line = search in
     let start = start after-read-line in
     let written = c .write-unreadable in (
       unreadable-way (start .args .line .now) (after-read-line .read-line .ensures) (room (c .before .write-unreadable-arg .given .0 .1))
@@ -68,7 +68,7 @@ returns-2 : tie.Need-returns-2
 returns-2 c =
     let after-call = after-call c in
     let after-c = after-c after-call in
-    let after-read-line = after-c .before .before in
+    let after-read-line : tie.After-read-line = search in
     let start = start after-read-line in
     let roomy = roomy after-call in
     let (_, (_, (_, (_, (_, (_, (_, (_, (_, (_, (_, (route-kept, _)))))))))))) = after-call .call .kept in

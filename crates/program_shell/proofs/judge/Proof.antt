@@ -18,7 +18,7 @@ use Rattle.program_shell.proofs.judge.Tie as tie
 -- ---- a file that is not too long is judged by its answer
 
 abbrev start : tie.Else1 → tie.Start
-start c = c .before .before .before
+start c = search
 
 by-answer : (c : tie.Else1) {x : Answer} → start c .args .answered .answer ≡ x → (a : Areas) → let args = start c .args in
     judged (headerIn (args .answered .header)) (answerIn x) a
@@ -31,18 +31,18 @@ by-answer c e a =
 
 returns : tie.Need-returns
 returns c =
-    let after-write-unreadable = c .before .before in
-    let then1 = after-write-unreadable .before .before in
-    let start = then1 .before .before .before in (
+    let after-write-unreadable : tie.After-write-unreadable = search in
+    let then1 : tie.Then1 = search in
+    let start : tie.Start = search in (
       λ a. over-way _ (then1 .if1 .taken) (start .pre) (after-write-unreadable .write-unreadable .ensures),
       λ e. absurd (true-false e refl),
     )
 
 returns-2 : tie.Need-returns-2
 returns-2 c =
-    let after-write-refusal = c .before .before in
-    let after-answer = after-write-refusal .before .before .before in
-    let else1 = after-answer .before .before in (
+    let after-write-refusal : tie.After-write-refusal = search in
+    let after-answer : tie.After-answer = search in
+    let else1 : tie.Else1 = search in (
       λ a. refused-way _ (start else1 .pre) (after-write-refusal .write-refusal .ensures)
           ∙ by-answer else1 (after-answer .answer .given .1) a,
       λ e. absurd (true-false e refl),
@@ -64,15 +64,9 @@ pub judge-spec : {M : Type 1} → statement M
 judge-spec =
     tie.close
     (tie.spec
-    (λ c κs. search needs)
-    (λ c. search needs)
+    (λ c κs. search needs) (λ c. search needs)
     returns
-    (λ c. search needs)
-    (λ c κs. search needs)
-    (λ c. search needs)
-    (λ c. search needs)
-    (λ c. search needs)
-    (λ c. search needs)
+    (λ c. search needs) (λ c κs. search needs) (λ c. search needs) (λ c. search needs) (λ c. search needs) (λ c. search needs)
     (λ c. search needs)
     returns-2
     returns-3

@@ -10,16 +10,16 @@ use Rattle.program_shell.proofs.open_card.Tie as tie
 -- ---- the preparing, and the areas that it was lent
 
 abbrev after-live : tie.After-judge → tie.After-live
-after-live c = c .before .before .before .before .before .before .before .before .before .before .before .before .before
+after-live c = search
 
 abbrev after-prepare : tie.After-judge → tie.After-prepare
-after-prepare c = after-live c .before .before .before
+after-prepare c = search
 
 abbrev at-hand : tie.After-prepare → tie.After-slice-known7
-at-hand c = c .before .before .before .before .before .before .before .before .before .before
+at-hand c = search
 
 abbrev start : tie.After-prepare → tie.Start
-start c = at-hand c .before .before .before .before .before .before .before .before
+start c = search
 
 abbrev lent : tie.Start → Areas
 lent c =

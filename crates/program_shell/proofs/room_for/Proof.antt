@@ -12,8 +12,8 @@ use Rattle.program_shell.proofs.room_for.Tie as tie
 
 returns : tie.Need-returns
 returns c =
-    let after-roads-of = c .before .before in
-    let after-order-of = after-roads-of .before in (
+    let after-roads-of : tie.After-roads-of = search in
+    let after-order-of : tie.After-order-of = search in (
       c .before .records-in .ensures
           ∙ ap (λ (l : List ℕ). roomIn (length l) placeSize junctionLimit) (after-order-of .order-of .ensures),
       c .records-in2 .ensures ∙ ap (λ (l : List ℕ). roomIn (length l) roadSize roadLimit) (after-roads-of .roads-of .ensures),

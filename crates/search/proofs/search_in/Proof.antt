@@ -11,11 +11,10 @@ use Rattle.search.proofs.search_in.Tie as tie
 -- ---- after the run
 
 abbrev after-sizes : tie.After-advance → tie.After-sizes
-after-sizes c = c .before .before .before .before .before .before
+after-sizes c = search
 
 abbrev start-of : tie.After-sizes → tie.Start
-start-of c =
-    c .before .before .before .before .before .before .before .before .before .before .before .before .before .before .before .before
+start-of c = search
 
 abbrev start : tie.After-advance → tie.Start
 start c = start-of (after-sizes c)
@@ -37,30 +36,30 @@ long c =
     record { estimates-long = estimates; elapsed-long = elapsed; ways-long = room; log-long = log }
 
 abbrev after-advance : tie.After-is-none → tie.After-advance
-after-advance c = c .before .before .before .before .before .before .before .before .before .before .before .before
+after-advance c = search
 
 -- from where a search that found a route returns
 abbrev else1 : tie.After-way-back → tie.Else1
-else1 c = c .before .before .before
+else1 c = search
 
 -- ---- the answers
 
 advance-requires : tie.Need-advance-requires
 advance-requires c κs =
-    let after-sizes = c .before .before .before .before .before in
+    let after-sizes : tie.After-sizes = search in
     let pre = start-of after-sizes .pre in
     record { within = pre .lends .within; log-long = pre .lends .log-long; fresh = pre .fresh }
 
 slice-read-of-word : tie.Need-slice-read-of-word
 slice-read-of-word c =
-    let after-advance = c .before .before .before .before .before .before .before .before .before .before in
+    let after-advance : tie.After-advance = search in
     let lends = start after-advance .pre .lends in
     below-kept (lends .within .target-in) (lends .within .sized .elapsed-is) (long after-advance .elapsed-long)
 
 returns : tie.Need-returns
 returns c =
-    let after-is-none = c .before in
-    let after-of-word = after-is-none .before in
+    let after-is-none : tie.After-is-none = search in
+    let after-of-word : tie.After-of-word = search in
     let after-advance = after-advance after-is-none in
     let lends = start after-advance .pre .lends in
     searches-lost (lends .within) (after-advance .advance .ensures) (after-of-word .of-word .ensures)
@@ -68,7 +67,7 @@ returns c =
 
 way-back-requires : tie.Need-way-back-requires
 way-back-requires c κs =
-    let after-is-none = c .before .before .before in
+    let after-is-none : tie.After-is-none = search in
     let after-advance = after-advance after-is-none in
     let pre = start after-advance .pre in
     let lends = pre .lends in (
@@ -80,16 +79,16 @@ way-back-requires c κs =
 
 same-length-7 : tie.Need-same-length-7
 same-length-7 c =
-    let after-way-back = c .before .before in
+    let after-way-back : tie.After-way-back = search in
     let (_, (_, (_, (_, (_, (_, (route-kept, _))))))) = after-way-back .way-back .kept in
     route-kept
 
 returns-2 : tie.Need-returns-2
 returns-2 c =
-    let after-way-back = c .before .before in
+    let after-way-back : tie.After-way-back = search in
     let else1 = else1 after-way-back in
-    let after-is-none = else1 .before in
-    let after-of-word = after-is-none .before in
+    let after-is-none : tie.After-is-none = search in
+    let after-of-word : tie.After-of-word = search in
     let after-advance = after-advance after-is-none in
     let lends = start after-advance .pre .lends in
     let (number-is, route-is) = after-way-back .way-back .ensures in
@@ -101,20 +100,12 @@ search-in-spec =
     tie.close
     (tie.spec
     advance-requires
-    (λ c. search needs)
-    (λ c. search needs)
+    (λ c. search needs) (λ c. search needs)
     slice-read-of-word
-    (λ c κs. search needs)
-    (λ c κs. search needs)
-    (λ c. search needs)
-    (λ c. search needs)
-    (λ c. search needs)
-    (λ c. search needs)
+    (λ c κs. search needs) (λ c κs. search needs) (λ c. search needs) (λ c. search needs) (λ c. search needs) (λ c. search needs)
     returns
     way-back-requires
-    (λ c. search needs)
-    (λ c. search needs)
+    (λ c. search needs) (λ c. search needs)
     same-length-7
-    (λ c. search needs)
-    (λ c. search needs)
+    (λ c. search needs) (λ c. search needs)
     returns-2)

@@ -12,20 +12,20 @@ use Rattle.search_junctions.proofs.ask_head.Tie as tie
 -- ---- the road, once its words are read
 
 abbrev start : tie.After-time-of → tie.Start
-start c = c .before .before .before .before .before .before .before .before .before .before .before
+start c = search
 
 abbrev after-head-of : tie.Else2 → tie.After-head-of
-after-head-of c = c .before .before .before
+after-head-of c = search
 
 abbrev after-time-of : tie.Else2 → tie.After-time-of
-after-time-of c = after-head-of c .before .before .before
+after-time-of c = search
 
 open-road : (c : tie.Else2) → let args = start (after-time-of c) .args in
     OpenRoad (args .trip .sizes) (args .roads .now) (met (args .trip) (args .access .now) (args .live .now)) (args .i)
     (after-time-of c .time-of .result .0)
     (after-head-of c .head-of .result .0)
 open-road c =
-    let else1 = after-head-of c .before in record {
+    let else1 : tie.Else1 = search in record {
       road-in = start (after-time-of c) .pre .0;
       time-is = after-time-of c .time-of .ensures;
       open-is = sym (else1 .before .is-closed .ensures) ∙ else1 .if1 .left;
@@ -37,30 +37,30 @@ open-road c =
 
 time-of-requires : tie.Need-time-of-requires
 time-of-requires c κs =
-    let start = c .before .before .before .before .before .before .before .before .before .before in
+    let start : tie.Start = search in
     omega (arith, start .pre .0, start .pre .1 .live-is)
 
 returns : tie.Need-returns
 returns c =
-    let after-time-of = c .before .before in
+    let after-time-of : tie.After-time-of = search in
     head-closed (after-time-of .time-of .ensures) (sym (c .before .is-closed .ensures) ∙ c .if1 .taken)
 
 returns-2 : tie.Need-returns-2
 returns-2 c =
-    let after-head-of = c .before .before .before in
-    let after-time-of = after-head-of .before .before .before in
+    let after-head-of : tie.After-head-of = search in
+    let after-time-of : tie.After-time-of = search in
     head-far (start after-time-of .pre .0) (after-head-of .head-of .ensures) (c .if2 .taken)
 
 returns-3 : tie.Need-returns-3
 returns-3 c =
-    let after-is-unasked = c .before in
-    let after-of-word = after-is-unasked .before in
-    let else2 = after-of-word .before .before .before in
+    let after-is-unasked : tie.After-is-unasked = search in
+    let after-of-word : tie.After-of-word = search in
+    let else2 : tie.Else2 = search in
     head-known (open-road else2) (known-word (after-of-word .of-word .ensures) (after-is-unasked .is-unasked .ensures) (c .if3 .taken))
 
 estimate-requires : tie.Need-estimate-requires
 estimate-requires c κs =
-    let else2 = c .before .before .before .before .before .before in
+    let else2 : tie.Else2 = search in
     let lent = start (after-time-of else2) .pre .1 .over in record {
       junction-in = open-road else2 .head-in;
       n-high = lent .n-high;
@@ -75,8 +75,8 @@ estimate-requires c κs =
 
 returns-4 : tie.Need-returns-4
 returns-4 c =
-    let after-estimate = c .before .before in
-    let else2 = after-estimate .before .before .before .before .before .before .before in
+    let after-estimate : tie.After-estimate = search in
+    let else2 : tie.Else2 = search in
     head-open (open-road else2) (after-estimate .estimate .ensures)
 
 pub ask-head-spec : {M : Type 1} → statement M
@@ -88,11 +88,7 @@ ask-head-spec =
     returns
     (λ c κs. search needs)
     returns-2
-    (λ c. search needs)
-    (λ c. search needs)
-    (λ c. search needs)
-    (λ c κs. search needs)
-    (λ c κs. search needs)
+    (λ c. search needs) (λ c. search needs) (λ c. search needs) (λ c κs. search needs) (λ c κs. search needs)
     returns-3
     estimate-requires
     (λ c. search needs)

@@ -6,8 +6,8 @@ use Rattle.search_junctions.proofs.group_at.Tie as tie
 
 returns : tie.Need-returns
 returns c =
-    let after-smaller2 = c .before in
-    let after-smaller = after-smaller2 .before in
+    let after-smaller2 : tie.After-smaller2 = search in
+    let after-smaller : tie.After-smaller = search in
     let args = after-smaller .before .before .args in
     part-at (args .leaving .now) (args .a) (args .b) (after-smaller .smaller .ensures) (after-smaller2 .smaller2 .ensures)
 
@@ -15,10 +15,5 @@ pub group-at-spec : {M : Type 1} → statement M
 group-at-spec =
     tie.close
     (tie.spec
-    (λ c κs. search needs)
-    (λ c κs. search needs)
-    (λ c. search needs)
-    (λ c. search needs)
-    (λ c. search needs)
-    (λ c. search needs)
+    (λ c κs. search needs) (λ c κs. search needs) (λ c. search needs) (λ c. search needs) (λ c. search needs) (λ c. search needs)
     returns)

@@ -9,8 +9,8 @@ use Rattle.search_junctions.proofs.step_back.Tie as tie
 
 returns : tie.Need-returns
 returns c =
-    let after-via-of = c .before in
-    let start = after-via-of .before .before .before in
+    let after-via-of : tie.After-via-of = search in
+    let start : tie.Start = search in
     let a = start .args in (
       step-none (a .roads .now) (labelsIn (a .n) (a .room .now) .vias) (a .n) (a .v) (after-via-of .via-of .ensures) (c .if1 .taken),
       search needs,
@@ -18,8 +18,8 @@ returns c =
 
 returns-2 : tie.Need-returns-2
 returns-2 c =
-    let after-via-of = c .before .before .before in
-    let start = after-via-of .before .before .before in
+    let after-via-of : tie.After-via-of = search in
+    let start : tie.Start = search in
     let a = start .args in (
       step-far (a .roads .now) (labelsIn (a .n) (a .room .now) .vias) (a .n) (a .v) (after-via-of .via-of .ensures) (omega arith)
           (c .before .tail-of .ensures) (c .if2 .taken),
@@ -28,8 +28,8 @@ returns-2 c =
 
 returns-3 : tie.Need-returns-3
 returns-3 c =
-    let after-via-of = c .before .before .before in
-    let start = after-via-of .before .before .before in
+    let after-via-of : tie.After-via-of = search in
+    let start : tie.Start = search in
     let a = start .args in (
       step-to (a .roads .now) (labelsIn (a .n) (a .room .now) .vias) (a .n) (a .v) (after-via-of .via-of .ensures) (omega arith)
           (c .before .tail-of .ensures) (omega arith),

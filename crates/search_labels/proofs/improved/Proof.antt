@@ -17,17 +17,17 @@ returns c =
 -- ---- past this: the node is not logged
 
 abbrev else1 : tie.After-word → tie.Else1
-else1 c = c .before
+else1 c = search
 
 abbrev start : tie.After-word → tie.Start
-start c = else1 c .before .before
+start c = search
 
 returns-2 : tie.Need-returns-2
 returns-2 c =
-    let after-word2 = c .before in
-    let after-plus = after-word2 .before in
-    let then2 = after-plus .before in
-    let after-word = then2 .before in
+    let after-word2 : tie.After-word2 = search in
+    let after-plus : tie.After-plus = search in
+    let then2 : tie.Then2 = search in
+    let after-word : tie.After-word = search in
     let args = start after-word .args in
     let words = start after-word .good in
     let (fits, arc) = start after-word .pre in (
@@ -39,10 +39,10 @@ returns-2 c =
 
 returns-3 : tie.Need-returns-3
 returns-3 c =
-    let after-word2 = c .before in
-    let after-plus = after-word2 .before in
-    let then2 = after-plus .before in
-    let after-word = then2 .before in
+    let after-word2 : tie.After-word2 = search in
+    let after-plus : tie.After-plus = search in
+    let then2 : tie.Then2 = search in
+    let after-word : tie.After-word = search in
     let args = start after-word .args in
     let (fits, _) = start after-word .pre in (
       stays-lost (args .offer .0) (args .estimate .0) (after-word2 .word2 .ensures ∙ after-plus .plus .ensures) (after-word .word .ensures)
@@ -52,13 +52,13 @@ returns-3 c =
 
 returns-4 : tie.Need-returns-4
 returns-4 c =
-    let after-word = c .before .before in
+    let after-word : tie.After-word = search in
     let (fits, _) = start after-word .pre in
     (later (else1 after-word .if1 .left) (omega (arith, after-word .word .ensures)), fits)
 
 returns-5 : tie.Need-returns-5
 returns-5 c =
-    let after-word = c .before .before .before .before in
+    let after-word : tie.After-word = search in
     let (fits, arc) = start after-word .pre in (
       tied (else1 after-word .if1 .left) (omega (arith, after-word .word .ensures)) (c .if5 .taken),
       record { time-low = fits .time-low; key-low = fits .key-low; via-low = arc },
@@ -66,7 +66,7 @@ returns-5 c =
 
 returns-6 : tie.Need-returns-6
 returns-6 c =
-    let after-word = c .before .before .before .before in
+    let after-word : tie.After-word = search in
     let (fits, _) = start after-word .pre in
     (behind (else1 after-word .if1 .left) (omega (arith, after-word .word .ensures)) (c .if5 .left), fits)
 
@@ -75,9 +75,7 @@ improved-spec =
     tie.close
     (tie.spec
     returns
-    (λ c κs. search needs)
-    (λ c κs. search needs)
-    (λ c κs. search needs)
+    (λ c κs. search needs) (λ c κs. search needs) (λ c κs. search needs)
     returns-2
     returns-3
     returns-4

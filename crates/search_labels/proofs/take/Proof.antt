@@ -12,13 +12,13 @@ use Rattle.search_labels.proofs.take.Tie as tie
 -- ---- the label as it is read
 
 abbrev after-key-of : tie.After-lower-of → tie.After-key-of
-after-key-of c = c .before
+after-key-of c = search
 
 abbrev after-upper-of : tie.After-lower-of → tie.After-upper-of
-after-upper-of c = after-key-of c .before .before
+after-upper-of c = search
 
 abbrev start : tie.After-lower-of → tie.Start
-start c = after-upper-of c .before .before .before
+start c = search
 
 improved-requires : tie.Need-improved-requires
 improved-requires c κs =
@@ -31,14 +31,14 @@ improved-requires c κs =
 -- ---- the label is improved, and its word written
 
 abbrev read : tie.After-word-of → tie.After-lower-of
-read c = c .before .before
+read c = search
 
 fits : (c : tie.After-word-of) → let new = c .before .improved .result in Fits (new .time) (new .key) (new .via)
 fits c = let (_, f) = c .before .improved .ensures in f
 
 put-requires : tie.Need-put-requires
 put-requires c κs =
-    let after-word-of = c .before .before .before in
+    let after-word-of : tie.After-word-of = search in
     let (inside, _, room) = start (read after-word-of) .pre in (
       record { inside = inside; n-high = room .n-high; words = simp length-set (room .words) },
       fits after-word-of .key-low,
@@ -47,13 +47,13 @@ put-requires c κs =
 
 same-length : tie.Need-same-length
 same-length c =
-    let after-put = c .before .before in
+    let after-put : tie.After-put = search in
     simp length-set at (after-put .put .kept .0)
 
 returns : tie.Need-returns
 returns c =
-    let after-put = c .before .before in
-    let after-word-of = after-put .before .before .before .before in
+    let after-put : tie.After-put = search in
+    let after-word-of : tie.After-word-of = search in
     let after-lower-of = read after-word-of in
     let (inside, _, room) = start after-lower-of .pre in
     let (time-is, _) = after-upper-of after-lower-of .upper-of .ensures in
@@ -65,7 +65,7 @@ returns c =
 
 returns-2 : tie.Need-returns-2
 returns-2 c =
-    let after-word-of = c .before .before in
+    let after-word-of : tie.After-word-of = search in
     let after-lower-of = read after-word-of in
     let (inside, _, room) = start after-lower-of .pre in
     let (time-is, _) = after-upper-of after-lower-of .upper-of .ensures in
@@ -78,17 +78,10 @@ pub take-spec : {M : Type 1} → statement M
 take-spec =
     tie.close
     (tie.spec
-    (λ c. search needs)
-    (λ c. search needs)
-    (λ c. search needs)
-    (λ c. search needs)
-    (λ c κs. search needs)
-    (λ c κs. search needs)
+    (λ c. search needs) (λ c. search needs) (λ c. search needs) (λ c. search needs) (λ c κs. search needs) (λ c κs. search needs)
     (λ c κs. search needs)
     improved-requires
-    (λ c κs. search needs)
-    (λ c. search needs)
-    (λ c. search needs)
+    (λ c κs. search needs) (λ c. search needs) (λ c. search needs)
     put-requires
     same-length
     returns

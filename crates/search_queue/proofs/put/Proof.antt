@@ -17,16 +17,16 @@ abbrev μ-loop : tie.MeasureT-loop
 
 loop-holds : tie.Need-loop-holds Inv-loop μ-loop
 loop-holds c =
-    let start = c .before .before .before in
+    let start : tie.Start Inv-loop μ-loop = search in
     let (node, _, changed) = start .pre in
     climb-start (start .args .key) node (c .own-word .ensures) changed
 
 better-of-requires : tie.Need-better-of-requires Inv-loop μ-loop
 better-of-requires c κs =
-    let in-loop = c .before in
-    let at-loop = in-loop .before in
-    let after-own-word = at-loop .before in
-    let start = after-own-word .before .before .before in
+    let in-loop : tie.In-loop Inv-loop μ-loop = search in
+    let at-loop : tie.At-loop Inv-loop μ-loop = search in
+    let after-own-word : tie.After-own-word Inv-loop μ-loop = search in
+    let start : tie.Start Inv-loop μ-loop = search in
     let (node, _, _) = start .pre in
     let more = in-loop .loop-test .taken in
     let inv = at-loop .loop .inv in
@@ -34,10 +34,10 @@ better-of-requires c κs =
 
 loop-again : tie.Need-loop-again Inv-loop μ-loop
 loop-again c =
-    let in-loop = c .before .before in
-    let at-loop = in-loop .before in
-    let after-own-word = at-loop .before in
-    let start = after-own-word .before .before .before in
+    let in-loop : tie.In-loop Inv-loop μ-loop = search in
+    let at-loop : tie.At-loop Inv-loop μ-loop = search in
+    let after-own-word : tie.After-own-word Inv-loop μ-loop = search in
+    let start : tie.Start Inv-loop μ-loop = search in
     let (node, _, _) = start .pre in
     climb-turn (node .n-high) (in-loop .loop-test .taken) refl refl (at-loop .loop .inv) refl (c .better-of .ensures)
 
@@ -46,9 +46,9 @@ same-length c = simp length-set at (c .before .loop .inv .long)
 
 returns : tie.Need-returns Inv-loop μ-loop
 returns c =
-    let at-loop = c .before in
-    let after-own-word = at-loop .before in
-    let start = after-own-word .before .before .before in
+    let at-loop : tie.At-loop Inv-loop μ-loop = search in
+    let after-own-word : tie.After-own-word Inv-loop μ-loop = search in
+    let start : tie.Start Inv-loop μ-loop = search in
     let (node, _, _) = start .pre in
     climb-end (start .args .key) node (after-own-word .own-word .ensures) (c .loop-test .left) (at-loop .loop .inv)
 
@@ -58,20 +58,11 @@ put-spec =
     (tie.spec
     Inv-loop
     μ-loop
-    (λ c κs. search needs)
-    (λ c. search needs)
-    (λ c. search needs)
-    (λ c. search needs)
+    (λ c κs. search needs) (λ c. search needs) (λ c. search needs) (λ c. search needs)
     loop-holds
-    (λ c. search needs)
-    (λ c. search needs)
-    (λ c. search needs)
-    (λ c. search needs)
-    (λ c. search needs)
+    (λ c. search needs) (λ c. search needs) (λ c. search needs) (λ c. search needs) (λ c. search needs)
     better-of-requires
-    (λ c. search needs)
-    (λ c. search needs)
-    (λ c. search needs)
+    (λ c. search needs) (λ c. search needs) (λ c. search needs)
     loop-again
     same-length
     returns)

@@ -11,16 +11,16 @@ use Rattle.search_queue.proofs.time_in.Tie as tie
 
 shared-slice-read-upper-of : tie.Need-shared-slice-read-upper-of
 shared-slice-read-upper-of c =
-    let after-lower-of = c .before in
-    let start = after-lower-of .before .before in
+    let after-lower-of : tie.After-lower-of = search in
+    let start : tie.Start = search in
     let (inside, words) = start .pre in
     let (lower-is, _) = after-lower-of .lower-of .ensures in
     omega arith
 
 returns : tie.Need-returns
 returns c =
-    let after-lower-of = c .before .before in
-    let start = after-lower-of .before .before in
+    let after-lower-of : tie.After-lower-of = search in
+    let start : tie.Start = search in
     let (lower-is, _) = after-lower-of .lower-of .ensures in
     let (upper-is, _) = c .upper-of .ensures in
     upper-is
@@ -30,11 +30,7 @@ pub time-in-spec : {M : Type 1} → statement M
 time-in-spec =
     tie.close
     (tie.spec
-    (λ c. search needs)
-    (λ c κs. search needs)
-    (λ c. search needs)
-    (λ c. search needs)
-    (λ c. search needs)
+    (λ c. search needs) (λ c κs. search needs) (λ c. search needs) (λ c. search needs) (λ c. search needs)
     shared-slice-read-upper-of
     (λ c κs. search needs)
     returns)

@@ -32,22 +32,21 @@ abbrev μ-loop : tie.MeasureT-loop
 -- ---- before the loop
 
 abbrev start-of : tie.After-ask-start Inv-loop μ-loop → tie.Start Inv-loop μ-loop
-start-of c =
-    c .before .before .before .before .before .before .before .before .before .before .before .before .before .before .before .before
+start-of c = search
 
 -- ---- at the head of the loop
 
 abbrev after-smaller : tie.At-loop Inv-loop μ-loop → tie.After-smaller Inv-loop μ-loop
-after-smaller c = c .before .before .before
+after-smaller c = search
 
 abbrev after-fill-times : tie.At-loop Inv-loop μ-loop → tie.After-fill-times Inv-loop μ-loop
-after-fill-times c = after-smaller c .before .before .before
+after-fill-times c = search
 
 abbrev after-begin : tie.At-loop Inv-loop μ-loop → tie.After-begin Inv-loop μ-loop
-after-begin c = after-fill-times c .before .before .before .before
+after-begin c = search
 
 abbrev after-ask-start : tie.At-loop Inv-loop μ-loop → tie.After-ask-start Inv-loop μ-loop
-after-ask-start c = after-begin c .before .before .before .before
+after-ask-start c = search
 
 abbrev start : tie.At-loop Inv-loop μ-loop → tie.Start Inv-loop μ-loop
 start c = start-of (after-ask-start c)
@@ -88,63 +87,63 @@ groups-inside c = omega (arith, turn c .node-in, start (c .before) .pre .within 
 -- ---- once the node is settled
 
 abbrev after-word : tie.After-put Inv-loop μ-loop → tie.After-word Inv-loop μ-loop
-after-word c = c .before .before
+after-word c = search
 
 abbrev after-time-of : tie.After-put Inv-loop μ-loop → tie.After-time-of Inv-loop μ-loop
-after-time-of c = after-word c .before
+after-time-of c = search
 
 abbrev in-loop : tie.After-put Inv-loop μ-loop → tie.In-loop Inv-loop μ-loop
-in-loop c = after-time-of c .before .before
+in-loop c = search
 
 -- it is no goal
 abbrev put-before : tie.Else1 Inv-loop μ-loop → tie.After-put Inv-loop μ-loop
-put-before c = c .before .before .before .before
+put-before c = search
 
 abbrev turn-of : tie.Else1 Inv-loop μ-loop → tie.In-loop Inv-loop μ-loop
 turn-of c = in-loop (put-before c)
 
 -- its group is asked
 abbrev after-group-at : tie.After-ask Inv-loop μ-loop → tie.After-group-at Inv-loop μ-loop
-after-group-at c = c .before .before
+after-group-at c = search
 
 abbrev else1 : tie.After-ask Inv-loop μ-loop → tie.Else1 Inv-loop μ-loop
-else1 c = after-group-at c .before .before .before
+else1 c = search
 
 abbrev after-put : tie.After-ask Inv-loop μ-loop → tie.After-put Inv-loop μ-loop
 after-put c = put-before (else1 c)
 
 abbrev after-ask : tie.After-relax Inv-loop μ-loop → tie.After-ask Inv-loop μ-loop
-after-ask c = c .before .before .before .before .before
+after-ask c = search
 
 -- ---- the answers
 
 ask-start-requires : tie.Need-ask-start-requires Inv-loop μ-loop
 ask-start-requires c κs =
-    let start = c .before .before .before .before .before .before .before .before .before .before .before .before .before .before .before in
+    let start : tie.Start Inv-loop μ-loop = search in
     (start .pre .within .start-in, pairs-in (start .pre .within .sized) refl)
 
 begin-requires : tie.Need-begin-requires Inv-loop μ-loop
 begin-requires c κs =
-    let after-ask-start = c .before .before .before in
+    let after-ask-start : tie.After-ask-start Inv-loop μ-loop = search in
     let lends = start-of after-ask-start .pre in
     (lends .within .start-in, room-blank (lends .within .sized .n-high) (lends .fresh))
 
 choose-requires : tie.Need-choose-requires Inv-loop μ-loop
 choose-requires c κs =
-    let after-smaller = c .before in
-    let after-fill-times = after-smaller .before .before .before in
-    let after-begin = after-fill-times .before .before .before .before in
-    let after-ask-start = after-begin .before .before .before .before in
+    let after-smaller : tie.After-smaller Inv-loop μ-loop = search in
+    let after-fill-times : tie.After-fill-times Inv-loop μ-loop = search in
+    let after-begin : tie.After-begin Inv-loop μ-loop = search in
+    let after-ask-start : tie.After-ask-start Inv-loop μ-loop = search in
     let start = start-of after-ask-start in
     let (_, (room-kept, _)) = after-begin .begin .kept in
     omega (arith, room-kept, start .pre .fresh .words, start .pre .within .start-in)
 
 loop-holds : tie.Need-loop-holds Inv-loop μ-loop
 loop-holds c =
-    let after-smaller = c .before .before in
-    let after-fill-times = after-smaller .before .before .before in
-    let after-begin = after-fill-times .before .before .before .before in
-    let after-ask-start = after-begin .before .before .before .before in
+    let after-smaller : tie.After-smaller Inv-loop μ-loop = search in
+    let after-fill-times : tie.After-fill-times Inv-loop μ-loop = search in
+    let after-begin : tie.After-begin Inv-loop μ-loop = search in
+    let after-ask-start : tie.After-ask-start Inv-loop μ-loop = search in
     let right = after-begin .begin .ensures .room in
     running-start (first-inside right (omega (arith, start-of after-ask-start .pre .within .start-in)) (c .choose .ensures)) right
 
@@ -156,28 +155,28 @@ add-c c = omega (arith, count-inside c, start (c .before) .pre .within .sized .n
 
 time-of-requires : tie.Need-time-of-requires Inv-loop μ-loop
 time-of-requires c κs =
-    let in-loop = c .before in
+    let in-loop : tie.In-loop Inv-loop μ-loop = search in
     (turn in-loop .node-in, in-loop .before .loop .inv .right .words)
 
 cast-elapsed : tie.Need-cast-elapsed Inv-loop μ-loop
 cast-elapsed c =
-    let in-loop = c .before .before .before in
+    let in-loop : tie.In-loop Inv-loop μ-loop = search in
     omega (arith, node-small in-loop)
 
 mul-elapsed : tie.Need-mul-elapsed Inv-loop μ-loop
 mul-elapsed c =
-    let in-loop = c .before .before .before in
+    let in-loop : tie.In-loop Inv-loop μ-loop = search in
     omega (arith, node-small in-loop)
 
 slice-write-elapsed : tie.Need-slice-write-elapsed Inv-loop μ-loop
 slice-write-elapsed c =
-    let in-loop = c .before .before .before in
-    let at-loop = in-loop .before in
+    let in-loop : tie.In-loop Inv-loop μ-loop = search in
+    let at-loop : tie.At-loop Inv-loop μ-loop = search in
     omega (arith, turn in-loop .node-in, elapsed-long at-loop, start at-loop .pre .within .sized .elapsed-is)
 
 put-requires : tie.Need-put-requires Inv-loop μ-loop
 put-requires c κs =
-    let in-loop = c .before .before .before .before in
+    let in-loop : tie.In-loop Inv-loop μ-loop = search in
     let right = in-loop .before .loop .inv .right in (
       record { inside = turn in-loop .node-in; n-high = right .n-high; words = right .words },
       omega arith,
@@ -186,13 +185,13 @@ put-requires c κs =
 
 loop-less : tie.Need-loop-less Inv-loop μ-loop
 loop-less c =
-    let in-loop = c .before .before .before .before .before .before .before .before .before in
+    let in-loop : tie.In-loop Inv-loop μ-loop = search in
     omega (arith, turn in-loop .count-in)
 
 loop-again : tie.Need-loop-again Inv-loop μ-loop
 loop-again c =
-    let after-is-goal = c .before in
-    let after-put = after-is-goal .before .before .before in
+    let after-is-goal : tie.After-is-goal Inv-loop μ-loop = search in
+    let after-put : tie.After-put Inv-loop μ-loop = search in
     let in-loop = in-loop after-put in
     let time-is = after-word after-put .word .ensures ∙ after-time-of after-put .time-of .ensures in
     running-goal (in-loop .before .loop .inv) (turn in-loop) time-is (after-put .put .kept .0) (after-put .put .ensures)
@@ -206,38 +205,38 @@ mul-a c = omega (arith, node-small (turn-of c))
 
 shared-slice-read-a : tie.Need-shared-slice-read-a Inv-loop μ-loop
 shared-slice-read-a c =
-    let else1 = c .before in
+    let else1 : tie.Else1 Inv-loop μ-loop = search in
     omega (arith, groups-inside (turn-of else1))
 
 cast-b : tie.Need-cast-b Inv-loop μ-loop
 cast-b c =
-    let else1 = c .before in
+    let else1 : tie.Else1 Inv-loop μ-loop = search in
     omega (arith, node-small (turn-of else1))
 
 add-b : tie.Need-add-b Inv-loop μ-loop
 add-b c =
-    let else1 = c .before in
+    let else1 : tie.Else1 Inv-loop μ-loop = search in
     omega (arith, node-small (turn-of else1))
 
 mul-b : tie.Need-mul-b Inv-loop μ-loop
 mul-b c =
-    let else1 = c .before in
+    let else1 : tie.Else1 Inv-loop μ-loop = search in
     omega (arith, node-small (turn-of else1))
 
 shared-slice-read-b : tie.Need-shared-slice-read-b Inv-loop μ-loop
 shared-slice-read-b c =
-    let else1 = c .before .before in
+    let else1 : tie.Else1 Inv-loop μ-loop = search in
     omega (arith, groups-inside (turn-of else1))
 
 ask-requires : tie.Need-ask-requires Inv-loop μ-loop
 ask-requires c κs =
-    let else1 = c .before .before .before .before in
+    let else1 : tie.Else1 Inv-loop μ-loop = search in
     let at-loop = turn-of else1 .before in
     asking (start at-loop .pre .within .sized) (estimates-long at-loop)
 
 relax-requires : tie.Need-relax-requires Inv-loop μ-loop
 relax-requires c κs =
-    let after-ask = c .before .before .before .before in
+    let after-ask : tie.After-ask Inv-loop μ-loop = search in
     let after-put = after-put after-ask in
     let at-loop = in-loop after-put .before in
     let (_, (_, (_, (_, (_, (_, (_, (_, (_, (estimates-kept, _)))))))))) = after-ask .ask .kept in (
@@ -247,21 +246,21 @@ relax-requires c κs =
 
 choose-requires-2 : tie.Need-choose-requires-2 Inv-loop μ-loop
 choose-requires-2 c κs =
-    let after-relax = c .before .before .before in
+    let after-relax : tie.After-relax Inv-loop μ-loop = search in
     let in-loop = in-loop (after-put (after-ask after-relax)) in
     omega (arith, after-relax .relax .ensures .room .words, turn in-loop .node-in)
 
 loop-less-2 : tie.Need-loop-less-2 Inv-loop μ-loop
 loop-less-2 c =
-    let after-relax = c .before .before .before .before in
+    let after-relax : tie.After-relax Inv-loop μ-loop = search in
     omega (arith, turn (in-loop (after-put (after-ask after-relax))) .count-in)
 
 loop-again-2 : tie.Need-loop-again-2 Inv-loop μ-loop
 loop-again-2 c =
-    let after-relax = c .before .before .before .before in
+    let after-relax : tie.After-relax Inv-loop μ-loop = search in
     let after-ask = after-ask after-relax in
     let else1 = else1 after-ask in
-    let after-is-goal = else1 .before in
+    let after-is-goal : tie.After-is-goal Inv-loop μ-loop = search in
     let after-put = after-put after-ask in
     let in-loop = in-loop after-put in
     let from-is = after-time-of after-put .time-of .ensures in
@@ -273,7 +272,7 @@ loop-again-2 c =
 
 returns : tie.Need-returns Inv-loop μ-loop
 returns c =
-    let at-loop = c .before in
+    let at-loop : tie.At-loop Inv-loop μ-loop = search in
     let lends = start at-loop .pre in
     let blank = blank-of (lends .within .sized .n-high) (lends .fresh) refl (pairs-in (lends .within .sized) refl) in
     let begins = begins-first (lends .within .start-in) blank (after-ask-start at-loop .ask-start .ensures)
@@ -290,12 +289,10 @@ advance-spec =
     μ-loop
     ask-start-requires
     begin-requires
-    (λ c κs. search needs)
-    (λ c κs. search needs)
+    (λ c κs. search needs) (λ c. search needs) (λ c κs. search needs)
     choose-requires
     loop-holds
-    (λ c. search needs)
-    (λ c. search needs)
+    (λ c. search needs) (λ c. search needs) (λ c. search needs)
     slice-write-log
     add-c
     time-of-requires

@@ -20,12 +20,12 @@ loop-holds c = count-start (search needs)
 
 returns : tie.Need-returns Inv-loop μ-loop
 returns c =
-    let at-loop = c .before .before in
+    let at-loop : tie.At-loop Inv-loop μ-loop = search in
     (count-there (at-loop .loop .inv) (c .before .loop-test .taken) (eq-eqb _ _ (c .if1 .taken)), search needs)
 
 loop-again : tie.Need-loop-again Inv-loop μ-loop
 loop-again c =
-    let in-loop = c .before .before in
+    let in-loop : tie.In-loop Inv-loop μ-loop = search in
     let (back, inside) = c .step-back .ensures in
     count-turn (in-loop .before .loop .inv) (in-loop .loop-test .taken) (ne-eqb _ _ (c .before .if1 .left)) back inside
 
@@ -40,8 +40,6 @@ arcs-back-spec =
     μ-loop
     loop-holds
     returns
-    (λ c κs. search needs)
-    (λ c. search needs)
-    (λ c. search needs)
+    (λ c κs. search needs) (λ c. search needs) (λ c. search needs)
     loop-again
     returns-2)

@@ -20,8 +20,8 @@ loop-holds c = record { low = search needs; inside = search needs; long = refl; 
 
 loop-again : tie.Need-loop-again Inv-loop μ-loop
 loop-again c =
-    let after-via-of = c .before in
-    let at-loop = after-via-of .before .before in
+    let after-via-of : tie.After-via-of Inv-loop μ-loop = search in
+    let at-loop : tie.At-loop Inv-loop μ-loop = search in
     let (back, inside) = c .step-back .ensures in
     write-turn (at-loop .loop .inv) (omega arith) (omega arith) (after-via-of .via-of .ensures) back inside
 
@@ -35,12 +35,7 @@ write-back-spec =
     Inv-loop
     μ-loop
     loop-holds
-    (λ c. search needs)
-    (λ c. search needs)
-    (λ c κs. search needs)
-    (λ c. search needs)
-    (λ c. search needs)
-    (λ c κs. search needs)
+    (λ c. search needs) (λ c. search needs) (λ c κs. search needs) (λ c. search needs) (λ c. search needs) (λ c κs. search needs)
     (λ c. search needs)
     loop-again
     (λ c. search needs)

@@ -8,20 +8,18 @@ use Rattle.unit_c.proofs.card_read.Tie as tie
 
 returns : tie.Need-returns
 returns c =
-    let after-read = c .before .before .before in
+    let after-read : tie.After-read = search in
     read-told (ap readingIn (sym (c .before .n .given .1)) ∙ after-read .read .ensures)
 
 returns-2 : tie.Need-returns-2
 returns-2 c =
-    let after-read = c .before .before .before in
+    let after-read : tie.After-read = search in
     unread-told (ap readingIn (sym (c .before .q .given .1)) ∙ after-read .read .ensures)
 
 pub card-read-spec : {M : Type 1} → statement M
 card-read-spec =
     tie.close
     (tie.spec
-    (λ c κs. search needs)
-    (λ c. search needs)
-    (λ c. search needs)
+    (λ c κs. search needs) (λ c. search needs) (λ c. search needs)
     returns
     returns-2)

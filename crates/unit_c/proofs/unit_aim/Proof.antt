@@ -6,17 +6,13 @@ use Rattle.unit_c.proofs.unit_aim.Tie as tie
 
 returns : tie.Need-returns
 returns c =
-    let after-aim = c .before .before .before .before .before in
-    let after-header-of = after-aim .before .before .before in
+    let after-aim : tie.After-aim = search in
+    let after-header-of : tie.After-header-of = search in
     alone-told (after-aim .aim .result) (after-header-of .header-of .ensures) (c .answer-of .ensures) (after-aim .aim .ensures)
 
 pub unit-aim-spec : {M : Type 1} → statement M
 unit-aim-spec =
     tie.close
     (tie.spec
-    (λ c κs. search needs)
-    (λ c κs. search needs)
-    (λ c κs. search needs)
-    (λ c. search needs)
-    (λ c. search needs)
+    (λ c κs. search needs) (λ c κs. search needs) (λ c κs. search needs) (λ c. search needs) (λ c. search needs)
     returns)

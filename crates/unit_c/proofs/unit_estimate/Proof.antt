@@ -6,8 +6,8 @@ use Rattle.unit_c.proofs.unit_estimate.Tie as tie
 
 returns : tie.Need-returns
 returns c =
-    let after-estimate = c .before .before .before in
-    let after-header-of = after-estimate .before .before in
+    let after-estimate : tie.After-estimate = search in
+    let after-header-of : tie.After-header-of = search in
     alone-told (after-estimate .estimate .result) (after-header-of .header-of .ensures) (c .answer-of .ensures)
     (after-estimate .estimate .ensures)
 
@@ -15,8 +15,5 @@ pub unit-estimate-spec : {M : Type 1} → statement M
 unit-estimate-spec =
     tie.close
     (tie.spec
-    (λ c κs. search needs)
-    (λ c κs. search needs)
-    (λ c κs. search needs)
-    (λ c. search needs)
+    (λ c κs. search needs) (λ c κs. search needs) (λ c κs. search needs) (λ c. search needs)
     returns)

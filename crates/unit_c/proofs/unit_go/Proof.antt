@@ -6,19 +6,14 @@ use Rattle.unit_c.proofs.unit_go.Tie as tie
 
 returns : tie.Need-returns
 returns c =
-    let after-go = c .before .before .before .before .before .before .before .before .before in
-    let after-header-of = after-go .before .before .before .before .before in
+    let after-go : tie.After-go = search in
+    let after-header-of : tie.After-header-of = search in
     call-told (after-go .go .result) (after-header-of .header-of .ensures) (c .answer-of .ensures) (after-go .go .ensures)
 
 pub unit-go-spec : {M : Type 1} → statement M
 unit-go-spec =
     tie.close
     (tie.spec
-    (λ c κs. search needs)
-    (λ c κs. search needs)
-    (λ c κs. search needs)
-    (λ c. search needs)
-    (λ c. search needs)
-    (λ c. search needs)
+    (λ c κs. search needs) (λ c κs. search needs) (λ c κs. search needs) (λ c. search needs) (λ c. search needs) (λ c. search needs)
     (λ c. search needs)
     returns)

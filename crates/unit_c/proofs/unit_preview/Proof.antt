@@ -6,18 +6,15 @@ use Rattle.unit_c.proofs.unit_preview.Tie as tie
 
 returns : tie.Need-returns
 returns c =
-    let after-preview = c .before .before .before .before .before in
-    let after-header-of = after-preview .before .before .before in
+    let after-preview : tie.After-preview = search in
+    let after-of-word : tie.After-of-word = search in
+    let after-header-of : tie.After-header-of = search in
     preview-told (after-preview .preview .result) (after-header-of .header-of .ensures) (c .answer-of .ensures)
-    (after-preview .preview .ensures)
+    (after-of-word .of-word .ensures) (after-preview .preview .ensures)
 
 pub unit-preview-spec : {M : Type 1} → statement M
 unit-preview-spec =
     tie.close
     (tie.spec
-    (λ c κs. search needs)
-    (λ c κs. search needs)
-    (λ c κs. search needs)
-    (λ c. search needs)
-    (λ c. search needs)
+    (λ c κs. search needs) (λ c κs. search needs) (λ c κs. search needs) (λ c κs. search needs) (λ c. search needs) (λ c. search needs)
     returns)

@@ -6,20 +6,14 @@ use Rattle.unit_c.proofs.unit_stops.Tie as tie
 
 returns : tie.Need-returns
 returns c =
-    let after-stops = c .before .before .before .before .before .before .before .before .before .before .before in
-    let after-header-of = after-stops .before .before .before .before .before .before in
+    let after-stops : tie.After-stops = search in
+    let after-header-of : tie.After-header-of = search in
     stops-told (after-stops .stops .result) (after-header-of .header-of .ensures) (c .stopped-of .ensures) (after-stops .stops .ensures)
 
 pub unit-stops-spec : {M : Type 1} → statement M
 unit-stops-spec =
     tie.close
     (tie.spec
-    (λ c κs. search needs)
-    (λ c κs. search needs)
-    (λ c κs. search needs)
-    (λ c. search needs)
-    (λ c. search needs)
-    (λ c. search needs)
-    (λ c. search needs)
-    (λ c. search needs)
+    (λ c κs. search needs) (λ c κs. search needs) (λ c κs. search needs) (λ c. search needs) (λ c. search needs) (λ c. search needs)
+    (λ c. search needs) (λ c. search needs)
     returns)

@@ -7,12 +7,12 @@ use Rattle.unit_c.proofs.words_of.Tie as tie
 
 returns : tie.Need-returns
 returns c =
-    let start = c .before .before .before in
+    let start : tie.Start = search in
     ap (headerTo (start .args .h .sizes)) (sym (c .enum-told .given .1))
 
 returns-2 : tie.Need-returns-2
 returns-2 c =
-    let start = c .before .before .before .before in
+    let start : tie.Start = search in
     ap (headerTo (start .args .h .sizes)) (sym (c .before .target .given .1))
 
 pub words-of-spec : {M : Type 1} → statement M

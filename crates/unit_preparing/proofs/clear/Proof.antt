@@ -6,15 +6,15 @@ use Rattle.unit_preparing.proofs.clear.Tie as tie
 
 returns : tie.Need-returns
 returns c =
-    let after-fill4 = c .before .before in
-    let after-fill3 = after-fill4 .before .before .before .before in
-    let after-fill-times5 = after-fill3 .before .before .before .before in
-    let after-fill-times4 = after-fill-times5 .before .before .before .before in
-    let after-fill-times3 = after-fill-times4 .before .before .before .before in
-    let after-fill-times2 = after-fill-times3 .before .before .before .before in
-    let after-fill-times = after-fill-times2 .before .before .before .before in
-    let after-fill2 = after-fill-times .before .before .before .before in
-    let after-fill = after-fill2 .before .before .before .before in
+    let after-fill4 : tie.After-fill4 = search in
+    let after-fill3 : tie.After-fill3 = search in
+    let after-fill-times5 : tie.After-fill-times5 = search in
+    let after-fill-times4 : tie.After-fill-times4 = search in
+    let after-fill-times3 : tie.After-fill-times3 = search in
+    let after-fill-times2 : tie.After-fill-times2 = search in
+    let after-fill-times : tie.After-fill-times = search in
+    let after-fill2 : tie.After-fill2 = search in
+    let after-fill : tie.After-fill = search in
     alike-same (record {
       ranks = after-fill .fill .ensures;
       pairs = after-fill2 .fill2 .ensures;
@@ -31,22 +31,8 @@ pub clear-spec : {M : Type 1} → statement M
 clear-spec =
     tie.close
     (tie.spec
-    (λ c κs. search needs)
-    (λ c κs. search needs)
-    (λ c κs. search needs)
-    (λ c κs. search needs)
-    (λ c κs. search needs)
-    (λ c κs. search needs)
-    (λ c κs. search needs)
-    (λ c κs. search needs)
-    (λ c κs. search needs)
-    (λ c. search needs)
-    (λ c. search needs)
-    (λ c. search needs)
-    (λ c. search needs)
-    (λ c. search needs)
-    (λ c. search needs)
-    (λ c. search needs)
-    (λ c. search needs)
+    (λ c κs. search needs) (λ c κs. search needs) (λ c κs. search needs) (λ c κs. search needs) (λ c κs. search needs)
+    (λ c κs. search needs) (λ c κs. search needs) (λ c κs. search needs) (λ c κs. search needs) (λ c. search needs) (λ c. search needs)
+    (λ c. search needs) (λ c. search needs) (λ c. search needs) (λ c. search needs) (λ c. search needs) (λ c. search needs)
     (λ c. search needs)
     returns)

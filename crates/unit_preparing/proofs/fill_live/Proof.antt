@@ -14,7 +14,7 @@ abbrev μ-loop : tie.MeasureT-loop
 
 loop-again : tie.Need-loop-again Inv-loop μ-loop
 loop-again c =
-    let in-loop = c .before .before in
+    let in-loop : tie.In-loop Inv-loop μ-loop = search in
     filling-turn (in-loop .before .loop .inv) (in-loop .loop-test .taken) (c .before .base-of .ensures) (c .word .ensures)
 
 pub fill-live-spec : {M : Type 1} → statement M
@@ -24,12 +24,7 @@ fill-live-spec =
     Inv-loop
     μ-loop
     (λ c. filling-start)
-    (λ c κs. search needs)
-    (λ c κs. search needs)
-    (λ c. search needs)
-    (λ c. search needs)
-    (λ c. search needs)
-    (λ c. search needs)
+    (λ c κs. search needs) (λ c κs. search needs) (λ c. search needs) (λ c. search needs) (λ c. search needs) (λ c. search needs)
     loop-again
     (λ c. c .before .loop .inv .kept)
     (λ c. filling-end (c .before .loop .inv) (c .loop-test .left)))

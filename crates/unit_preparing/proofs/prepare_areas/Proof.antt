@@ -17,7 +17,7 @@ abbrev areas : tie.Start → Areas
 areas c = let a = c .args in held (a .ranks) (a .pairs) (a .times) (a .live) (a .down) (a .estimates) (a .elapsed) (a .leaving) (a .groups)
 
 abbrev start : tie.After-roads-of → tie.Start
-start c = c .before .before .before .before .before .before .before .before .before .before .before
+start c = search
 
 bodies : (c : tie.After-order-of) → let s = start (c .before) in
     Bodies (s .args .card .now) (s .args .s) (areas s) (c .before .roads-of .result .now) (c .order-of .result .now)
@@ -34,8 +34,8 @@ fill-ranks-requires c κs = let b = bodies (c .before) in ((_, sound b), order-l
 
 contract-requires : tie.Need-contract-requires
 contract-requires c κs =
-    let after-fill-ranks = c .before .before .before .before .before in
-    let after-order-of = after-fill-ranks .before .before in
+    let after-fill-ranks : tie.After-fill-ranks = search in
+    let after-order-of : tie.After-order-of = search in
     let b = bodies after-order-of in
     let ranks-are = after-fill-ranks .fill-ranks .ensures (after-order-of .before .roads-of .result .now) in
     let lengths = sized (b .accepts) in
@@ -44,30 +44,30 @@ contract-requires c κs =
 -- ---- once the pairs are contracted
 
 abbrev after-fill-ranks : tie.After-contract → tie.After-fill-ranks
-after-fill-ranks c = c .before .before .before .before .before .before
+after-fill-ranks c = search
 
 abbrev after-order-of : tie.After-contract → tie.After-order-of
-after-order-of c = after-fill-ranks c .before .before
+after-order-of c = search
 
 fill-live-requires : tie.Need-fill-live-requires
 fill-live-requires c κs =
-    let after-contract = c .before .before .before .before .before .before .before .before in
+    let after-contract : tie.After-contract = search in
     roads-long (bodies (after-order-of after-contract))
 
 group-roads-requires : tie.Need-group-roads-requires
 group-roads-requires c κs =
-    let after-fill-times = c .before .before .before .before .before .before .before .before .before .before .before .before in
-    let after-count = after-fill-times .before .before .before .before .before .before .before in
-    let after-contract = after-count .before .before .before .before .before .before in
+    let after-fill-times : tie.After-fill-times = search in
+    let after-count : tie.After-count = search in
+    let after-contract : tie.After-contract = search in
     groups-asked (bodies (after-order-of after-contract))
 
 -- they do not fit
 returns : tie.Need-returns
 returns c =
-    let after-live = c .before .before .before .before .before .before .before .before .before .before .before in
-    let after-clear = after-live .before .before .before .before .before .before .before in
-    let after-enum-told = after-clear .before .before .before .before .before .before .before .before .before .before in
-    let after-contract = after-enum-told .before .before .before .before .before .before in
+    let after-live : tie.After-live = search in
+    let after-clear : tie.After-clear = search in
+    let after-enum-told : tie.After-enum-told = search in
+    let after-contract : tie.After-contract = search in
     let (_, (ranks-kept, _)) = after-fill-ranks after-contract .fill-ranks .kept in
     let (_, (_, (_, (pairs-kept, (times-kept, _))))) = after-contract .contract .kept in
     let lengths-kept = alike-same (record {
@@ -87,13 +87,13 @@ returns c =
 -- they fit
 returns-2 : tie.Need-returns-2
 returns-2 c =
-    let after-group-roads = c .before .before .before .before in
-    let after-fill-times3 = after-group-roads .before .before .before .before .before in
-    let after-fill-times2 = after-fill-times3 .before .before .before .before in
-    let after-fill-times = after-fill-times2 .before .before .before .before in
-    let after-fill-live = after-fill-times .before .before .before .before in
-    let after-count = after-fill-live .before .before .before in
-    let after-contract = after-count .before .before .before .before .before .before in
+    let after-group-roads : tie.After-group-roads = search in
+    let after-fill-times3 : tie.After-fill-times3 = search in
+    let after-fill-times2 : tie.After-fill-times2 = search in
+    let after-fill-times : tie.After-fill-times = search in
+    let after-fill-live : tie.After-fill-live = search in
+    let after-count : tie.After-count = search in
+    let after-contract : tie.After-contract = search in
     let after-roads-of = after-order-of after-contract .before in
     let b = bodies (after-order-of after-contract) in
     let ranks-are = after-fill-ranks after-contract .fill-ranks .ensures (after-roads-of .roads-of .result .now) in
@@ -108,35 +108,16 @@ pub prepare-areas-spec : {M : Type 1} → statement M
 prepare-areas-spec =
     tie.close
     (tie.spec
-    (λ c κs. search needs)
-    (λ c κs. search needs)
+    (λ c κs. search needs) (λ c κs. search needs)
     fill-ranks-requires
     contract-requires
-    (λ c. search needs)
-    (λ c κs. search needs)
-    (λ c. search needs)
+    (λ c. search needs) (λ c κs. search needs) (λ c. search needs)
     fill-live-requires
-    (λ c κs. search needs)
-    (λ c κs. search needs)
-    (λ c κs. search needs)
+    (λ c κs. search needs) (λ c κs. search needs) (λ c κs. search needs)
     group-roads-requires
-    (λ c. search needs)
-    (λ c. search needs)
-    (λ c. search needs)
-    (λ c. search needs)
-    (λ c. search needs)
-    (λ c. search needs)
-    (λ c. search needs)
-    (λ c. search needs)
-    (λ c. search needs)
+    (λ c. search needs) (λ c. search needs) (λ c. search needs) (λ c. search needs) (λ c. search needs) (λ c. search needs)
+    (λ c. search needs) (λ c. search needs) (λ c. search needs)
     returns
-    (λ c. search needs)
-    (λ c. search needs)
-    (λ c. search needs)
-    (λ c. search needs)
-    (λ c. search needs)
-    (λ c. search needs)
-    (λ c. search needs)
-    (λ c. search needs)
-    (λ c. search needs)
+    (λ c. search needs) (λ c. search needs) (λ c. search needs) (λ c. search needs) (λ c. search needs) (λ c. search needs)
+    (λ c. search needs) (λ c. search needs) (λ c. search needs)
     returns-2)

@@ -8,7 +8,7 @@ use Rattle.unit_questions.proofs.lengths_fit.Tie as tie
 returns : tie.Need-returns
 unfolding lengthsFit
 returns c =
-    let after-room-fits = c .before .before .before .before .before .before in
+    let after-room-fits : tie.After-room-fits = search in
     rw (after-room-fits .room-fits .ensures, add-one)
 
 pub lengths-fit-spec : {M : Type 1} → statement M

@@ -5,10 +5,10 @@ use Rattle.unit_script.proofs.end_at.Statement.{statement}
 use Rattle.unit_script.proofs.end_at.Tie as tie
 
 abbrev start : tie.After-words-of → tie.Start
-start c = c .before .before .before .before
+start c = search
 
 abbrev after-word-at : tie.After-words-of → tie.After-word-at
-after-word-at c = c .before .before
+after-word-at c = search
 
 returns : tie.Need-returns
 returns c =
@@ -28,10 +28,6 @@ pub end-at-spec : {M : Type 1} → statement M
 end-at-spec =
     tie.close
     (tie.spec
-    (λ c κs. search needs)
-    (λ c κs. search needs)
-    (λ c κs. search needs)
-    (λ c. search needs)
-    (λ c. search needs)
+    (λ c κs. search needs) (λ c κs. search needs) (λ c κs. search needs) (λ c. search needs) (λ c. search needs)
     returns
     returns-2)

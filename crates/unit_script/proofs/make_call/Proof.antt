@@ -4,8 +4,8 @@ use mathlib.Core.Path.{sym}
 use lib.Seq.{length-take-le}
 use Rattle.model.specs.Types.{Answered}
 use Rattle.unit.specs.Shape.{answeredIn, headerIn}
-use Rattle.unit_stops.specs.declared.Stopped.{Stopped}
-use Rattle.unit_stops.specs.Shape.{stoppingIn}
+use Rattle.unit.specs.declared.Stopped.{Stopped}
+use Rattle.call_stops.specs.Shape.{stoppingIn}
 use Rattle.unit_script.proofs.Scripts.{lent-made, preview-made}
 use borrow.Author.Needs.{needs}
 use Rattle.unit_script.proofs.make_call.Statement.{statement}
@@ -14,27 +14,27 @@ use Rattle.unit_script.proofs.make_call.Tie as tie
 -- ---- where it is told which call it is
 
 abbrev start : tie.After-shared-slice-known7 → tie.Start
-start c = c .before .before .before .before .before .before .before .before .before .before .before .before .before .before
+start c = search
 
 abbrev after-asked : tie.After-call-arg5 → tie.After-asked
-after-asked c = c .before .before .before .before .before .before
+after-asked c = search
 
 abbrev after-asked2 : tie.After-preview-arg5 → tie.After-asked2
-after-asked2 c = c .before .before .before .before .before .before
+after-asked2 c = search
 
 abbrev after-asked3 : tie.After-stops-arg5 → tie.After-asked3
-after-asked3 c = c .before .before .before .before .before .before
+after-asked3 c = search
 
 -- ---- and where it was made
 
 abbrev after-call : tie.After-of-answered → tie.After-call
-after-call c = c .before .before .before .before .before .before .before .before .before .before .before .before .before
+after-call c = search
 
 abbrev after-preview : tie.After-of-answered2 → tie.After-preview
-after-preview c = c .before .before .before .before .before
+after-preview c = search
 
 abbrev after-stops : tie.After-slice-known20 → tie.After-stops
-after-stops c = c .before .before .before .before .before .before .before .before .before .before
+after-stops c = search
 
 -- ---- one of the four calls
 
@@ -110,40 +110,20 @@ pub make-call-spec : {M : Type 1} → statement M
 make-call-spec =
     tie.close
     (tie.spec
-    (λ c. search needs)
-    (λ c. search needs)
+    (λ c. search needs) (λ c. search needs)
     slice-aggregate-call
     (λ c. search needs)
     slice-aggregate-call-2
-    (λ c κs. search needs)
-    (λ c κs. search needs)
-    (λ c. search needs)
-    (λ c κs. search needs)
-    (λ c κs. search needs)
-    (λ c. search needs)
+    (λ c κs. search needs) (λ c κs. search needs) (λ c. search needs) (λ c κs. search needs) (λ c κs. search needs) (λ c. search needs)
     (λ c. search needs)
     slice-aggregate-stops
     (λ c. search needs)
     slice-aggregate-stops-2
     (λ c κs. search needs)
     of-stopped-requires
-    (λ c. search needs)
-    (λ c. search needs)
-    (λ c. search needs)
-    (λ c. search needs)
-    (λ c. search needs)
-    (λ c. search needs)
+    (λ c. search needs) (λ c. search needs) (λ c. search needs) (λ c. search needs) (λ c. search needs) (λ c. search needs)
     returns
-    (λ c. search needs)
-    (λ c. search needs)
-    (λ c. search needs)
-    (λ c. search needs)
-    (λ c. search needs)
+    (λ c. search needs) (λ c. search needs) (λ c. search needs) (λ c. search needs) (λ c. search needs)
     returns-2
-    (λ c. search needs)
-    (λ c. search needs)
-    (λ c. search needs)
-    (λ c. search needs)
-    (λ c. search needs)
-    (λ c. search needs)
+    (λ c. search needs) (λ c. search needs) (λ c. search needs) (λ c. search needs) (λ c. search needs) (λ c. search needs)
     returns-3)

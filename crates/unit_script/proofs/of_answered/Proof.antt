@@ -10,7 +10,7 @@ use Rattle.unit_script.proofs.of_answered.Tie as tie
 
 returns : tie.Need-returns
 returns c =
-    let after-answer = c .before .before .before .before .before in
+    let after-answer : tie.After-answer = search in
     let (same, words) = c .four .ensures in
     (same, answered-words words (ap answerIn (after-answer .answer .given .1)) refl refl)
 
@@ -21,8 +21,8 @@ returns-2 c =
 
 returns-3 : tie.Need-returns-3
 returns-3 c =
-    let after-word = c .before in
-    let after-answer2 = after-word .before .before in
+    let after-word : tie.After-word = search in
+    let after-answer2 : tie.After-answer2 = search in
     let (same, words) = c .four3 .ensures in (
       same,
       answered-words words (ap answerIn (after-answer2 .answer2 .given .1))
@@ -36,10 +36,10 @@ returns-4 c =
 
 returns-5 : tie.Need-returns-5
 returns-5 c =
-    let after-change-word = c .before in
-    let after-word3 = after-change-word .before in
-    let after-word2 = after-word3 .before in
-    let after-answer4 = after-word2 .before .before in
+    let after-change-word : tie.After-change-word = search in
+    let after-word3 : tie.After-word3 = search in
+    let after-word2 : tie.After-word2 = search in
+    let after-answer4 : tie.After-answer4 = search in
     let (same, words) = c .four5 .ensures in (
       same,
       previewed-words words (ap answerIn (after-answer4 .answer4 .given .1)) (after-word2 .word2 .ensures) (after-word3 .word3 .ensures)
@@ -50,24 +50,9 @@ pub of-answered-spec : {M : Type 1} → statement M
 of-answered-spec =
     tie.close
     (tie.spec
-    (λ c. search needs)
-    (λ c. search needs)
-    (λ c. search needs)
-    (λ c. search needs)
-    (λ c κs. search needs)
-    (λ c. search needs)
-    (λ c κs. search needs)
-    (λ c. search needs)
-    (λ c κs. search needs)
-    (λ c κs. search needs)
-    (λ c. search needs)
-    (λ c. search needs)
-    (λ c. search needs)
-    (λ c κs. search needs)
-    (λ c. search needs)
-    (λ c κs. search needs)
-    (λ c κs. search needs)
-    (λ c κs. search needs)
+    (λ c. search needs) (λ c. search needs) (λ c. search needs) (λ c. search needs) (λ c κs. search needs) (λ c. search needs)
+    (λ c κs. search needs) (λ c. search needs) (λ c κs. search needs) (λ c κs. search needs) (λ c. search needs) (λ c. search needs)
+    (λ c. search needs) (λ c κs. search needs) (λ c. search needs) (λ c κs. search needs) (λ c κs. search needs) (λ c κs. search needs)
     (λ c κs. search needs)
     returns
     returns-2

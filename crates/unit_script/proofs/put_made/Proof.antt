@@ -6,9 +6,9 @@ use Rattle.unit_script.proofs.put_made.Tie as tie
 
 returns : tie.Need-returns
 returns c =
-    let after-put-legs = c .before .before in
-    let after-put-four = after-put-legs .before .before .before .before .before in
-    let start = after-put-four .before .before .before in
+    let after-put-legs : tie.After-put-legs = search in
+    let after-put-four : tie.After-put-four = search in
+    let start : tie.Start = search in
     made-put (start .args .out .now) (start .args .k) (start .args .m) (start .pre) (after-put-four .put-four .ensures)
     (after-put-legs .put-legs .ensures)
 

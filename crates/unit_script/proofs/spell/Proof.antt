@@ -13,47 +13,47 @@ abbrev beside : tie.Start → (w : ℕ) → Lending
 beside c w = record { route = c .args .route; log = c .args .log; work = w }
 
 abbrev start : tie.Else3 → tie.Start
-start c = c .before .before .before
+start c = search
 
 -- what a go and a list of stops are lent is known
 abbrev after-at-most : tie.After-at-most2 → tie.After-at-most
-after-at-most c = c .before
+after-at-most c = search
 
 abbrev else4 : tie.After-at-most2 → tie.Else4
-else4 c = after-at-most c .before
+else4 c = search
 
 returns : tie.Need-returns
 returns c w stops =
-    let then1 = c .before .before in
-    let start = then1 .before in
+    let then1 : tie.Then1 = search in
+    let start : tie.Start = search in
     let a = start .args in
     c .lending .ensures w stops
     ∙ spells-set (a .one) (a .two) (a .three) (a .four) (a .five) stops (beside start w) (then1 .if1 .taken) (c .before .time-of .ensures)
 
 returns-2 : tie.Need-returns-2
 returns-2 c w stops =
-    let then2 = c .before in
-    let start = then2 .before .before in
+    let then2 : tie.Then2 = search in
+    let start : tie.Start = search in
     let a = start .args in
     c .lending2 .ensures w stops ∙ spells (a .one) (a .two) (a .three) (a .four) (a .five) stops (beside start w) (then2 .if2 .taken)
 
 returns-3 : tie.Need-returns-3
 returns-3 c w stops =
-    let else1 = c .before .before .before in
-    let start = else1 .before in
+    let else1 : tie.Else1 = search in
+    let start : tie.Start = search in
     let a = start .args in
     c .lending3 .ensures w stops ∙ spells (a .one) (a .two) (a .three) (a .four) (a .five) stops (beside start w) (c .before .if3 .taken)
 
 returns-4 : tie.Need-returns-4
 returns-4 c w stops =
-    let then4 = c .before in
+    let then4 : tie.Then4 = search in
     let start = start (then4 .before) in
     let a = start .args in
     spells-preview (a .one) (a .two) (a .three) (a .four) (a .five) stops (beside start w) (then4 .if4 .taken) (c .time-of2 .ensures)
 
 returns-5 : tie.Need-returns-5
 returns-5 c w stops =
-    let then5 = c .before in
+    let then5 : tie.Then5 = search in
     let lent = then5 .before in
     let start = start (else4 lent .before) in
     let a = start .args in
@@ -65,7 +65,7 @@ returns-6 : tie.Need-returns-6
 returns-6 c w stops =
     let lent = c .before in
     let else3 = else4 lent .before in
-    let else2 = else3 .before in
+    let else2 : tie.Else2 = search in
     let start = start else3 in
     let a = start .args in
     spells-stops (a .one) (a .two) (a .three) (a .four) (a .five) stops (beside start w) (after-at-most lent .at-most .ensures)
@@ -75,8 +75,7 @@ pub spell-spec : {M : Type 1} → statement M
 spell-spec =
     tie.close
     (tie.spec
-    (λ c κs. search needs)
-    (λ c κs. search needs)
+    (λ c κs. search needs) (λ c κs. search needs)
     returns
     (λ c κs. search needs)
     returns-2
@@ -84,8 +83,6 @@ spell-spec =
     returns-3
     (λ c κs. search needs)
     returns-4
-    (λ c κs. search needs)
-    (λ c κs. search needs)
-    (λ c κs. search needs)
+    (λ c κs. search needs) (λ c κs. search needs) (λ c κs. search needs)
     returns-5
     returns-6)

@@ -15,7 +15,7 @@ use Rattle.unit_switch_on.proofs.ask.Tie as tie
 -- ---- what the reader said of the card
 
 abbrev card : tie.After-read → List ℕ
-card c = let start = c .before .before in start .args .card .now
+card c = let start : tie.Start = search in start .args .card .now
 
 said : (c : tie.After-read) {x : Reading} → c .read .result ≡ x → readingIn x ≡ readCard (card c)
 said c e = ap readingIn (sym e) ∙ c .read .ensures
@@ -24,27 +24,27 @@ said c e = ap readingIn (sym e) ∙ c .read .ensures
 
 cast-size : tie.Need-cast-size
 cast-size c =
-    let after-n = c .before in
-    let after-read = after-n .before .before in
+    let after-n : tie.After-n = search in
+    let after-read : tie.After-read = search in
     omega (arith, word-long (card after-read) (said after-read (after-n .n .given .1)))
 
 -- ---- the answers
 
 returns : tie.Need-returns
 returns c a e =
-    let after-read = c .before .before .before in
+    let after-read : tie.After-read = search in
     asked-unread (card after-read) a (said after-read (c .before .q .given .1))
 
 returns-2 : tie.Need-returns-2
 returns-2 c a e =
-    let after-n = c .before .before .before in
-    let after-read = after-n .before .before in
+    let after-n : tie.After-n = search in
+    let after-read : tie.After-read = search in
     asked-passes (card after-read) a (said after-read (after-n .n .given .1)) e (c .before .lengths-fit .ensures) (c .if1 .taken)
 
 returns-3 : tie.Need-returns-3
 returns-3 c a e =
-    let after-n = c .before .before .before in
-    let after-read = after-n .before .before in
+    let after-n : tie.After-n = search in
+    let after-read : tie.After-read = search in
     asked-7 (card after-read) a (said after-read (after-n .n .given .1)) e (c .before .lengths-fit .ensures) (c .if1 .left)
 
 pub ask-spec : {M : Type 1} → statement M

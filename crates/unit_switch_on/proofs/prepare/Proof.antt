@@ -16,10 +16,13 @@ abbrev areas : tie.Start → Areas
 areas c = let a = c .args in held (a .ranks) (a .pairs) (a .times) (a .live) (a .down) (a .estimates) (a .elapsed) (a .leaving) (a .groups)
 
 abbrev at-hand : tie.After-ask → tie.After-slice-known8
-at-hand c = c .before .before .before .before .before .before .before .before .before .before .before .before
+at-hand c = search
 
 abbrev start : tie.After-ask → tie.Start
-start c = at-hand c .before .before .before .before .before .before .before .before .before
+start c = search
+
+abbrev asked : tie.After-prepare-areas → tie.After-ask
+asked c = search
 
 said : (c : tie.After-ask) {x : Asked} → c .ask .result ≡ x → let s = start c in Says (s .args .card .now) (areas s) x
 said c e =
@@ -30,22 +33,21 @@ said c e =
 
 returns : tie.Need-returns
 returns c =
-    let after-q = c .before .before in
-    let after-ask = after-q .before .before in
+    let after-q : tie.After-q = search in
+    let after-ask : tie.After-ask = search in
     let s = start after-ask in
     prepare-refused (s .args .card .now) (areas s) (said after-ask (after-q .q .given .1)) (c .unprepared .ensures)
 
 prepare-areas-requires : tie.Need-prepare-areas-requires
 prepare-areas-requires c κs =
-    let after-s = c .before .before .before .before .before .before .before .before .before .before in
+    let after-s : tie.After-s = search in
     said (after-s .before .before) (after-s .s .given .1)
 
 returns-2 : tie.Need-returns-2
 returns-2 c =
-    let after-live = c .before .before .before .before .before .before .before .before .before .before .before .before in
-    let after-prepare-areas = after-live .before .before .before .before .before .before .before in
-    let after-ask = after-prepare-areas
-    .before .before .before .before .before .before .before .before .before .before .before .before .before in
+    let after-live : tie.After-live = search in
+    let after-prepare-areas : tie.After-prepare-areas = search in
+    let after-ask = asked after-prepare-areas in
     let s = start after-ask in
     prepare-made (s .args .card .now) (areas s) (c .prepared .ensures) (after-prepare-areas .prepare-areas .ensures)
 
@@ -53,30 +55,11 @@ pub prepare-spec : {M : Type 1} → statement M
 prepare-spec =
     tie.close
     (tie.spec
-    (λ c κs. search needs)
-    (λ c κs. search needs)
-    (λ c. search needs)
-    (λ c κs. search needs)
-    (λ c. search needs)
+    (λ c κs. search needs) (λ c κs. search needs) (λ c. search needs) (λ c κs. search needs) (λ c. search needs)
     prepare-areas-requires
-    (λ c κs. search needs)
-    (λ c. search needs)
-    (λ c. search needs)
-    (λ c. search needs)
-    (λ c. search needs)
-    (λ c. search needs)
-    (λ c. search needs)
-    (λ c. search needs)
-    (λ c. search needs)
-    (λ c. search needs)
+    (λ c κs. search needs) (λ c. search needs) (λ c. search needs) (λ c. search needs) (λ c. search needs) (λ c. search needs)
+    (λ c. search needs) (λ c. search needs) (λ c. search needs) (λ c. search needs)
     returns
-    (λ c. search needs)
-    (λ c. search needs)
-    (λ c. search needs)
-    (λ c. search needs)
-    (λ c. search needs)
-    (λ c. search needs)
-    (λ c. search needs)
-    (λ c. search needs)
-    (λ c. search needs)
+    (λ c. search needs) (λ c. search needs) (λ c. search needs) (λ c. search needs) (λ c. search needs) (λ c. search needs)
+    (λ c. search needs) (λ c. search needs) (λ c. search needs)
     returns-2)

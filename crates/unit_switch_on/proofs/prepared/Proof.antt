@@ -7,12 +7,12 @@ use Rattle.unit_switch_on.proofs.prepared.Tie as tie
 
 returns : tie.Need-returns
 returns c =
-    let start = c .before .before .before in
+    let start : tie.Start = search in
     c .unprepared .ensures ∙ ap (handedBack (start .args .s)) (sym (c .before .enum-told .given .1))
 
 returns-2 : tie.Need-returns-2
 returns-2 c =
-    let start = c .before .before .before in
+    let start : tie.Start = search in
     ap (handedBack (start .args .s)) (sym (c .before .z .given .1))
 
 pub prepared-spec : {M : Type 1} → statement M

@@ -7,18 +7,19 @@ use Rattle.network.proofs.Time.plus.Tie as tie
 
 returns : tie.Need-returns
 returns c =
-    let args = c .before .before .args in
+    let start : tie.Start = search in
+    let args = start .args in
     sum-lost (args .self .0) (args .other .0) (omega arith) (omega arith) (omega arith)
 
 returns-2 : tie.Need-returns-2
 returns-2 c =
-    let start = c .before .before .before .before .before in
+    let start : tie.Start = search in
     let args = start .args in
     sum-lost (args .self .0) (args .other .0) (omega arith) (omega arith) (omega arith)
 
 returns-3 : tie.Need-returns-3
 returns-3 c =
-    let start = c .before .before .before .before .before .before .before in
+    let start : tie.Start = search in
     let args = start .args in
     sum-fits (args .self .0) (args .other .0) (omega arith) (omega arith)
 

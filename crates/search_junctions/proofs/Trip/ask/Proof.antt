@@ -20,21 +20,21 @@ abbrev μ-loop : tie.MeasureT-loop
 
 ask-head-requires : tie.Need-ask-head-requires Inv-loop μ-loop
 ask-head-requires c κs =
-    let then1 = c .before in
-    let at-loop = then1 .before .before .before in
-    let start = at-loop .before .before .before .before .before .before .before .before .before .before .before in
+    let then1 : tie.Then1 Inv-loop μ-loop = search in
+    let at-loop : tie.At-loop Inv-loop μ-loop = search in
+    let start : tie.Start Inv-loop μ-loop = search in
     (then1 .if1 .taken, estimates-kept (start .pre) (at-loop .loop .inv .long))
 
 loop-again : tie.Need-loop-again Inv-loop μ-loop
 loop-again c =
-    let after-ask-head = c .before .before in
-    let in-loop = after-ask-head .before .before .before .before in
+    let after-ask-head : tie.After-ask-head Inv-loop μ-loop = search in
+    let in-loop : tie.In-loop Inv-loop μ-loop = search in
     let (_, (_, (_, (_, (_, (_, (_, (_, (_, (estimates-kept, _)))))))))) = after-ask-head .ask-head .kept in
     asking-turn (in-loop .loop-test .taken) (in-loop .before .loop .inv) estimates-kept (after-ask-head .ask-head .ensures)
 
 loop-again-2 : tie.Need-loop-again-2 Inv-loop μ-loop
 loop-again-2 c =
-    let in-loop = c .before .before in
+    let in-loop : tie.In-loop Inv-loop μ-loop = search in
     asking-pass (in-loop .loop-test .taken) (in-loop .before .loop .inv) (c .if1 .left)
 
 returns : tie.Need-returns Inv-loop μ-loop
@@ -47,9 +47,7 @@ ask-spec =
     Inv-loop
     μ-loop
     (λ c. asking-start)
-    (λ c. search needs)
-    (λ c. search needs)
-    (λ c. search needs)
+    (λ c. search needs) (λ c. search needs) (λ c. search needs)
     ask-head-requires
     (λ c. search needs)
     loop-again

@@ -18,31 +18,31 @@ abbrev μ-loop : tie.MeasureT-loop
 μ-loop trip roads access live estimates room₀ group from m j₀ room j = length group - j
 
 abbrev start : tie.At-loop Inv-loop μ-loop → tie.Start Inv-loop μ-loop
-start c = c .before .before .before .before .before .before .before
+start c = search
 
 loop-holds : tie.Need-loop-holds Inv-loop μ-loop
 loop-holds c =
-    let start = c .before .before .before .before .before .before in
+    let start : tie.Start Inv-loop μ-loop = search in
     let (_, room) = start .pre in
     relaxing-start room
 
 relax-road-requires : tie.Need-relax-road-requires Inv-loop μ-loop
 relax-road-requires c κs =
-    let then1 = c .before in
-    let at-loop = then1 .before .before .before in
+    let then1 : tie.Then1 Inv-loop μ-loop = search in
+    let at-loop : tie.At-loop Inv-loop μ-loop = search in
     let (read, _) = start at-loop .pre in
     (then1 .if1 .taken, read, at-loop .loop .inv .room)
 
 loop-again : tie.Need-loop-again Inv-loop μ-loop
 loop-again c =
-    let after-relax-road = c .before .before in
-    let in-loop = after-relax-road .before .before .before .before in
+    let after-relax-road : tie.After-relax-road Inv-loop μ-loop = search in
+    let in-loop : tie.In-loop Inv-loop μ-loop = search in
     let (_, (_, (_, (_, (_, (room-kept, _)))))) = after-relax-road .relax-road .kept in
     relaxing-turn (in-loop .loop-test .taken) (in-loop .before .loop .inv) room-kept (after-relax-road .relax-road .ensures)
 
 loop-again-2 : tie.Need-loop-again-2 Inv-loop μ-loop
 loop-again-2 c =
-    let in-loop = c .before .before in
+    let in-loop : tie.In-loop Inv-loop μ-loop = search in
     relaxing-pass (in-loop .loop-test .taken) (in-loop .before .loop .inv) (c .if1 .left)
 
 returns : tie.Need-returns Inv-loop μ-loop
@@ -55,9 +55,7 @@ relax-spec =
     Inv-loop
     μ-loop
     loop-holds
-    (λ c. search needs)
-    (λ c. search needs)
-    (λ c. search needs)
+    (λ c. search needs) (λ c. search needs) (λ c. search needs)
     relax-road-requires
     (λ c. search needs)
     loop-again

@@ -5,7 +5,7 @@ use Rattle.search_junctions.proofs.Trip.time_of.Statement.{statement}
 use Rattle.search_junctions.proofs.Trip.time_of.Tie as tie
 
 abbrev start : tie.After-admits → tie.Start
-start c = c .before .before .before
+start c = search
 
 -- ---- the answers
 
@@ -16,15 +16,15 @@ time-of-requires c κs =
 
 returns : tie.Need-returns
 returns c =
-    let then1 = c .before in
-    let after-admits = then1 .before in
+    let then1 : tie.Then1 = search in
+    let after-admits : tie.After-admits = search in
     let start = start after-admits in
     met-let-in (start .args .self) (start .args .access .now) (start .args .live .now) (start .args .i) (start .pre)
     (after-admits .admits .ensures) (then1 .if1 .taken) (c .time-of .ensures)
 
 returns-2 : tie.Need-returns-2
 returns-2 c =
-    let after-admits = c .before in
+    let after-admits : tie.After-admits = search in
     let start = start after-admits in
     met-barred (start .args .self) (start .args .access .now) (start .args .live .now) (start .args .i) (start .pre)
     (after-admits .admits .ensures) (c .if1 .left)

@@ -5,31 +5,31 @@ use Rattle.search_junctions.proofs.View.time_of.Statement.{statement}
 use Rattle.search_junctions.proofs.View.time_of.Tie as tie
 
 abbrev start : tie.After-of-word → tie.Start
-start c = c .before .before .before
+start c = search
 
 -- ---- the answers
 
 shared-slice-read-of-word : tie.Need-shared-slice-read-of-word
 shared-slice-read-of-word c =
-    let start = c .before .before in
+    let start : tie.Start = search in
     seen-in (start .args .live .now) (start .args .i) (start .args .self) (start .pre)
 
 returns : tie.Need-returns
 returns c =
-    let after-of-word = c .before .before in
+    let after-of-word : tie.After-of-word = search in
     let start = start after-of-word in
     seen-live (start .args .live .now) (start .args .i) (c .enum-told .given .1) (after-of-word .of-word .ensures)
 
 returns-2 : tie.Need-returns-2
 returns-2 c =
-    let after-self = c .before .before in
+    let after-self : tie.After-self = search in
     let start = start (after-self .before .before) in
     seen-set (start .args .live .now) (start .args .i) (after-self .self .given .1) (c .if1 .taken) (start .pre)
 
 returns-3 : tie.Need-returns-3
 returns-3 c =
-    let after-self = c .before .before in
-    let after-of-word = after-self .before .before in
+    let after-self : tie.After-self = search in
+    let after-of-word : tie.After-of-word = search in
     let start = start after-of-word in
     seen-other (start .args .live .now) (start .args .i) (after-self .self .given .1) (c .if1 .left) (after-of-word .of-word .ensures)
 
@@ -39,9 +39,7 @@ time-of-spec =
     (tie.spec
     (λ c. search needs)
     shared-slice-read-of-word
-    (λ c κs. search needs)
-    (λ c. search needs)
-    (λ c. search needs)
+    (λ c κs. search needs) (λ c. search needs) (λ c. search needs)
     returns
     returns-2
     returns-3)

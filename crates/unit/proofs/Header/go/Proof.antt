@@ -1,112 +1,21 @@
--- A refusal leaves everything as it was (`trip-refused`); otherwise answer and areas are the search's (`go-handed`).
-use mathlib.Core.Path.{_∙_, _≡_, ap}
-use mathlib.Core.List.{List}
-use Prim.Native.Nat.{ℕ}
+-- What `call_go::go` promises, handed on.
 use borrow.Author.Needs.{needs}
-use Rattle.model.specs.Types.{Header}
-use Rattle.model.specs.Areas.{Areas, Each, areasOf, lengths}
-use Rattle.model.specs.State.{Lent}
-use Rattle.model.specs.Calls.{Go}
-use Rattle.model.specs.Contracts.{baseOn}
-use Rattle.network.specs.Refusals.{verdictIn}
-use Rattle.unit_questions.specs.Lending.{lentOf}
-use Rattle.unit.specs.Shape.{headerIn}
-use Rattle.unit.proofs.Trips.{TripPassed, met-length, trip-passed, trip-refused, tripVerdict, within}
-use Rattle.unit.proofs.Going.{go-handed, go-room, go-trips}
+use Rattle.unit.proofs.Handed.{met-by}
 use Rattle.unit.proofs.Header.go.Statement.{statement}
 use Rattle.unit.proofs.Header.go.Tie as tie
 
--- ---- the call: card and header, the unit's areas and the two that it is lent
-
-abbrev card : tie.Start → List ℕ
-card s = s .args .card .now
-
-abbrev header : tie.Start → Header
-header s = headerIn (s .args .self)
-
-abbrev areas : tie.Start → Areas
-areas s =
-    let a = s .args in
-    areasOf (a .ranks .now) (a .pairs .now) (a .times .now) (a .live .now) (a .down .now) (a .estimates .now) (a .elapsed .now)
-    (a .leaving .now) (a .groups .now)
-
-abbrev lent : tie.Start → Lent
-lent s = lentOf (s .args .route .now) (s .args .log .now)
-
--- ---- what the questions said
-
-abbrev start : tie.After-go-asked → tie.Start
-start c = c .before .before .before .before .before .before .before .before .before .before .before .before .before .before .before .before
-
-said : (c : tie.After-go-asked) → let s = start c in
-    verdictIn (c .go-asked .result) ≡ tripVerdict (card s) (header s) (lengths (areas s)) (Go (s .args .class) (s .args .start .0)) (lent s)
-said c =
-    let s = start c in
-    c .go-asked .ensures (baseOn (card s))
-    ∙ ap (λ (l : Each ℕ). tripVerdict (card s) (header s) l (Go (s .args .class) (s .args .start .0)) (lent s))
-    (c .before .lengths-of .ensures)
-
--- none refuses
-passed : (c : tie.After-enum-told) → let s = start (c .before .before) in
-    TripPassed (card s) (s .args .self) (areas s) (Go (s .args .class) (s .args .start .0)) (lent s) (s .args .start .0)
-passed c = trip-passed go-trips (c .enum-told .given .1) (said (c .before .before))
-
--- ---- the answers
+abbrev start : tie.After-go → tie.Start
+start c = search
 
 returns : tie.Need-returns
 returns c =
-    let after-q = c .before .before in
-    let after-go-asked = after-q .before .before in
-    trip-refused go-trips (after-q .q .given .1) (said after-go-asked) (c .answered .ensures)
-
-search-requires : tie.Need-search-requires
-search-requires c κs =
-    let after-access-of = c .before .before .before .before in
-    let after-order-of = after-access-of .before in
-    let after-roads-of = after-order-of .before in
-    let after-aimed-at = after-roads-of .before in
-    let after-enum-told = after-aimed-at .before .before in
-    let a = start (after-enum-told .before .before) .args in
-    let p = passed after-enum-told in
-    let room = go-room p in record {
-      within = within p (after-aimed-at .aimed-at .ensures) (after-roads-of .roads-of .ensures) (after-order-of .order-of .ensures)
-          (met-length (after-access-of .access-of .result .now) (a .class) (a .live .now)) (p .sizes .lengths .elapsed);
-      ways-long = room .route-room;
-      log-long = room .log-room;
-    }
-
-returns-2 : tie.Need-returns-2
-returns-2 c =
-    let after-search = c .before .before .before .before .before .before .before .before .before .before in
-    let after-access-of = after-search .before .before .before .before .before in
-    let after-order-of = after-access-of .before in
-    let after-roads-of = after-order-of .before in
-    let after-aimed-at = after-roads-of .before in
-    go-handed (passed (after-aimed-at .before .before)) (after-aimed-at .aimed-at .ensures) (after-roads-of .roads-of .ensures)
-    (after-order-of .order-of .ensures) (after-access-of .access-of .ensures) (after-search .search .ensures) (c .before .gone .ensures)
-    (c .answered2 .ensures)
+    let after-go : tie.After-go = search in
+    let s = start after-go in
+    met-by (s .args .self) (after-go .go .ensures) (c .answered .ensures)
 
 pub go-spec : {M : Type 1} → statement M
 go-spec =
     tie.close
     (tie.spec
-    (λ c κs. search needs)
-    (λ c κs. search needs)
-    (λ c. search needs)
-    (λ c κs. search needs)
-    (λ c. search needs)
-    (λ c κs. search needs)
-    (λ c κs. search needs)
-    (λ c κs. search needs)
-    (λ c κs. search needs)
-    search-requires
-    (λ c κs. search needs)
-    (λ c κs. search needs)
-    (λ c. search needs)
-    (λ c. search needs)
-    returns
-    (λ c. search needs)
-    (λ c. search needs)
-    (λ c. search needs)
-    (λ c. search needs)
-    returns-2)
+    (λ c κs. search needs) (λ c κs. search needs) (λ c. search needs) (λ c. search needs) (λ c. search needs) (λ c. search needs)
+    returns)

@@ -1,112 +1,24 @@
--- A refusal leaves everything as it was (`trip-refused`); otherwise answer and estimates are those of the two searches (`preview-handed`).
-use mathlib.Core.Path.{_∙_, _≡_, ap, refl}
-use mathlib.Core.List.{List}
-use Prim.Native.Nat.{ℕ}
+-- What `call_preview::preview` promises, handed on.
 use borrow.Author.Needs.{needs}
-use lib.ListN.{length}
-use Rattle.model.specs.Types.{Header}
-use Rattle.model.specs.Areas.{Areas, Each, areasOf, lengths}
-use Rattle.model.specs.State.{Lent, noneLent}
-use Rattle.model.specs.Calls.{Asked, Preview}
-use Rattle.network.specs.Refusals.{verdictIn}
-use Rattle.unit.specs.Shape.{headerIn}
-use Rattle.unit.proofs.Trips.{TripPassed, met-length, trip-passed, trip-refused, tripVerdict, within}
-use Rattle.unit.proofs.Previewing.{preview-facts, preview-handed, preview-trips, work-made, work-refused}
+use Rattle.unit.proofs.Handed.{met-by, work-by}
 use Rattle.unit.proofs.Header.preview.Statement.{statement}
 use Rattle.unit.proofs.Header.preview.Tie as tie
 
--- ---- the call: card and header, the unit's areas, what is asked
-
-abbrev card : tie.Start → List ℕ
-card s = s .args .card .now
-
-abbrev header : tie.Start → Header
-header s = headerIn (s .args .self)
-
-abbrev areas : tie.Start → Areas
-areas s =
-    let a = s .args in
-    areasOf (a .ranks .now) (a .pairs .now) (a .times .now) (a .live .now) (a .down .now) (a .estimates .now) (a .elapsed .now)
-    (a .leaving .now) (a .groups .now)
-
-abbrev asked : tie.Start → Asked
-asked s = let a = s .args in Preview (a .class) (a .road) (a .time .0) (a .start .0) (length (a .work .now))
-
--- ---- what the questions said, whatever else is lent
-
-abbrev start : tie.After-preview-asked → tie.Start
-start c = c .before .before .before .before .before .before .before .before .before .before .before .before .before .before
-
-said : (c : tie.After-preview-asked) (k : Lent) → let s = start c in
-    verdictIn (c .preview-asked .result) ≡ tripVerdict (card s) (header s) (lengths (areas s)) (asked s) k
-said c k =
-    let s = start c in
-    c .preview-asked .ensures
-    ∙ ap (λ (l : Each ℕ). tripVerdict (card s) (header s) l (asked s) k) (c .before .lengths-of .ensures)
-
--- none refuses
-passed : (c : tie.After-enum-told) (k : Lent) → let s = start (c .before .before) in
-    TripPassed (card s) (s .args .self) (areas s) (asked s) k (s .args .start .0)
-passed c k = trip-passed preview-trips (c .enum-told .given .1) (said (c .before .before) k)
-
--- ---- the answers
+abbrev start : tie.After-preview → tie.Start
+start c = search
 
 returns : tie.Need-returns
 returns c =
-    let after-q = c .before .before in
-    let after-preview-asked = after-q .before .before in
+    let after-preview : tie.After-preview = search in
+    let s = start after-preview in
     record {
-      call = λ k. trip-refused preview-trips (after-q .q .given .1) (said after-preview-asked k) (c .answered .ensures);
-      work-left = work-refused;
-    }
-
-totals-requires : tie.Need-totals-requires
-totals-requires c κs =
-    let after-access-of = c .before .before in
-    let after-order-of = after-access-of .before in
-    let after-roads-of = after-order-of .before in
-    let after-aimed-at = after-roads-of .before in
-    let after-enum-told = after-aimed-at .before .before in
-    let a = start (after-enum-told .before .before) .args in
-    let p = passed after-enum-told noneLent in record {
-      within = within p (after-aimed-at .aimed-at .ensures) (after-roads-of .roads-of .ensures) (after-order-of .order-of .ensures)
-          (met-length (after-access-of .access-of .result .now) (a .class) (a .live .now)) refl;
-      work-is = preview-facts p .work-is;
-    }
-
-returns-2 : tie.Need-returns-2
-returns-2 c =
-    let after-totals = c .before .before .before .before .before .before in
-    let after-access-of = after-totals .before .before .before in
-    let after-order-of = after-access-of .before in
-    let after-roads-of = after-order-of .before in
-    let after-aimed-at = after-roads-of .before in
-    let (_, (_, (_, (_, (_, (_, (_, (_, (_, (_, (_, (_, (_, (work-kept, _)))))))))))))) = after-totals .totals .kept in
-    record {
-      call = λ k. preview-handed (passed (after-aimed-at .before .before) k) (after-aimed-at .aimed-at .ensures)
-          (after-roads-of .roads-of .ensures) (after-order-of .order-of .ensures) (after-access-of .access-of .ensures)
-          (after-totals .totals .ensures) (c .before .previewed .ensures) (c .answered2 .ensures);
-      work-left = work-made work-kept (c .before .previewed .ensures) (c .answered2 .ensures);
+      call = λ k. met-by (s .args .self) (after-preview .preview .ensures .call k) (c .answered .ensures);
+      work-left = work-by (after-preview .preview .ensures .work-left) (c .answered .ensures);
     }
 
 pub preview-spec : {M : Type 1} → statement M
 preview-spec =
     tie.close
     (tie.spec
-    (λ c κs. search needs)
-    (λ c κs. search needs)
-    (λ c. search needs)
-    (λ c κs. search needs)
-    (λ c. search needs)
-    (λ c κs. search needs)
-    (λ c κs. search needs)
-    (λ c κs. search needs)
-    (λ c κs. search needs)
-    totals-requires
-    (λ c κs. search needs)
-    (λ c κs. search needs)
-    (λ c. search needs)
-    returns
-    (λ c. search needs)
-    (λ c. search needs)
-    returns-2)
+    (λ c κs. search needs) (λ c κs. search needs) (λ c. search needs) (λ c. search needs)
+    returns)

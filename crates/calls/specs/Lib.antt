@@ -1,0 +1,9 @@
+pub mod Shape
+pub mod Meets
+pub mod Roads
+pub mod Refused
+pub mod Bodies
+pub mod Fitting
+pub mod Rows
+pub mod Made
+pub mod Trips
