@@ -17,7 +17,7 @@ use Rattle.model.specs.Areas.{Aimed, Areas, Each, lengths}
 use Rattle.model.specs.State.{Lent, Step, answering, leaving}
 use Rattle.model.specs.Aim.{aim_refusal}
 use Rattle.model.specs.Calls.{Aim, calling}
-use Rattle.model.specs.Contracts.{CallContract, after, before}
+use Rattle.model.specs.Promises.{CallContract, after, before}
 use Rattle.model.specs.Laws.{ask-none}
 use Rattle.model.specs.Good.{Good}
 use Rattle.network.specs.declared.Junction.{Junction}

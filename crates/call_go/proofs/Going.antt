@@ -22,7 +22,7 @@ use Rattle.model.specs.Machine.{is_at, target_of}
 use Rattle.model.specs.Estimate.{filled, with_estimates}
 use Rattle.model.specs.Go.{asks, go_answer, go_at, go_made, go_refusal, go_route, search_of}
 use Rattle.model.specs.Calls.{Go, go_call}
-use Rattle.model.specs.Contracts.{CallContract, after, before}
+use Rattle.model.specs.Promises.{CallContract, after, before}
 use Rattle.model.specs.Laws.{ask-none, kept_refl}
 use Rattle.model.specs.Good.{Good}
 use Rattle.unit_answers.specs.Shape.{answer_in}

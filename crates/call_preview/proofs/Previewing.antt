@@ -25,7 +25,7 @@ use Rattle.model.specs.Estimate.{estimate_refusal, filled}
 use Rattle.model.specs.Go.{search_of}
 use Rattle.model.specs.Preview.{WorkLeft, change_of, either_asks, preview_answer, preview_at, preview_made, preview_refusal, work_size}
 use Rattle.model.specs.Calls.{Preview, calling, known_of}
-use Rattle.model.specs.Contracts.{CallContract, after, base_on, before}
+use Rattle.model.specs.Promises.{CallContract, after, base_on, before}
 use Rattle.model.specs.Laws.{and_then-none, ask-none, kept_refl}
 use Rattle.model.specs.Good.{Good, met-good, set-good}
 use Rattle.unit_answers.specs.Signed.{held, held-is}

@@ -14,7 +14,7 @@ use Rattle.model.specs.Set.{set_refusal}
 use Rattle.model.specs.Estimate.{estimate_refusal}
 use Rattle.model.specs.Preview.{preview_refusal, work_size}
 use Rattle.model.specs.Calls.{Preview, known_of}
-use Rattle.model.specs.Contracts.{base_on}
+use Rattle.model.specs.Promises.{base_on}
 use Rattle.unit_questions.specs.Lending.{fits_by}
 use Rattle.calls.specs.Meets.{asks_trip, asks_way, target_asked}
 use Rattle.calls.specs.Rows.{asked}

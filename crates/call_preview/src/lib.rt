@@ -2,7 +2,7 @@
 ghost use Rattle.std.specs.Prelude.{◌≡◌};
 ghost use Rattle.model.specs.Card.{and_then};
 ghost use Rattle.model.specs.Calls.{Preview};
-ghost use Rattle.model.specs.Contracts.{base_on};
+ghost use Rattle.model.specs.Promises.{base_on};
 ghost use Rattle.network.specs.Refusals.{verdict_in};
 ghost use Rattle.network.specs.Lending.{areas};
 ghost use Rattle.unit_questions.specs.Lending.{lengths_in};

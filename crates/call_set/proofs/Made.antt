@@ -12,7 +12,7 @@ use Rattle.model.specs.Areas.{Areas, Each, lengths}
 use Rattle.model.specs.State.{Lent}
 use Rattle.model.specs.Set.{set_refusal}
 use Rattle.model.specs.Calls.{Set, calling, made}
-use Rattle.model.specs.Contracts.{CallContract, after, before}
+use Rattle.model.specs.Promises.{CallContract, after, before}
 use Rattle.model.specs.Laws.{ask-none}
 use Rattle.unit_answers.specs.declared.Answer.TheVariants as answers
 use Rattle.calls.specs.Shape.{Handed, Held, answered_in, header_in}

@@ -13,7 +13,7 @@ use Rattle.model.specs.Card.{ask}
 use Rattle.model.specs.Areas.{Each}
 use Rattle.model.specs.Set.{set_refusal, settable}
 use Rattle.model.specs.Calls.{Set, known_of}
-use Rattle.model.specs.Contracts.{base_on}
+use Rattle.model.specs.Promises.{base_on}
 use Rattle.unit_questions.specs.Lending.{fits_by}
 use Rattle.calls.specs.Meets.{asks}
 

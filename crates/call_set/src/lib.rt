@@ -3,7 +3,7 @@ ghost use Rattle.std.specs.Prelude.{◌≡◌, ◌*◌, length};
 ghost use Rattle.model.specs.Layout.{road_size, roads_in};
 ghost use Rattle.model.specs.Set.{set_refusal};
 ghost use Rattle.model.specs.Calls.{Set, known_of};
-ghost use Rattle.model.specs.Contracts.{base_on};
+ghost use Rattle.model.specs.Promises.{base_on};
 ghost use Rattle.network.specs.Refusals.{verdict_in};
 ghost use Rattle.unit_questions.specs.Lending.{lengths_in};
 ghost use Rattle.calls.specs.declared.Target.{Target};

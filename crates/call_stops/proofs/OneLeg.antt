@@ -21,7 +21,7 @@ use Rattle.model.specs.Aim.{aim_made, aim_refusal}
 use Rattle.model.specs.Go.{go_made, go_refusal}
 use Rattle.model.specs.Stops.{leg_made}
 use Rattle.model.specs.Calls.{Aim, Call, Go, Left, Writes, asked_of, calling, refusal_by, step}
-use Rattle.model.specs.Contracts.{CallContract, after, base_on, before, refusing}
+use Rattle.model.specs.Promises.{CallContract, after, base_on, before, refusing}
 use Rattle.model.specs.Good.{Good, aim-good, good-fits, unless-none}
 use Rattle.model.specs.Chain.{left_step}
 use Rattle.call_stops.specs.Legs.{LegMade}

@@ -16,7 +16,7 @@ use Rattle.model.specs.Areas.{Areas, Each, lengths}
 use Rattle.model.specs.State.{Lent}
 use Rattle.model.specs.Stops.{stops_refusal}
 use Rattle.model.specs.Calls.{Stops, calling, refusal_by}
-use Rattle.model.specs.Contracts.{base_on}
+use Rattle.model.specs.Promises.{base_on}
 use Rattle.model.specs.Laws.{ask-none}
 use Rattle.network.specs.Refusals.{verdict_in}
 use Rattle.network.specs.declared.Refusal.{Refusal}

@@ -9,7 +9,7 @@ use Rattle.model.specs.Areas.{Areas}
 use Rattle.model.specs.State.{Lent, Step, answering}
 use Rattle.model.specs.Stops.{StopsWrites, stops_made, stops_refusal}
 use Rattle.model.specs.Calls.{Aim, Go, Left, Stops, calling, known_of}
-use Rattle.model.specs.Contracts.{CallContract, after, before}
+use Rattle.model.specs.Promises.{CallContract, after, before}
 use Rattle.network.specs.declared.Sizes.{Sizes}
 use Rattle.calls.specs.Shape.{Held, header_in, held}
 use Rattle.call_stops.specs.declared.Visited.{Visited}

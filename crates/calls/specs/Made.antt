@@ -10,7 +10,7 @@ use Rattle.model.specs.Areas.{Aimed, Areas, Each, lengths}
 use Rattle.model.specs.State.{Lent, State}
 use Rattle.model.specs.Machine.{is_at, target_of}
 use Rattle.model.specs.Calls.{Asked, Call, calling, known_of, refusal_by, refusal_of}
-use Rattle.model.specs.Contracts.{CallContract, after, base_on, before}
+use Rattle.model.specs.Promises.{CallContract, after, base_on, before}
 use Rattle.model.specs.Laws.{ask-none}
 use Rattle.model.specs.Good.{AimFacts, Aims, Good}
 use Rattle.network.specs.Refusals.{refusal_in, verdict_in}

@@ -10,7 +10,7 @@ use Rattle.model.specs.State.{Lent}
 use Rattle.model.specs.Machine.{is_at, target_of}
 use Rattle.model.specs.Preview.{WorkLeft}
 use Rattle.model.specs.Calls.{Aim, Asked, Estimate, Preview, Set, calling, known_of, refusal_of}
-use Rattle.model.specs.Contracts.{CallContract, after, before}
+use Rattle.model.specs.Promises.{CallContract, after, before}
 use Rattle.network.specs.Lending.{Slice}
 use Rattle.unit_answers.specs.Shape.{answer_in}
 use Rattle.unit_questions.specs.Lending.{fits_by, untouched}

@@ -17,7 +17,7 @@ use Rattle.model.specs.Go.{ask_class, go_refusal}
 use Rattle.model.specs.Preview.{preview_refusal, work_size}
 use Rattle.model.specs.Stops.{stops_refusal}
 use Rattle.model.specs.Calls.{Aim, Asked, Call, Estimate, Go, Left, Preview, Set, Stops, Writes, calling, known_of, made, refusal_by, step}
-use Rattle.model.specs.Contracts.{CallContract, base_on, before, refusing}
+use Rattle.model.specs.Promises.{CallContract, base_on, before, refusing}
 use Rattle.model.specs.Good.{Good, left-good, left-usable, zero-refused}
 use Rattle.model.specs.Chain.{step-lengths}
 use Rattle.unit_questions.specs.Lending.{fits_by}

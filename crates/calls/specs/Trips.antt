@@ -14,7 +14,7 @@ use Rattle.model.specs.Areas.{Areas, Each, lengths}
 use Rattle.model.specs.State.{Lent}
 use Rattle.model.specs.Machine.{is_at, target_of}
 use Rattle.model.specs.Calls.{Asked, Writes, calling, refusal_by}
-use Rattle.model.specs.Contracts.{CallContract, after, base_on, before, refusing}
+use Rattle.model.specs.Promises.{CallContract, after, base_on, before, refusing}
 use Rattle.model.specs.Laws.{and_then-none, ask-none}
 use Rattle.model.specs.ClassLaws.{times-length}
 use Rattle.model.specs.Good.{Good, met-good, met_times}

@@ -12,7 +12,7 @@ use Rattle.model.specs.Layout.{card_size, road_size, row_size, size_with}
 use Rattle.model.specs.Card.{card_of, map_refusal, write_refusal}
 use Rattle.model.specs.Accept.{rows-facts, sizes-facts}
 use Rattle.model.specs.CardBack.{card-length, write_contract}
-use Rattle.model.specs.Contracts.{WriteContract}
+use Rattle.model.specs.Promises.{WriteContract}
 use Rattle.card_writer.specs.Lent.{Short, rows_of}
 
 -- rows that pass questions 4 to 6 are short, and hold whole roads: the card of their map has the size that its n and m call for

@@ -62,6 +62,7 @@ module _ {C : CardMap} {m : Machine} {c : Call} {u : Step} (a : AtCall C m c u) 
 
 -- each road of a list that has a total is open
 opened : (N : Network) (l : List ℕ) (t : ℕ) → total_over N l ≡ some t → {i : ℕ} → Memᴰ i l → (x : ℕ) × (N.cost i ≡ some x)
+opened N [] t e {i = i} x = elim x [ ]
 opened N (j ∷ l) t e (Memᴰ.head q) =
     let (x, _, p, _, _) = ⊕-some (N.cost j) (total_over N l) t e in (x, ap (λ (i : ℕ). N.cost i) q ∙ p)
 opened N (i ∷ l) t e (Memᴰ.tail h) = let (_, y, _, q, _) = ⊕-some (N.cost i) (total_over N l) t e in opened N l y q h

@@ -13,7 +13,7 @@ use Rattle.model.specs.Set.{settable}
 use Rattle.model.specs.Go.{live_of}
 use Rattle.model.specs.Preview.{work_size}
 use Rattle.model.specs.Calls.{Asked, Call, Go, Preview, Set, calling, run}
-use Rattle.model.specs.Contracts.{CallContract}
+use Rattle.model.specs.Promises.{CallContract}
 
 -- ---- where: "every map .. and state reached by any list of calls"
 

@@ -20,7 +20,7 @@ use Rattle.model.specs.Set.{set_made}
 use Rattle.model.specs.Go.{by_time, go_answer, live_of, search_of}
 use Rattle.model.specs.Preview.{change_of, preview_answer, work_size}
 use Rattle.model.specs.Calls.{Call, Estimate, Go, Left, Preview, Set, calling, made, refusal_by, step}
-use Rattle.model.specs.Contracts.{CallContract}
+use Rattle.model.specs.Promises.{CallContract}
 use Rattle.model.specs.Report.{Calls, CanGo, CanSet, Closes, Larger, LeftAccepted, Makes, Moves, Opens, Persists, Reported, Room}
 use Rattle.model.specs.Report.{Smaller, TellsTotal}
 use Rattle.model.specs.Laws.{ask-pass}

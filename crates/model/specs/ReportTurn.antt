@@ -24,7 +24,7 @@ use Rattle.model.specs.Go.{asks}
 use Rattle.model.specs.Preview.{change_of, either_asks, work_size}
 use Rattle.model.specs.Calls.{Aim, Asked, Call, Estimate, Go, HandsBack, Preview, Set, Stops, Writes, asked_of, calling, go_call}
 use Rattle.model.specs.Calls.{made, preview_call, refusal_by, set_call, step, steps}
-use Rattle.model.specs.Contracts.{CallContract, base_on}
+use Rattle.model.specs.Promises.{CallContract, base_on}
 use Rattle.model.specs.Report.{Calls, CanGo, CanSet, LeftAccepted, Like, Room}
 use Rattle.model.specs.Laws.{listed_at}
 use Rattle.model.specs.Accept.{card-facts}

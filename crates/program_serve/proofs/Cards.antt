@@ -10,7 +10,7 @@ use Rattle.model.specs.Card.{card_map, map_on}
 use Rattle.model.specs.Areas.{Areas}
 use Rattle.model.specs.State.{Lent, State}
 use Rattle.model.specs.Machine.{started}
-use Rattle.model.specs.Contracts.{before}
+use Rattle.model.specs.Promises.{before}
 use Rattle.unit.specs.Shape.{header_in}
 use Rattle.unit.specs.declared.Header.{Header}
 use Rattle.line_input.specs.Input.{AtStart, Ends, NextLine, after-end, at-end, at-newline, in_order, out_of_turns, unread}

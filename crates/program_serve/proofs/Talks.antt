@@ -17,7 +17,7 @@ use Rattle.program_shell.specs.Answering.{Answers, Held, held_of}
 use Rattle.program_shell.specs.Session.{Turn}
 use Rattle.model.specs.Areas.{Areas}
 use Rattle.model.specs.State.{Lent}
-use Rattle.model.specs.Contracts.{before}
+use Rattle.model.specs.Promises.{before}
 use Rattle.unit.specs.Shape.{header_in}
 use Rattle.unit.specs.declared.Header.{Header}
 use Rattle.program_serve.specs.Serving.{AnsweredTo, Served, Serving, Turns, answered, held_in, over}

@@ -21,7 +21,7 @@ use Rattle.model.specs.Card.{sizes_ok, starts_ok}
 use Rattle.model.specs.Accept.{card-facts}
 use Rattle.model.specs.Areas.{Areas, Each, lengths, lengths_fit, record_size, zeroed}
 use Rattle.model.specs.State.{State, Step, answering, areas_refusal, fresh, none_lent, prepare, room_refusal, unless, unprepared}
-use Rattle.model.specs.Contracts.{after}
+use Rattle.model.specs.Promises.{after}
 use Rattle.model.specs.Good.{LengthFacts, facts-lengths, lengths-facts}
 use Rattle.line_texts.specs.Areas.{Written}
 use Rattle.line_console.specs.Texts.{unreadable_text}

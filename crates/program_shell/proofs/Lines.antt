@@ -8,7 +8,7 @@ use Rattle.io.specs.Counts.{IsPrefixLen}
 use Rattle.model.specs.Types.{Answer}
 use Rattle.model.specs.State.{Lent, State, answering}
 use Rattle.model.specs.Calls.{calling}
-use Rattle.model.specs.Contracts.{CallContract}
+use Rattle.model.specs.Promises.{CallContract}
 use Rattle.unit_answers.specs.Shape.{call_in}
 use Rattle.unit_answers.specs.declared.Call as unit
 use Rattle.line_console.specs.Lines.{line_of}

@@ -6,7 +6,7 @@ use Rattle.model.specs.Types as model
 use Rattle.model.specs.Areas.{Areas}
 use Rattle.model.specs.State.{Lent, State, answering}
 use Rattle.model.specs.Calls.{Asked, calling}
-use Rattle.model.specs.Contracts.{CallContract, before}
+use Rattle.model.specs.Promises.{CallContract, before}
 use Rattle.unit_answers.specs.Shape.{call_in}
 use Rattle.unit.specs.Shape.{header_in}
 use Rattle.unit.specs.declared.Header.{Header}

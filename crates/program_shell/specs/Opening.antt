@@ -9,7 +9,7 @@ use Rattle.model.specs.Layout.{order_in, place_size, road_size, roads_in}
 use Rattle.model.specs.Card.{card_refusal, map_on}
 use Rattle.model.specs.Areas.{Areas, Each, areas_of, lengths}
 use Rattle.model.specs.State.{State, fresh, prepare, room_refusal}
-use Rattle.model.specs.Contracts.{before}
+use Rattle.model.specs.Promises.{before}
 use Rattle.unit.specs.Shape.{header_in}
 use Rattle.line_console.specs.Texts.{answer_text, unreadable_text}
 use Rattle.program_shell.specs.Limits.{file_limit, junction_limit, pair_words, road_limit}

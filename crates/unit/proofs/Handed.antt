@@ -8,7 +8,7 @@ use Rattle.model.specs.Areas.{Areas}
 use Rattle.model.specs.State.{Lent, State, Step}
 use Rattle.model.specs.Preview.{WorkLeft}
 use Rattle.model.specs.Calls.{Asked, calling}
-use Rattle.model.specs.Contracts.{CallContract}
+use Rattle.model.specs.Promises.{CallContract}
 use Rattle.unit_answers.specs.Shape.{answer_in, call_in}
 use Rattle.unit_answers.specs.declared.Answer.{Answer}
 use Rattle.unit_answers.specs.declared.Call as code_call

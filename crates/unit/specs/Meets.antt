@@ -5,7 +5,7 @@ use Rattle.model.specs.Areas.{Areas}
 use Rattle.model.specs.State.{Lent}
 use Rattle.model.specs.Preview.{WorkLeft}
 use Rattle.model.specs.Calls.{Asked, Preview, calling}
-use Rattle.model.specs.Contracts.{CallContract, after, before}
+use Rattle.model.specs.Promises.{CallContract, after, before}
 use Rattle.unit_answers.specs.Shape.{answer_in}
 use Rattle.unit_questions.specs.Lending.{untouched}
 use Rattle.unit.specs.declared.Header.{Header}

@@ -5,7 +5,7 @@ use Rattle.model.specs.Limits.{most_legs}
 use Rattle.model.specs.Areas.{Areas}
 use Rattle.model.specs.State.{Lent, Step, answering}
 use Rattle.model.specs.Calls.{Stops, calling}
-use Rattle.model.specs.Contracts.{CallContract, before}
+use Rattle.model.specs.Promises.{CallContract, before}
 use Rattle.call_stops.specs.Shape.{leg_count, stopping_in}
 use Rattle.unit.specs.declared.Header.{Header}
 use Rattle.unit.specs.declared.Stopped.{Stopped}

@@ -13,7 +13,7 @@ use borrow.Author.Tests.{eq-eqb, ne_eqb}
 use Rattle.model.specs.Types.{Accepted, Read, Reading, Refusal, Refused, Unreadable}
 use Rattle.model.specs.Word.{word}
 use Rattle.model.specs.Card.{Rows}
-use Rattle.model.specs.Contracts.{WriteContract}
+use Rattle.model.specs.Promises.{WriteContract}
 use Rattle.model.specs.Areas.{Areas}
 use Rattle.model.specs.State.{Lent}
 use Rattle.model.specs.Calls.{Asked, Set}

@@ -2,7 +2,7 @@
 use Rattle.std.specs.Prelude.{◌≡◌, List, [], ◌∷◌, ℕ}
 use Rattle.model.specs.Types.{Accepted, Answer, Estimated, Gone, Previewed, Read, Reading, Refused, Stopped, Unreadable}
 use Rattle.model.specs.Card.{Rows}
-use Rattle.model.specs.Contracts.{WriteContract}
+use Rattle.model.specs.Promises.{WriteContract}
 
 -- 0, or the number of the question that refuses
 abbrev pub reading_number : Reading → ℕ

@@ -9,7 +9,7 @@ use Rattle.model.specs.Layout.{base_at}
 use Rattle.model.specs.Card.{map_on}
 use Rattle.model.specs.Areas.{Areas, areas_of}
 use Rattle.model.specs.State.{areas_refusal, zero_header}
-use Rattle.model.specs.Contracts.{PrepareContract}
+use Rattle.model.specs.Promises.{PrepareContract}
 use Rattle.network.specs.declared.Sizes.{Sizes}
 use Rattle.pairs_contraction.specs.declared.Contracted.{Contracted}
 use Rattle.pairs_contraction.specs.declared.Contracted.TheVariants.{Kept, Overflow}

@@ -18,7 +18,7 @@ use Rattle.model.specs.State.{Lent, State, Step, first, prepare}
 use Rattle.model.specs.Machine.{Machine, started}
 use Rattle.model.specs.Calls.{Asked, Call, Plain, Preview, calling, machine_step, plain}
 use Rattle.model.specs.Demand3.{Demand3}
-use Rattle.model.specs.Contracts.{CallContract, PrepareContract, after, before}
+use Rattle.model.specs.Promises.{CallContract, PrepareContract, after, before}
 use Rattle.model.specs.Chain.{Chain, chain_demand3, chain_steps, left-prepared}
 use Rattle.network.specs.declared.Time.{Time}
 use Rattle.network.specs.declared.Junction.{Junction}

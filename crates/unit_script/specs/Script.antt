@@ -8,7 +8,7 @@ use Rattle.model.specs.State.{Lent, State, Step, first, prepare}
 use Rattle.model.specs.Machine.{Machine, started}
 use Rattle.model.specs.Calls.{Call, Left, Plain, calling, machine_step, plain, steps}
 use Rattle.model.specs.Demand3.{Demand3}
-use Rattle.model.specs.Contracts.{CallContract, before}
+use Rattle.model.specs.Promises.{CallContract, before}
 use Rattle.model.specs.Chain.{Chain}
 use Rattle.unit_script.specs.Words.{Lending, answer_words, call_at, end_at, is_call, room_in}
 

@@ -3,7 +3,7 @@ use mathlib.Core.Path.{◌∙◌, refl, sym}
 use borrow.Author.Rules.{rules}
 use native.Mathlib.Omega.{arith}
 use Rattle.model.specs.Calls.{Estimate}
-use Rattle.model.specs.Contracts.{base_on}
+use Rattle.model.specs.Promises.{base_on}
 use Rattle.unit_questions.specs.Lending.{lengths_in}
 use Rattle.calls.specs.Fitting.{order-sized, pairs-few}
 use Rattle.calls.specs.Shape.{held}

@@ -7,7 +7,7 @@ use Rattle.model.specs.Types.{Header}
 use Rattle.model.specs.Areas.{Areas, Each, areas_of, lengths}
 use Rattle.model.specs.State.{Lent}
 use Rattle.model.specs.Calls.{Go}
-use Rattle.model.specs.Contracts.{base_on}
+use Rattle.model.specs.Promises.{base_on}
 use Rattle.network.specs.Refusals.{verdict_in}
 use Rattle.unit_questions.specs.Lending.{lent_of}
 use Rattle.calls.specs.Shape.{handed, header_in, held}

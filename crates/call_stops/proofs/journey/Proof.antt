@@ -8,7 +8,7 @@ use borrow.Author.Rules.{rules}
 use native.Mathlib.Omega.{arith}
 use Rattle.model.specs.Limits.{most_legs}
 use Rattle.model.specs.Areas.{areas_of}
-use Rattle.model.specs.Contracts.{before}
+use Rattle.model.specs.Promises.{before}
 use Rattle.unit_questions.specs.Lending.{lent_of}
 use Rattle.calls.specs.Shape.{Handed, header_in, held}
 use Rattle.call_stops.proofs.Turns.{AtLeg, route-stays, still-within, turn-again, turn_end, turn-lost, turn-start}

@@ -1,6 +1,6 @@
 -- A refusal leaves all as it was (`stops-refused`); otherwise the legs are the callee's (`stops-met`).
 use borrow.Author.Rules.{rules}
-use Rattle.model.specs.Contracts.{base_on}
+use Rattle.model.specs.Promises.{base_on}
 use Rattle.unit_questions.specs.Lending.{lengths_in, lent_of}
 use Rattle.calls.specs.Shape.{header_in, held}
 use Rattle.call_stops.proofs.Whole.{ListPassed, list_passed, room_for, stops-met, stops-refused}

@@ -3,7 +3,7 @@
 use mathlib.Core.Path.{◌∙◌}
 use Rattle.model.specs.Areas.{areas_of}
 use Rattle.model.specs.State.{Lent, State}
-use Rattle.model.specs.Contracts.{before}
+use Rattle.model.specs.Promises.{before}
 use Rattle.unit_questions.specs.Lending.{lent_of}
 use Rattle.unit.specs.Shape.{header_in}
 use Rattle.program_shell.specs.Answering.{Roomy}
