@@ -1,4 +1,6 @@
 // An aim: its questions, the down totals of the target, every estimate unasked.
+#![tactic(auto)]
+
 ghost use Rattle.std.specs.Prelude.{◌≡◌, ℕ};
 ghost use Rattle.graph.specs.Total.{Total};
 ghost use Rattle.model.specs.Calls.{Aim};

@@ -1,4 +1,6 @@
 // What the calls share: the target, question 9, question 13.
+#![tactic(auto)]
+
 ghost use Rattle.std.specs.Prelude.{◌≡◌};
 ghost use Rattle.model.specs.Machine.{is_at, target_of};
 ghost use Rattle.unit_questions.specs.Lending.{fits_by, lengths_in};

@@ -1,4 +1,6 @@
 // The card: reading it by questions 1 to 6, and writing it by questions 4 to 7.
+#![tactic(auto)]
+
 ghost use Rattle.model.specs.Promises.{ReadContract, WriteContract};
 ghost use Rattle.card.specs.Answers.{reading_in, rows_of, writing_in};
 

@@ -1,4 +1,6 @@
 // The card's layout: the table of contents, and the bodies as the parts of the card that its entries name.
+#![tactic(auto)]
+
 ghost use Rattle.std.specs.Prelude.{◌≡◌, ◌++◌, ◌+◌, ◌<◌, ◌≤◌, drop, get_or, length};
 ghost use Rattle.model.specs.Bytes.{bytes_of};
 ghost use Rattle.model.specs.Layout as layout;

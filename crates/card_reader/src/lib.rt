@@ -1,4 +1,6 @@
 // The reader: it walks the card from body to body and remembers its place.
+#![tactic(auto)]
+
 ghost use Rattle.std.specs.Prelude.{◌≡◌};
 ghost use Rattle.model.specs.Card.{bodies_refusal};
 ghost use Rattle.model.specs.Layout.{body_at, order_in, roads_in};

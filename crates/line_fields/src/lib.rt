@@ -1,4 +1,6 @@
 // The fields of a line: words, and numbers in decimal digits, with a space between them.
+#![tactic(auto)]
+
 ghost use Rattle.std.specs.Prelude.{◌≡◌, ◌≤◌, length};
 ghost use Rattle.bytes.specs.Bytes.{index_of};
 ghost use Rattle.line_fields.specs.Fields.{after_space, before_space, number_of, same};

@@ -1,4 +1,6 @@
 // The vocabulary of the code: junctions, ranks and times, and words in bytes.
+#![tactic(auto)]
+
 ghost use Rattle.std.specs.Prelude.{◌≡◌, [], ◌++◌, ◌∷◌, ◌*◌, ◌+◌, ◌<◌, ◌≤◌, min, eqb, drop, get_or, length, take};
 ghost use Rattle.graph.specs.Total.{◌⊕◌};
 ghost use Rattle.model.specs.Types as model;

@@ -4,6 +4,8 @@
 // linking). Then each lower rank v that has a pair with r gives the paths over v, from r to the highs of v's later pairs and back (crates
 // fronts and passing). The work is in the pairs and the triangles of pairs; ranks stand in blocks, and what is in the square of the number
 // of ranks is a test of each block in each row.
+#![tactic(auto)]
+
 ghost use Rattle.std.specs.Prelude.{◌≡◌, List, ◌*◌, ◌≤◌, ℕ, length};
 ghost use Rattle.model.specs.Limits.{most_pairs};
 ghost use Rattle.model.specs.Areas.{record_size};

@@ -1,4 +1,6 @@
 // The records of a row, appended to the two areas of pairs, and the zeros after the last.
+#![tactic(auto)]
+
 ghost use Rattle.std.specs.Prelude.{◌≡◌, ◌*◌, ◌≤◌, length};
 ghost use Rattle.graph.specs.Path.{Weights};
 ghost use Rattle.model.specs.Areas.{record_size};

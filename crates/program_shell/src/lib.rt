@@ -1,4 +1,6 @@
 // The program's steps on slices: what it makes of its card, and what it answers to a line.
+#![tactic(auto)]
+
 ghost use Rattle.std.specs.Prelude.{◌≡◌, true, List, ◌<◌, ◌≤◌, ℕ, length};
 ghost use Rattle.model.specs.Areas.{Areas};
 ghost use Rattle.network.specs.Refusals.{refusal_in};

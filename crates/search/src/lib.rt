@@ -1,5 +1,7 @@
 // The search of a go (document 01: the search log): a run whose budget never ends it, its total and its route. The two searches of a
 // preview (document 02, A2): the total alone, twice.
+#![tactic(auto)]
+
 ghost use Rattle.search_junctions.specs.Views.{met};
 ghost use Rattle.search_junctions.specs.State.{given, given_to};
 ghost use Rattle.search_run.specs.Runs.{Lends, written};

@@ -1,5 +1,7 @@
 // What a node of the search is, and where it leads: nodes are junctions, the roads of each are lent as its group, and the estimates of open
 // roads' heads are asked before a junction's roads are relaxed (document 01: the search log).
+#![tactic(auto)]
+
 ghost use Rattle.std.specs.Prelude.{◌≡◌, ◌*◌, ◌+◌, ◌<◌, ◌≤◌, eqb, get_or, length};
 ghost use Rattle.model.specs.Layout.{road_size};
 ghost use Rattle.model.specs.Bytes.{word_at};

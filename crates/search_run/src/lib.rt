@@ -1,5 +1,7 @@
 // The run of a search (document 01: the search log): one node after the other is chosen, logged and gone on from; and the way back over the
 // arcs that gave the times. What a node is and where it leads is said in `search_junctions`, whose functions it calls.
+#![tactic(auto)]
+
 ghost use Rattle.std.specs.Prelude.{◌≡◌, ◌*◌, ◌<◌, ◌≤◌, eqb, length};
 ghost use Rattle.model.specs.Layout.{road_size};
 ghost use Rattle.model.specs.State.{first};

@@ -1,4 +1,6 @@
 // The header, the calls as its methods, and any of document 01's four by its case.
+#![tactic(auto)]
+
 ghost use Rattle.std.specs.Prelude.{◌≡◌};
 ghost use Rattle.model.specs.Calls.{Aim, Estimate, Go, Set};
 ghost use Rattle.network.specs.Lending.{areas};

@@ -1,4 +1,6 @@
 // What is asked and answered: the calls that the program's lines name, and the answers of all calls, without the areas.
+#![tactic(auto)]
+
 ghost use Rattle.std.specs.Prelude.{◌≡◌, ◌<◌, ◌-ℤ◌, pos};
 ghost use Rattle.model.specs.Word.{of_word, word};
 ghost use Rattle.model.specs.Preview.{change_of, preview_answer};

@@ -1,4 +1,6 @@
 // What C and Rust call: the public functions over plain words and slices. A refusal is its number, and 0 is an acceptance.
+#![tactic(auto)]
+
 ghost use Rattle.std.specs.Prelude.{◌≡◌, [], ◌∷◌, length};
 ghost use Rattle.model.specs.Card.{read_card};
 ghost use Rattle.model.specs.Calls.{Aim, Estimate, Go, Set};

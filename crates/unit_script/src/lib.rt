@@ -1,4 +1,6 @@
 // A script of calls as words: makes them one after the other, and writes the words of their answers.
+#![tactic(auto)]
+
 ghost use Rattle.std.specs.Prelude.{◌≡◌, List, [], ◌++◌, ◌∷◌, ◌*◌, ◌+◌, ◌≤◌, min, ℕ, get_or, length, replicate};
 ghost use Rattle.std.proofs.Math.Option.{some};
 ghost use Rattle.model.specs.Limits.{most_legs};

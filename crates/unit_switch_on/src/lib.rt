@@ -1,4 +1,6 @@
 // Preparing, as it is done at switch-on: questions 1 to 8, and the header.
+#![tactic(auto)]
+
 ghost use Rattle.std.specs.Prelude.{◌≡◌};
 ghost use Rattle.model.specs.Areas.{Areas, lengths};
 ghost use Rattle.network.specs.Refusals.{refusal_in};
