@@ -17,7 +17,7 @@ use unit_answers::Answer;
 use unit_questions::Lengths;
 
 // What an aim hands back: the target in force, and its answer.
-#[derive(Drop)]
+#[derive(Clone, Copy)]
 pub struct Aimed {
     pub target: Target,
     pub answer: Answer,

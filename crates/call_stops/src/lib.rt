@@ -31,7 +31,7 @@ pub struct Legs {
 }
 
 // A refusal, or the number of legs and the whole total.
-#[derive(Drop)]
+#[derive(Clone, Copy)]
 pub enum Stopping {
     Refused(Refusal),
     Stopped(u32, TimeWord),

@@ -11,7 +11,7 @@ use network::{Junction, Sizes};
 use unit_questions::Lengths;
 
 // The junction that was aimed at last.
-#[derive(Drop)]
+#[derive(Clone, Copy)]
 pub enum Target {
     At(Junction),
     Absent,

@@ -7,14 +7,14 @@ ghost use Rattle.card.specs.Answers.{reading_in, rows_of, writing_in};
 use network::{Refusal, Verdict};
 
 // What reading answers: n and m, or a refusal.
-#[derive(Drop)]
+#[derive(Clone, Copy)]
 pub enum Reading {
     Unreadable(Refusal),
     Read(u32, u32),
 }
 
 // What writing answers.
-#[derive(Drop)]
+#[derive(Clone, Copy)]
 pub enum Writing {
     Refused(Refusal),
     Accepted,

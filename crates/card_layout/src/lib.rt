@@ -25,7 +25,7 @@ pub const ORDER_KIND: u32 = 2;
 pub const PLACE_SIZE: usize = 4;
 
 // An entry: kind, start byte and length in bytes of a body.
-#[derive(Drop)]
+#[derive(Clone, Copy)]
 pub struct Section {
     pub kind: u32,
     pub start: u32,

@@ -10,7 +10,7 @@ ghost use Rattle.network.specs.Refusals.{verdict_in};
 use network::Verdict;
 
 // The card, and the number of the next body's entry in the table of contents.
-#[derive(Drop)]
+#[derive(Clone, Copy)]
 pub struct Reader<'a> {
     pub card: &'a [u8],
     pub at: usize,

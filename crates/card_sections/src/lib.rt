@@ -12,7 +12,7 @@ use card_layout::{PLACE_SIZE, ROAD_SIZE};
 use network::{Rank, Refusal, Verdict};
 
 // The first road or place that fails, if there is one.
-#[derive(Drop)]
+#[derive(Clone, Copy)]
 pub enum Failing {
     Nothing,
     At(u32),

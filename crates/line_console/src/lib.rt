@@ -14,7 +14,7 @@ use unit_answers::{Answer, Call};
 // ---- a line as a call
 
 // What a line of input says.
-#[derive(Drop)]
+#[derive(Clone, Copy)]
 pub enum Line {
     Call(Call),
     Unreadable,

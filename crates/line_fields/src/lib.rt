@@ -8,7 +8,7 @@ ghost use Rattle.line_fields.specs.Fields.{after_space, before_space, number_of,
 use network::{Time, TimeWord};
 
 // What a part of a line spells.
-#[derive(Drop)]
+#[derive(Clone, Copy)]
 pub enum Number {
     Value(TimeWord),
     NotOne,

@@ -32,14 +32,14 @@ pub fn fill_ranks(order: &[u8], ranks: &mut [u32])
 }
 
 // The number of kept pairs, if they fit.
-#[derive(Drop)]
+#[derive(Clone, Copy)]
 pub enum Contracted {
     Kept(u32),
     Overflow,
 }
 
 // Where a row begins: its rank, and the number of records before its own.
-#[derive(Drop)]
+#[derive(Clone, Copy)]
 pub struct RowStart(pub Rank, pub u32);
 
 // The row of a rank: its times from the roads and over the lower ranks, its records, and the front of its own row.

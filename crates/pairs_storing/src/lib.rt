@@ -12,7 +12,7 @@ use network::{Rank, TimeWord};
 use pairs_rows::BLOCK;
 
 // The number of records in the areas, if all fit.
-#[derive(Drop)]
+#[derive(Clone, Copy)]
 pub enum Stored {
     All(u32),
     Full,

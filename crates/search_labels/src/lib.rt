@@ -33,7 +33,7 @@ pub fn via_of(room: &[u64], n: u32, v: u32) -> u32
 // ---- a label
 
 // The time of a candidate or of a logged node, its key, and the arc that gave the time.
-#[derive(Drop)]
+#[derive(Clone, Copy)]
 struct Label {
     pub time: u64,
     pub key: u64,

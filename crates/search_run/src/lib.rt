@@ -17,7 +17,7 @@ use search_labels::{time_of, via_of};
 use search_queue::{SETTLED, choose, put};
 
 // How many nodes are logged (document 01: count), and whether the log is complete.
-#[derive(Drop)]
+#[derive(Clone, Copy)]
 pub struct Progress {
     pub count: u32,
     pub complete: bool,

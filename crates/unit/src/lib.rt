@@ -16,21 +16,21 @@ use network::{Junction, Sizes, Time, TimeWord};
 use unit_answers::{Answer, Call};
 
 // Numbers of junctions, roads and pairs, the card's length, and the target.
-#[derive(Drop)]
+#[derive(Clone, Copy)]
 pub struct Header {
     pub sizes: Sizes,
     pub target: Target,
 }
 
 // What each call hands back.
-#[derive(Drop)]
+#[derive(Clone, Copy)]
 pub struct Answered {
     pub header: Header,
     pub answer: Answer,
 }
 
 // What a list of stops hands back.
-#[derive(Drop)]
+#[derive(Clone, Copy)]
 pub struct Stopped {
     pub header: Header,
     pub answer: Stopping,

@@ -16,7 +16,7 @@ ghost use Rattle.unit_questions.specs.Lending.{lengths_in};
 use network::{Sizes, Time, TimeWord};
 
 // The lengths of the unit's areas.
-#[derive(Drop)]
+#[derive(Clone, Copy)]
 pub struct Lengths {
     pub ranks: usize,
     pub pairs: usize,

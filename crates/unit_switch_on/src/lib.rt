@@ -19,7 +19,7 @@ use unit_answers::Answer;
 use unit_questions::Lengths;
 
 // What questions 1 to 7 say: refused, or the numbers of junctions and roads and the card's length, with no pair yet.
-#[derive(Drop)]
+#[derive(Clone, Copy)]
 enum Asked {
     No(Refusal),
     Yes(Sizes),
