@@ -6,8 +6,8 @@ use Rattle.unit_answers.proofs.change_of.Goals as goal
 
 pub difference-requires : goal.difference-requires
 difference-requires c =
-    both_below c.present-1.given.1 c.new-1.given.1 (search rules) (search rules)
+    both_below c.in-Of.is c.in-Of-new.is (search rules) (search rules)
 
 pub returns-in-Of-new : goal.returns-in-Of-new
 returns-in-Of-new c =
-    change-by c.present-1.given.1 c.new-1.given.1 (search rules) (search rules) _ c.difference.ensures
+    change-by c.in-Of.is c.in-Of-new.is (search rules) (search rules) _ c.difference.ensures
