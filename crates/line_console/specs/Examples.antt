@@ -2,7 +2,6 @@
 use Rattle.std.specs.Prelude.{◌≡◌, refl, List, [], ◌∷◌, map, ◌+◌, length, replicate}
 use Rattle.std.proofs.Math.Option.{Option, none, some}
 use Prim.Native.String.{String}
-use Rattle.bytes.specs.Bytes.{index_after, index_of}
 use Rattle.model.specs.Limits.{most_total}
 use Rattle.model.specs.Types.{Accepted, Answer, At, Estimated, Gone, NoJunction, NoPath, NoRoad, NotAllowed, Place, Refusal, Refused, Road}
 use Rattle.model.specs.Types.{Room}
@@ -15,6 +14,7 @@ use Rattle.model.specs.Go.{go_refusal}
 use Rattle.model.specs.Calls.{refusal_of}
 use Rattle.unit_answers.specs.Shape.{call_in}
 use Rattle.unit_answers.specs.declared.Call.TheVariants.{Aim, Estimate, Go, Set}
+use Rattle.line_fields.specs.Fields.{index_after, index_of}
 use Rattle.line_fields.specs.Fields.{after_space, all_digits, before_space, is_digit, is_number, number_of, same, value_from}
 use Rattle.line_texts.specs.Areas.{decimal, digits_in, shown, spaced}
 use Rattle.line_console.specs.declared.Line.{Line}

@@ -4,10 +4,9 @@ use Rattle.std.proofs.Common.{◌∙◌, ap, ap₂, subst, sym, length-append, a
 use Rattle.std.specs.Prelude.{◌≡◌, refl, Bool, false, true, List, ◌++◌, ◌∷◌, ◌<◌, ◌≤◌, ℕ, length}
 use Rattle.std.proofs.lemmas.Bool.{false≢true}
 use Rattle.graph.specs.Total.{Tested, decide}
-use Rattle.bytes.specs.Bytes.{index_after, index_of}
 use Rattle.unit_answers.specs.declared.Call as call
 use Rattle.unit_answers.specs.declared.Call.TheVariants.{Aim, Estimate, Go, Set}
-use Rattle.line_fields.specs.Fields.{after_space, before_space, number_of, same}
+use Rattle.line_fields.specs.Fields.{after_space, before_space, index_after, index_of, number_of, same}
 use Rattle.line_fields.specs.Parts.{Split, after_of, before_of, digits_of, no_number, no_space, nothing, number-length, same-is, spaces}
 use Rattle.line_fields.specs.Parts.{split}
 use Rattle.line_fields.specs.declared.Number.{Number}
