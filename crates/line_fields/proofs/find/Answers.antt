@@ -1,5 +1,4 @@
 -- The byte stands here (`sought_here`), or further on (`sought_more`), or nowhere (`sought_all`).
-use Rattle.std.proofs.Common.{arith}
 use Rattle.line_fields.proofs.Parts.{sought_all, sought_here, sought_more}
 use Rattle.line_fields.proofs.find.Goals as goal
 
