@@ -4,8 +4,8 @@
 ghost use Rattle.std.specs.Prelude.{◌≡◌, ◌++◌, ◌+◌, ◌<◌, ◌≤◌, drop, get_or, length};
 ghost use Rattle.model.specs.Bytes.{bytes_of};
 ghost use Rattle.model.specs.Layout as layout;
-ghost use Rattle.model.specs.Layout.{access_fits, access_in, body_at, card_size, entry_of, has_entry, named, names, order_in, part_of, roads_in};
-ghost use Rattle.model.specs.Layout.{table, table_size};
+ghost use Rattle.model.specs.Layout.{access_fits, access_in, body_at, card_size, entry_of, has_entry, named, names};
+ghost use Rattle.model.specs.Layout.{order_in, part_of, roads_in, table, table_size};
 ghost use Rattle.card_layout.specs.Sections.{entry_after, section_in};
 
 // ---- the table of contents: the number of sections, then an entry for each
