@@ -20,7 +20,8 @@ use Rattle.line_console.specs.Lines.{call_of, in_range, line_of, one, out_of_ran
 pub data Readable (line : List ℕ) : call.Call → Type 0 where
   aims : (s : List ℕ) (v : ℕ) → line ≡ ascii "aim " ++ s → number_of s ≡ Value v → Readable line (Aim (record { 0 = in_range v }))
   asks : (s : List ℕ) (v : ℕ) → line ≡ ascii "est " ++ s → number_of s ≡ Value v → Readable line (Estimate (record { 0 = in_range v }))
-  goes : (s : List ℕ) (v : ℕ) → line ≡ ascii "go " ++ s → number_of s ≡ Value v → Readable line (Go program_class (record { 0 = in_range v }))
+  goes : (s : List ℕ) (v : ℕ) → line ≡ ascii "go " ++ s → number_of s ≡ Value v
+      → Readable line (Go program_class (record { 0 = in_range v }))
   sets : (s t : List ℕ) (i v : ℕ) → line ≡ ascii "set " ++ (s ++ (ascii " " ++ t)) → number_of s ≡ Value i → number_of t ≡ Value v
       → Readable line (Set (in_range i) (record { 0 = v }))
 
@@ -73,7 +74,8 @@ one-says line w r v c e n h = first (decide (same w (ascii "aim")))
 
     third : same w (ascii "aim") ≡ false → same w (ascii "est") ≡ false → Tested (same w (ascii "go")) → Readable line c
     third p q (inl t) =
-        subst (Readable line) (said (Go program_class (record { 0 = in_range v })) c (rw (p, q, t) at h)) (goes r v (begins (ascii "go") t) n)
+        subst (Readable line) (said (Go program_class (record { 0 = in_range v })) c (rw (p, q, t) at h))
+        (goes r v (begins (ascii "go") t) n)
     third p q (inr t) = absurd (not_readable c (rw (p, q, t) at h))
 
     second : same w (ascii "aim") ≡ false → Tested (same w (ascii "est")) → Readable line c
