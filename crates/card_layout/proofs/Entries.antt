@@ -10,11 +10,12 @@ use lib.Dec.{eqb, leb, ltb}
 use lib.ListN.{get_or-eq_default, drop, get_or, length, take}
 use native.Mathlib.Nat.{add-sub_cancel_left}
 use native.Mathlib.Omega.{arith}
-use Rattle.graph.specs.Total.{Tested, and_true, decide, true_false}
+use Rattle.graph.specs.Total.{Tested}
+use Rattle.graph.proofs.Total.{and_true, decide, true_false}
 use Rattle.model.specs.Bytes.{word_at}
 use Rattle.model.specs.Layout.{Section, access_fits, body, body_at, entry_at, entry_of, has_entry, names}
 use Rattle.model.specs.Layout.{part_of, section, sections, table_size}
-use Rattle.model.specs.Laws.{true_and}
+use Rattle.model.proofs.Laws.{true_and}
 use Rattle.card_layout.specs.Sections.{entry_after}
 
 -- ---- the table

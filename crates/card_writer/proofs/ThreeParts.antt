@@ -9,7 +9,7 @@ use native.Mathlib.Omega.{arith}
 use Rattle.model.specs.Bytes.{bytes_of}
 use Rattle.model.specs.Layout.{row_size, size_with, table, table_size}
 use Rattle.model.specs.Card.{card_of}
-use Rattle.model.specs.CardBack.{bytes-length}
+use Rattle.model.proofs.CardBack.{bytes-length}
 use Rattle.network.specs.Bytes.{bytes-append}
 use Rattle.card_writer.specs.Lent.{rows_of}
 

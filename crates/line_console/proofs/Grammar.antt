@@ -2,7 +2,8 @@
 use Rattle.std.proofs.Common.{◌∙◌, ap, ap₂, subst, sym, arith, inl, inr}
 use Rattle.std.specs.Prelude.{◌≡◌, refl, Bool, false, true, List, ◌++◌, ◌∷◌, ◌<◌, ℕ, length}
 use Rattle.std.proofs.lemmas.Bool.{false≢true}
-use Rattle.graph.specs.Total.{Tested, decide}
+use Rattle.graph.specs.Total.{Tested}
+use Rattle.graph.proofs.Total.{decide}
 use Rattle.unit_answers.specs.declared.Call as call
 use Rattle.unit_answers.specs.declared.Call.TheVariants.{Aim, Estimate, Go, Set}
 use Rattle.line_fields.specs.Fields.{after_space, before_space, index_after, index_of, number_of, same}

@@ -5,7 +5,8 @@ use Rattle.std.proofs.Math.Path.{ap}
 use Rattle.std.proofs.lemmas.Bool.{false≢true}
 use Rattle.std.proofs.Math.ListN.{drop, take}
 use Rattle.std.proofs.Math.Seq.{drop-append-add, take-append_seam}
-use Rattle.graph.specs.Total.{Tested, decide}
+use Rattle.graph.specs.Total.{Tested}
+use Rattle.graph.proofs.Total.{decide}
 use Rattle.model.specs.Word.{none_word}
 use Rattle.line_fields.specs.declared.Number.{Number}
 use Rattle.line_fields.specs.declared.Number.TheVariants.{NotOne, Value}

@@ -12,19 +12,24 @@ use lib.Seq.{get_or-set_other, get_or-set_same}
 use native.Mathlib.Decide.{dec_lt, ℕ_discrete}
 use native.Mathlib.Numerals.{add-one}
 use native.Mathlib.Omega.{arith}
-use Rattle.graph.specs.Total.{Total, ◌⊓◌, ◌⊕◌, none-some, true_false, decide, Tested, ⊓-assoc, ⊓-none}
-use Rattle.graph.specs.Least.{min_below, min_below-none, min_below-skip}
+use Rattle.graph.specs.Total.{Total, ◌⊓◌, ◌⊕◌, Tested}
+use Rattle.graph.proofs.Total.{none-some, true_false, decide, ⊓-assoc, ⊓-none}
+use Rattle.graph.specs.Least.{min_below}
+use Rattle.graph.proofs.Least.{min_below-none, min_below-skip}
 use Rattle.graph.specs.Pairs.{up}
 use Rattle.graph.specs.Records.{Pair}
-use Rattle.graph.specs.Reach.{reaches, reaches-path}
-use Rattle.graph.specs.Ranks.{rank_below, vertex_of_rank}
+use Rattle.graph.specs.Reach.{reaches}
+use Rattle.graph.proofs.Reach.{reaches-path}
+use Rattle.graph.proofs.Ranks.{rank_below, vertex_of_rank}
 use Rattle.graph.specs.Map.{Map, down_total_of, estimate_of, rank, weights}
-use Rattle.model.specs.Word.{none_word, of_word, of_word-word, unasked, word}
+use Rattle.model.specs.Word.{none_word, of_word, unasked, word}
+use Rattle.model.proofs.Word.{of_word-word}
 use Rattle.model.specs.Bytes.{word_at}
 use Rattle.model.specs.Estimate.{filled}
-use Rattle.model.specs.Laws.{kept_refl, kept_trans, listed_at}
-use Rattle.model.specs.Good.{AimFacts, Filled, filled-no, filled_yes}
-use Rattle.model.specs.Ends.{filled_is}
+use Rattle.model.proofs.Laws.{kept_refl, kept_trans, listed_at}
+use Rattle.model.specs.Good.{AimFacts, Filled}
+use Rattle.model.proofs.Good.{filled-no, filled_yes}
+use Rattle.model.proofs.Ends.{filled_is}
 use Rattle.network.specs.Width.{fit, fit_is, fit-min}
 use Rattle.pairs_hierarchy.specs.Estimates.{aim-filled}
 use Rattle.pairs_hierarchy.specs.Walks.{AboveFilled, Climbed, Risen, Walked, above, down_at, estimate_at, least_below, over, pair_at}

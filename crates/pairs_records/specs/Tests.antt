@@ -3,7 +3,7 @@ use Rattle.std.proofs.Common.{◌∙◌, subst, sym, inl, inr, arith}
 use Rattle.std.specs.Prelude.{◌≡◌, ◌⊎◌, Bool, false, not, true, List, ◌*◌, ◌+◌, ◌-◌, ◌/◌, ◌<◌, ◌≤◌, ℕ, eqb, ltb}
 use borrow.Author.Tests.{eq-eqb, eqb-false, eqb-true, le-ltb, lt-ltb, ltb-true, ne_eqb, not-true}
 use Rattle.std.proofs.Math.Decide.{dec_lt, ℕ_discrete}
-use Rattle.graph.specs.Total.{and_true}
+use Rattle.graph.proofs.Total.{and_true}
 use Rattle.model.specs.Word.{none_word, unasked}
 use Rattle.pairs_records.specs.Words.{Ascending, Starts, answer, below_in, leads, low_in}
 

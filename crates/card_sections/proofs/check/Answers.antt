@@ -2,7 +2,8 @@
 use mathlib.Core.Path.{◌∙◌, ap, sym}
 use mathlib.Core.Option.{some}
 use lib.ListN.{length}
-use Rattle.model.specs.Accept.{SizesFacts, sizes-facts}
+use Rattle.model.specs.Accept.{SizesFacts}
+use Rattle.model.proofs.Accept.{sizes-facts}
 use Rattle.network.specs.Bodies.{rows_in}
 use Rattle.card_sections.proofs.Verdicts.{RoadsPass, SizesPass, by_4, by_5, by_6, by-none}
 use Rattle.card_sections.proofs.check.Goals.{Else-not-sizes_ok, In_default}

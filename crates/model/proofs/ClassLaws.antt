@@ -6,13 +6,15 @@ use Rattle.std.proofs.Math.Option.{none}
 use Rattle.std.proofs.Math.ListN.{get_or-eq_default}
 use Rattle.std.proofs.Math.Decide.{dec_lt}
 use Rattle.graph.specs.Total.{Total}
-use Rattle.graph.specs.Least.{every, every_true}
-use Rattle.model.specs.Word.{closed_word, of_word, of_word-none}
+use Rattle.graph.specs.Least.{every}
+use Rattle.graph.proofs.Least.{every_true}
+use Rattle.model.specs.Word.{closed_word, of_word}
+use Rattle.model.proofs.Word.{of_word-none}
 use Rattle.model.specs.Limits.{classes}
 use Rattle.model.specs.Classes.{access_of, admits, class_live, class_times, every_class}
 use Rattle.model.specs.Set.{settable}
 use Rattle.model.specs.Go.{live_of}
-use Rattle.model.specs.Laws.{listed_at, listed-length}
+use Rattle.model.proofs.Laws.{listed_at, listed-length}
 
 -- "Without it all classes pass."
 pub all_pass : (c : ℕ) → c < classes → admits every_class c ≡ true

@@ -8,7 +8,8 @@ use borrow.Author.Tests.{eq-eqb, le-leb, lt-ltb}
 use Rattle.std.proofs.Math.Dec.{leb}
 use Rattle.std.proofs.Math.IntN.{+ℤ_assoc, +ℤ_idl, +ℤ_invl, +ℤ-neg_ℤ_cancel, pos-+ℤ-pos}
 use Rattle.std.proofs.Math.Decide.{ℕ_discrete}
-use Rattle.graph.specs.Total.{Total, ◌≼◌, cond_some, cond_yes, none-some}
+use Rattle.graph.specs.Total.{Total, ◌≼◌}
+use Rattle.graph.proofs.Total.{cond_some, cond_yes, none-some}
 use Rattle.graph.specs.Delay.{Delays, Grown, Late, Raised}
 use Rattle.model.specs.Word.{closed_word, of_word}
 use Rattle.model.specs.Types.{Header, Lengths, LentLengths, NoClass, NoJunction, NoRoad, NoTarget, NotAllowed}
@@ -23,8 +24,8 @@ use Rattle.model.specs.Go.{go_refusal, live_of}
 use Rattle.model.specs.Preview.{change_of, preview_refusal, work_size}
 use Rattle.model.specs.Calls.{known_of}
 use Rattle.model.specs.Report.{Closes, Larger, Opens, Persists, Smaller}
-use Rattle.model.specs.Laws.{ask-pass}
-use Rattle.model.specs.Ends.{listed_same}
+use Rattle.model.proofs.Laws.{ask-pass}
+use Rattle.model.proofs.Ends.{listed_same}
 
 -- ---- changes as signed numbers
 

@@ -8,7 +8,7 @@ use Rattle.model.specs.State.{State}
 use Rattle.model.specs.Calls.{Go}
 use Rattle.model.specs.Report.{CanGo, Larger, LeftAccepted, Makes, Moves, Persists, Reports, Room, Smaller, TellsTotal, Within}
 use Rattle.model.specs.Report.{no_report, one_more}
-use Rattle.model.specs.ReportProof.{can_go_there, go_answers_there, room-there, set-live, set-target, tells-total, total_moves}
+use Rattle.model.proofs.ReportProof.{can_go_there, go_answers_there, room-there, set-live, set-target, tells-total, total_moves}
 use Rattle.model.specs.ReportProof.{total_at}
 
 -- ---- several reports
