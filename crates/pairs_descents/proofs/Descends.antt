@@ -253,8 +253,9 @@ module _ {n i : ℕ} {order pairs times d : List ℕ} where
       record { exact = λ l h lr hr w. sym (ap (set d (higher_in order pairs i)) (kept q w) ∙ set-get_or d (higher_in order pairs i) 0) }
     where
       kept : get_or d (lower_in order pairs i) 0 ≡ none_word → get_or d (higher_in order pairs i) 0 ≤ none_word
-          → min (get_or d (higher_in order pairs i) 0) (word (fit (of_word (down_in times i) ⊕ of_word (get_or d (lower_in order pairs i) 0)))) ≡
-          get_or d (higher_in order pairs i) 0
+          → min (get_or d (higher_in order pairs i) 0)
+          (word (fit (of_word (down_in times i) ⊕ of_word (get_or d (lower_in order pairs i) 0))))
+          ≡ get_or d (higher_in order pairs i) 0
       kept q w = rw (q, of_word-none, ⊕-none) (omega arith)
 
   -- best, time and rest are read as times, v is stored

@@ -97,8 +97,8 @@ module _ {M : Map} {n : ℕ} {order pairs times : List ℕ} {count : ℕ} (o : H
 
       -- one that does gives its up time plus the estimate of its high, and what is above that is filled
       risen_take : {v best' : ℕ} {z : List ℕ} → k < count → Leads n r (low_in pairs k) (high_in pairs k) (up_in times k)
-          → Climbed n order pairs times count down e z (high_in pairs k) v → best' ≡ min best (word (fit (of_word (up_in times k) ⊕ of_word v)))
-          → Risen M t r (suc k) down e₀ z best'
+          → Climbed n order pairs times count down e z (high_in pairs k) v
+          → best' ≡ min best (word (fit (of_word (up_in times k) ⊕ of_word v))) → Risen M t r (suc k) down e₀ z best'
       risen_take {v} {best'} {z} l f c b = record {
         best-is = b ∙ ap₂ min w.best-is (ap (λ (y : Total). word (fit y)) sum)
             ∙ fit-min (least_below M t r k) (over M t r k)

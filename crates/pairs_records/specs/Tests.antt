@@ -122,7 +122,8 @@ module _ {pairs : List ℕ} {count r base size : ℕ} (left : Left pairs count r
         → (Ascending pairs count → (i : ℕ) → base + p + (size - 3 * q) ≤ i → i < count → r ≤ low_in pairs i) → Next p
     by p h f g = record { fits = omega (arith, h, q-is, left.fits); before = f; onward = g }
 
-    up : (p u : ℕ) → u < base + size → base + p ≤ u → low_in pairs u < r → Ascending pairs count → (i : ℕ) → i < base + p → low_in pairs i < r
+    up : (p u : ℕ) → u < base + size → base + p ≤ u → low_in pairs u < r → Ascending pairs count → (i : ℕ) → i < base + p
+        → low_in pairs i < r
     up p u h l b s i k = omega (arith, b, s i u (omega (arith, k, l)) (omega (arith, h, left.fits)))
 
     down : (p v : ℕ) → v ≤ base + p + (size - 3 * q) → r ≤ low_in pairs v → Ascending pairs count → (i : ℕ) → base + p + (size - 3 * q) ≤ i

@@ -104,5 +104,6 @@ walk_pairs-loop-k-preserved t c =
     record { low-is = c.low_of-low.ensures; high_is = c.high_of-high.ensures; up_is = c.up_of-up.ensures } in record {
       to-go = omega (arith, c.loop-k-test.true);
       length-kept = c.loop-k.invariant.length-kept;
-      walked = walk_skip c.requires.rank_in c.loop-k.invariant.walked c.loop-k-test.true read (sym c.leads_up.ensures ∙ c.if-leads_up.false);
+      walked = walk_skip c.requires.rank_in c.loop-k.invariant.walked c.loop-k-test.true read
+          (sym c.leads_up.ensures ∙ c.if-leads_up.false);
     }
