@@ -23,7 +23,8 @@ pub record Walking (N : Network) (n c₀ : ℕ) (ups₀ downs₀ touched₀ : Li
 
 abbrev pub invariant-loop-c : goal.invariant-loop-c
 invariant-loop-c l =
-    Walking (net_in l.roads l.ranks) (length l.ranks) l.initial.c l.initial.ups l.initial.downs l.initial.touched l.c l.ups l.downs l.touched
+    Walking (net_in l.roads l.ranks) (length l.ranks) l.initial.c l.initial.ups l.initial.downs l.initial.touched l.c l.ups l.downs
+    l.touched
 
 abbrev pub decreases-loop-c : goal.decreases-loop-c
 decreases-loop-c l =
