@@ -31,7 +31,7 @@ use Rattle.search_junctions.specs.State.{Given, Ready, go_given, map_given}
 use Rattle.search_junctions.specs.Facts.{codes}
 use Rattle.search_run.specs.Runs.{Advanced, Advances, BlankRoom, Within, Written, back_in}
 use Rattle.search.specs.Searches.{AsLeft, FindsBoth, FindsTotal, Searches, at_times, seen_by}
-use Rattle.search.proofs.Answers.{answer-found, answer-lost, answer-total, routed}
+use Rattle.search.proofs.Answers.{answer-found, answer-lost, routed}
 
 -- a room that is made for k junctions is blank, and large enough for n of them
 pub blank-room : (k : ℕ) {n : ℕ} → n ≤ k → BlankRoom n (replicate (3 * k) blank_word)
