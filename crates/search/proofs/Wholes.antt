@@ -115,7 +115,8 @@ module _ {n : ℕ} (work : List ℕ) (twice : length work ≡ work_size n) where
       length (take (length back - n) (drop n back)) ≡ n
   second_half half kept =
       let back = half ++ drop n work in
-      let long : length back ≡ work_size n = length-append half (drop n work) ∙ omega (arith, kept, first_half, length-drop n work, twice) in
+      let long : length back ≡ work_size n =
+      length-append half (drop n work) ∙ omega (arith, kept, first_half, length-drop n work, twice) in
       let rest = length-drop n back in
       length-take-le (length back - n) (drop n back) (omega (arith, rest)) ∙ omega (arith, long)
 
