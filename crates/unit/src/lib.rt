@@ -30,7 +30,7 @@ pub struct Answered {
 }
 
 // What a list of stops hands back.
-#[derive(Clone, Copy)]
+#[derive(Drop)]
 pub struct Stopped {
     pub header: Header,
     pub answer: Stopping,

@@ -59,7 +59,7 @@ pub struct UnitAnswer {
 // What a list of stops hands back. `question` and `leg` are 0, or the number of the refusal and the leg that 17 names; `legs` is their
 // number, `whole` the whole total, `totals` and `roads` each leg's. What does not apply is 0.
 #[repr(C)]
-#[derive(Clone, Copy)]
+#[derive(Drop)]
 pub struct UnitStops {
     pub header: UnitHeader,
     pub question: u32,

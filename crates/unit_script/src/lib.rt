@@ -219,7 +219,7 @@ const LEG_WORDS: usize = 2;
 const ANSWER_SIZE: usize = 4 + LEG_WORDS * MOST_LEGS;
 
 // What a call hands back: the header, and its answer as words.
-#[derive(Clone, Copy)]
+#[derive(Drop)]
 struct Made {
     header: Header,
     one: u64,
