@@ -27,6 +27,8 @@ search-new-requires c =
       log-long = long_enough c.requires.within kept.log;
     }
 
+-- The second search starts from the estimates that the first one left, each of them unasked or filled; so its total is that of its own
+-- times, and both together fill what either asks.
 pub returns : goal.returns
 returns c =
     finds_both (total_of_lem c.search-present.ensures) (total_of_lem c.search-new.ensures)
