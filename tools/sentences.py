@@ -41,8 +41,9 @@ CHANGED = (r'base time in seconds', r'\b1,000,000\b', r'4,095,000,000', r'4,294,
            r'at most (?:the number of|those) junctions', r'on equal keys the smaller', r'live time isn.t closed', r'16,000 words', r'a signed number of seconds')
 
 # words of Rattle, of antt, of the kit and of the commands: no name of ours
-FOREIGN = set('''eqb ltb leb not cond none some replicate getD take drop length min abbrev unfoldable unfolding use data record
+FOREIGN = set('''eqb ltb leb not cond none some replicate get_or take drop length min abbrev unfoldable unfolding use data record
     requires ensures rt cc tried repeats'''.split())
+NAME = r"[\w'-]*[^\W\d][\w'-]*"
 TOP = ('c', 'crates', 'docs', 'examples', 'rust', 'target', 'tools')
 KIT = ('bytes', 'io', 'libc', 'os', 'std')
 
@@ -129,7 +130,7 @@ def sentence(block):
     for words in CHANGED:
         if re.search(words, said):
             yield None if re.search(r'\bsince A\d', held) else f'document 02 has changed "{re.search(words, said).group(0)}": since when is not said'
-    for word in re.findall(r'`([\w·-]+)`', ' '.join(re.findall(r'\(`[^)]*\)', held))):
+    for word in re.findall(r"`([\w'-]+)`", ' '.join(re.findall(r'\(`[^)]*\)', held))):
         yield None if word in FOREIGN or anywhere(word) else f'{word} is declared nowhere'
     held = re.sub(r'\(`[^)]*\)', '', held)
     place = None
@@ -138,7 +139,7 @@ def sentence(block):
             place = word
             if not all(map(os.path.exists, place_files(place) or ['-'])):
                 yield 'no such place: ' + place
-        elif place is not None and re.fullmatch(r'[\w·-]+', word) and word not in FOREIGN:
+        elif place is not None and re.fullmatch(r"[\w'-]+", word) and word not in FOREIGN:
             if any(declared(word, file) for file in place_files(place) if os.path.isfile(file)):
                 yield None
             else:
@@ -181,14 +182,16 @@ def of_code(owner, name):
         if name == '*':
             return any('pub fn' in read(file) for file in sources)
         return any(re.search(rf'(?:fn|const|struct|enum) {name}\b', read(file)) for file in sources)
-    blocks = [block for file in files_of('crates/*/src/*.rt') for block in re.findall(rf'^impl {owner} \{{.*?^\}}', read(file), re.M | re.S)]
+    blocks = [block for file in files_of('crates/*/src/*.rt')
+              for block in re.findall(rf'^impl(?:<[^{{]*?>)? (?:[^{{]* for )?{owner}(?:<[^{{]*>)? \{{.*?^\}}', read(file), re.M | re.S)]
     return any(re.search(rf'(?:fn|const) {name}\b', block) for block in blocks)
 
 
 @functools.lru_cache(maxsize=None)
 def anywhere(name):
     """Is the name declared in the tree, or is it that of a crate, a file or an edit?"""
-    if os.path.isdir(f'crates/{name}') or files_of(f'crates/*/*/{name}.*', f'tools/{name}', f'tools/{name}.*', f'rust/**/{name}.rs'):
+    inside = [f'crates/*/{part}/{name}.*' for part in ('src', 'specs', 'proofs', 'must-fail', 'tried', 'data')]
+    if os.path.isdir(f'crates/{name}') or files_of(*inside, f'tools/{name}', f'tools/{name}.*', f'rust/**/{name}.rs'):
         return True
     every = files_of('crates/*/specs/*.antt', 'crates/*/proofs/**/*.antt', 'crates/*/src/*.rt', 'rust/**/*.rs')
     return any(declared(name, file) for file in every)
@@ -225,7 +228,7 @@ def names(text):
                 if place.endswith('.rt'):
                     yield number, None if declared(word, place) else f'{word} is not in {place}'
         plain = re.sub(r'\(`[^)]*\)', '', cells[1]) if places else line
-        for word in re.findall(r'`([\w·′-]*[^\W\d][\w·′-]*)`', ' '.join(re.findall(r'\(`[^)]*\)', cells[1])) if places else ''):
+        for word in re.findall(rf'`({NAME})`', ' '.join(re.findall(r'\(`[^)]*\)', cells[1])) if places else ''):
             yield number, None if word in FOREIGN or anywhere(word) else f'{word} is declared nowhere'
         for word in re.findall(r'`([^`]+)`', plain):
             if re.fullmatch(r'\w+/\w[\w-]*', word) and word.split('/')[0] not in TOP:
@@ -236,7 +239,7 @@ def names(text):
                 yield number, None if of_code(*word.split('::')) else f'{word} is in no code'
             elif re.fullmatch(r'[A-Z]\w*\.[\w-]+', word):
                 yield number, None if qualified(*word.split('.')) else f'{word} is declared nowhere'
-            elif re.fullmatch(r'[\w·′-]*[^\W\d][\w·′-]*', word) and word not in FOREIGN:
+            elif re.fullmatch(NAME, word) and word not in FOREIGN:
                 if places:
                     code = files_of(*(os.path.dirname(os.path.dirname(place)) + '/src/*.rt' for place in places))
                     good = any(declared(word, place) for place in [*places, *code] if os.path.isfile(place))
@@ -315,16 +318,16 @@ def links(file, text):
 
 
 def paths(text):
-    """Of each path of the repository: what is wrong with it, None if it is there."""
+    """Of each path of the repository: what is wrong with it, None if it is there. What rt makes in a crate's out/ may not be there yet."""
     for found in re.finditer(r'(?<![\w./(-])((?:crates|docs|tools|rust|c|examples|\.ci)/[\w./-]*\w)', text):
-        path = found.group(1)
+        path = re.sub(r'^(crates/\w+)/out(/.*)?$', r'\1', found.group(1))
         if not PLACEHOLDER.search(path):
             yield text.count('\n', 0, found.start()) + 1, None if os.path.exists(path) else f'no such file: {path}'
 
 
 def commands(text):
     """Of each crate that a command is given: what is wrong with it, None if there is one."""
-    for found in re.finditer(r'\b(?:rt (?:dev|check|prove|must-fail|goals|mir|try|staticlib)|tools/(?:tried|mutate))((?: [a-z]\w*)+)', text):
+    for found in re.finditer(r'\b(?:rt (?:check|verdict|lib|run|test|try|ci|must-fail|plant|tidy|expand)|tools/(?:tried|mutate))((?: [a-z]\w*)+)', text):
         before = text[:found.start()]
         if before.count('`') % 2 or before.split('\n')[-1].startswith('    '):
             for crate in found.group(1).split():
@@ -365,7 +368,7 @@ def calls():
 
 
 def areas():
-    return len(re.search(r'^abbrev pub areasOf : .*?\((.*?) : A\)', read('crates/model/specs/Areas.antt'), re.M).group(1).split())
+    return len(re.search(r'^abbrev pub areas_of : .*?\((.*?) : A\)', read('crates/model/specs/Areas.antt'), re.M).group(1).split())
 
 
 def answers(form):
@@ -430,15 +433,27 @@ def counts():
 TOKEN = re.compile(r'[^\s(){};,"]+')
 
 
+def words_of(text):
+    """The words of a text, each once: a projection is written tight, so of `goes.total` also `goes`."""
+    found = dict.fromkeys(TOKEN.findall(text))
+    return [*found, *dict.fromkeys(word.partition('.')[0] for word in found if '.' in word)]
+
+
+def bare(name):
+    """A name without the holes of an operator."""
+    return name.strip('◌') or name
+
+
 @functools.lru_cache(maxsize=None)
 def imported(file):
     """Of each name that a file takes from specs of ours, the file and the name there; and the files that it names as a whole."""
     found, whole = {}, {}
-    for crate, there, listed, alias in re.findall(r'^(?:ghost |pub )*use Rattle·(\w+?)(?:·specs)?\.specs\.([\w-]+)(?:\.\{(.*)\}| as ([\w-]+));?$', read(file), re.M):
+    for crate, there, listed, alias in re.findall(r'^(?:ghost |pub )*use Rattle\.(\w+)\.specs\.([\w-]+)(?:\.\{([^}]*)\}| as ([\w-]+));?$', read(file), re.M):
         if alias:
             whole[alias] = spec(crate, there)
-        for name in filter(None, listed.split(', ')):
-            found[name.strip('_') or name] = (spec(crate, there), name.strip('_') or name)
+        for item in filter(None, map(str.split, listed.split(','))):
+            # `name`, or `name as another`
+            found[bare(item[-1])] = (spec(crate, there), bare(item[0]))
     return found, whole
 
 
@@ -449,7 +464,7 @@ def definitions(file):
     for block in re.split(r'\n\s*\n', read(file)):
         if re.search(r'^(?:abbrev|unfoldable|pub record|pub data|record|data) ', block, re.M):
             text = re.sub(r'^ *--.*$', '', block, flags=re.M)
-            found.append((frozenset(name.strip('_') or name for name in re.findall(
+            found.append((frozenset(bare(name) for name in re.findall(
                 r'^ *(?:abbrev |unfoldable )?(?:pub )?(?:record |data )?([^\s:({]+)(?= )', text, re.M)), text))
     return found
 
@@ -457,12 +472,12 @@ def definitions(file):
 def cited(text, file):
     """What a text of the file cites: files with names."""
     found, whole = imported(file)
-    for word in TOKEN.findall(text):
+    for word in words_of(text):
         owner, _, name = word.partition('.')
         if word in found:
             yield found[word]
         elif name and owner in whole:
-            yield whole[owner], name
+            yield whole[owner], name.partition('.')[0]
 
 
 def contracts():
@@ -481,7 +496,7 @@ def believed():
             if name in own and text not in found.setdefault(file, set()):
                 found[file].add(text)
                 left += cited(text, file)
-                left += [(file, word) for word in set(TOKEN.findall(text)) - own for others, _ in definitions(file) if word in others]
+                left += [(file, word) for word in set(words_of(text)) - own for others, _ in definitions(file) if word in others]
     return found
 
 
