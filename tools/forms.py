@@ -16,7 +16,7 @@ import sys
 
 ROOT = os.path.dirname(os.path.dirname(os.path.abspath(__file__)))
 
-Function = collections.namedtuple('Function', 'crate owner name public parameters result contract')
+Function = collections.namedtuple('Function', 'crate owner name public generic parameters result contract')
 
 BUILT = 'card ranks pairs times leaving groups'
 
@@ -142,7 +142,8 @@ def functions(crate, source):
         told = code[end + 1:body_at(code, end + 1)]
         result, contract = re.match(r'\s*(?:->\s*(.*?))?\s*(' + CLAUSE + r'.*)?$', told, re.S).groups()
         owner = [name for start, stop, name in blocks if start < found.start() < stop]
-        yield Function(crate, owner[0] if owner else '', found.group(2), bool(found.group(1)),
+        generic = re.findall(r'[<,]\s*(\w+)\s*[:,>]', code[found.end():begin])
+        yield Function(crate, owner[0] if owner else '', found.group(2), bool(found.group(1)), generic,
                        {name.strip(): kind.strip() for name, kind in parameters}, result or '', contract or '')
 
 
@@ -237,8 +238,9 @@ def converted(all_functions):
 
 
 def narrow(all_functions):
+    """What is lent under a type parameter, as the program's input and output, is no slice."""
     for f in all_functions:
-        number = len(of_mode(f, 'written'))
+        number = sum(re.sub(r"^&(?:'\w+ )?mut ", '', f.parameters[name]) not in f.generic for name in of_mode(f, 'written'))
         if number > MOST_WRITTEN:
             yield f'{path(f)} is lent {number} slices to be written; at most {MOST_WRITTEN}'
 
