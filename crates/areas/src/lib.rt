@@ -1,4 +1,6 @@
 // Areas filled with one word.
+#![tactic(auto)]
+
 ghost use Rattle.std.specs.Prelude.{◌≡◌, length, replicate};
 
 use network::TimeWord;

@@ -18,7 +18,7 @@ use Rattle.model.specs.State.{Lent, Step, answering, leaving}
 use Rattle.model.specs.Aim.{aim_refusal}
 use Rattle.model.specs.Calls.{Aim, calling}
 use Rattle.model.specs.Promises.{CallContract, after, before}
-use Rattle.model.specs.Laws.{ask-none}
+use Rattle.model.proofs.Laws.{ask-none}
 use Rattle.model.specs.Good.{Good}
 use Rattle.network.specs.declared.Junction.{Junction}
 use Rattle.unit_answers.specs.declared.Answer.TheVariants as answers

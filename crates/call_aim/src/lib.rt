@@ -1,4 +1,6 @@
 // An aim: its questions, the down totals of the target, every estimate unasked.
+#![tactic(auto)]
+
 ghost use Rattle.std.specs.Prelude.{◌≡◌, ℕ};
 ghost use Rattle.graph.specs.Total.{Total};
 ghost use Rattle.model.specs.Calls.{Aim};
@@ -15,7 +17,7 @@ use unit_answers::Answer;
 use unit_questions::Lengths;
 
 // What an aim hands back: the target in force, and its answer.
-#[derive(Drop)]
+#[derive(Clone, Copy)]
 pub struct Aimed {
     pub target: Target,
     pub answer: Answer,

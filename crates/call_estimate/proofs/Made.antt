@@ -16,7 +16,7 @@ use Rattle.model.specs.Machine.{is_at, target_of}
 use Rattle.model.specs.Estimate.{EstimateWrites, estimate_refusal, with_estimates}
 use Rattle.model.specs.Calls.{Estimate, calling, made}
 use Rattle.model.specs.Promises.{CallContract, after, before}
-use Rattle.model.specs.Laws.{ask-none}
+use Rattle.model.proofs.Laws.{ask-none}
 use Rattle.model.specs.Good.{Good}
 use Rattle.network.specs.declared.Time.{Time}
 use Rattle.unit_answers.specs.declared.Answer.TheVariants as answers

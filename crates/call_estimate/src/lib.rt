@@ -1,4 +1,6 @@
 // An estimate: its questions, and the value with those that it fills.
+#![tactic(auto)]
+
 ghost use Rattle.std.specs.Prelude.{◌≡◌, ℕ};
 ghost use Rattle.graph.specs.Total.{Total};
 ghost use Rattle.model.specs.Calls.{Estimate};

@@ -7,7 +7,8 @@ use Prim.Native.Nat.{◌≤◌, ℕ}
 use borrow.Author.Tests.{leb-true, ltb-true}
 use lib.Dec.{leb, ltb}
 use lib.ListN.{length}
-use Rattle.graph.specs.Total.{Total, and_true}
+use Rattle.graph.specs.Total.{Total}
+use Rattle.graph.proofs.Total.{and_true}
 use Rattle.graph.specs.Search.{Problem, count_of, history, log_of, route_of, time_in, total_of, vertices}
 use Rattle.graph.specs.Map.{Map}
 use Rattle.model.specs.Types.{Answer, Header, LentLengths, NoClass, NoJunction, NoTarget}
@@ -23,7 +24,7 @@ use Rattle.model.specs.Estimate.{filled, with_estimates}
 use Rattle.model.specs.Go.{asks, go_answer, go_at, go_made, go_refusal, go_route, search_of}
 use Rattle.model.specs.Calls.{Go, go_call}
 use Rattle.model.specs.Promises.{CallContract, after, before}
-use Rattle.model.specs.Laws.{ask-none, kept_refl}
+use Rattle.model.proofs.Laws.{ask-none, kept_refl}
 use Rattle.model.specs.Good.{Good}
 use Rattle.unit_answers.specs.Shape.{answer_in}
 use Rattle.unit_answers.specs.declared.Answer as code-answer

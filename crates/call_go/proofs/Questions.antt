@@ -9,7 +9,8 @@ use lib.Dec.{eqb, leb, ltb}
 use Rattle.graph.specs.Total.{Total}
 use Rattle.model.specs.Types.{Gone, Header, Lengths, LentLengths, NoClass, NoJunction, NoPath, NoTarget, Refusal, Refused}
 use Rattle.model.specs.Limits.{classes}
-use Rattle.model.specs.Word.{none_word, of_word, of_word-none}
+use Rattle.model.specs.Word.{none_word, of_word}
+use Rattle.model.proofs.Word.{of_word-none}
 use Rattle.model.specs.Card.{and_then, ask}
 use Rattle.model.specs.Areas.{Each}
 use Rattle.model.specs.Machine.{is_at, target_of}

@@ -1,4 +1,6 @@
 // A go: its questions, its search, its answer.
+#![tactic(auto)]
+
 ghost use Rattle.std.specs.Prelude.{◌≡◌, ℕ};
 ghost use Rattle.graph.specs.Total.{Total};
 ghost use Rattle.model.specs.Word.{of_word};

@@ -26,8 +26,9 @@ use Rattle.model.specs.Go.{search_of}
 use Rattle.model.specs.Preview.{WorkLeft, change_of, either_asks, preview_answer, preview_at, preview_made, preview_refusal, work_size}
 use Rattle.model.specs.Calls.{Preview, calling, known_of}
 use Rattle.model.specs.Promises.{CallContract, after, base_on, before}
-use Rattle.model.specs.Laws.{and_then-none, ask-none, kept_refl}
-use Rattle.model.specs.Good.{Good, met-good, set-good}
+use Rattle.model.proofs.Laws.{and_then-none, ask-none, kept_refl}
+use Rattle.model.specs.Good.{Good}
+use Rattle.model.proofs.Good.{met-good, set-good}
 use Rattle.unit_answers.specs.Signed.{held, held-is}
 use Rattle.unit_answers.specs.Shape.{answer_in}
 use Rattle.unit_answers.specs.declared.Answer as code-answer

@@ -1,4 +1,6 @@
 // A preview: its questions, its two searches, its answer.
+#![tactic(auto)]
+
 ghost use Rattle.std.specs.Prelude.{◌≡◌};
 ghost use Rattle.model.specs.Card.{and_then};
 ghost use Rattle.model.specs.Calls.{Preview};

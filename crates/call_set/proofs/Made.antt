@@ -13,7 +13,7 @@ use Rattle.model.specs.State.{Lent}
 use Rattle.model.specs.Set.{set_refusal}
 use Rattle.model.specs.Calls.{Set, calling, made}
 use Rattle.model.specs.Promises.{CallContract, after, before}
-use Rattle.model.specs.Laws.{ask-none}
+use Rattle.model.proofs.Laws.{ask-none}
 use Rattle.unit_answers.specs.declared.Answer.TheVariants as answers
 use Rattle.calls.specs.Shape.{Handed, Held, answered_in, header_in}
 use Rattle.calls.specs.Meets.{with_live}

@@ -1,4 +1,6 @@
 // A set: its questions, and one live time written.
+#![tactic(auto)]
+
 ghost use Rattle.std.specs.Prelude.{◌≡◌, ◌*◌, length};
 ghost use Rattle.model.specs.Layout.{road_size, roads_in};
 ghost use Rattle.model.specs.Set.{set_refusal};

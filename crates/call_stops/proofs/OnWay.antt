@@ -15,20 +15,24 @@ use Rattle.graph.specs.Network.{Arc}
 use Rattle.graph.specs.Bound.{CostsAtMost}
 use Rattle.graph.specs.Search.{route_of, total_of}
 use Rattle.graph.specs.Stops.{Below}
-use Rattle.graph.specs.Map.{Map, live_net, time_of-bound}
-use Rattle.model.specs.Word.{of_word-some, unasked}
+use Rattle.graph.specs.Map.{Map, live_net}
+use Rattle.graph.proofs.Map.{time_of-bound}
+use Rattle.model.specs.Word.{unasked}
+use Rattle.model.proofs.Word.{of_word-some}
 use Rattle.model.specs.Types.{Accepted, Answer, Estimated, Gone, Leg, NoLeg, Previewed, Refused, Stopped}
 use Rattle.model.specs.Limits.{most_stops, most_time, most_total}
-use Rattle.model.specs.LimitLaws.{totals_fit}
+use Rattle.model.proofs.LimitLaws.{totals_fit}
 use Rattle.model.specs.Classes.{class_times}
 use Rattle.model.specs.Card.{CardMap, card_map, map_on}
 use Rattle.model.specs.State.{Lent, State, Step, answering}
 use Rattle.model.specs.Go.{go_answer, live_of, search_of}
 use Rattle.model.specs.Stops.{Journey, journey, leg_made, past, stops_answer, stops_made, whole_of, with_leg}
 use Rattle.model.specs.Calls.{Left}
-use Rattle.model.specs.Accept.{card-facts}
-use Rattle.model.specs.Good.{Good, StopsPassed, aim-good, leg-good, met-good, settable-most}
-use Rattle.model.specs.GoProof.{SameLengths, go-lengths, route-short, total-is}
+use Rattle.model.proofs.Accept.{card-facts}
+use Rattle.model.specs.Good.{Good, StopsPassed}
+use Rattle.model.proofs.Good.{aim-good, leg-good, met-good, settable-most}
+use Rattle.model.specs.GoProof.{SameLengths}
+use Rattle.model.proofs.GoProof.{go-lengths, route-short, total-is}
 use Rattle.network.specs.Width.{fit_in}
 use Rattle.call_stops.specs.Shape.{legs_from, sum_in}
 use Rattle.call_stops.proofs.OneLeg.{LegDone}

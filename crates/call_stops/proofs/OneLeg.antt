@@ -10,7 +10,8 @@ use borrow.Author.Tests.{le-leb, lt-ltb}
 use lib.ListN.{length}
 use native.Mathlib.Omega.{arith}
 use denote.Triple.Both.{Both}
-use Rattle.graph.specs.Total.{Tested, decide}
+use Rattle.graph.specs.Total.{Tested}
+use Rattle.graph.proofs.Total.{decide}
 use Rattle.model.specs.Types.{Answered, Header, Lengths, Refusal}
 use Rattle.model.specs.Limits.{classes}
 use Rattle.model.specs.Card.{card_map, map_on}
@@ -22,8 +23,9 @@ use Rattle.model.specs.Go.{go_made, go_refusal}
 use Rattle.model.specs.Stops.{leg_made}
 use Rattle.model.specs.Calls.{Aim, Call, Go, Left, Writes, asked_of, calling, refusal_by, step}
 use Rattle.model.specs.Promises.{CallContract, after, base_on, before, refusing}
-use Rattle.model.specs.Good.{Good, aim-good, good-fits, unless-none}
-use Rattle.model.specs.Chain.{left_step}
+use Rattle.model.specs.Good.{Good}
+use Rattle.model.proofs.Good.{aim-good, good-fits, unless-none}
+use Rattle.model.proofs.Chain.{left_step}
 use Rattle.call_stops.specs.Legs.{LegMade}
 
 -- ---- what stays: the header's numbers, what was built, the live times

@@ -22,7 +22,8 @@ use Rattle.model.specs.State.{Lent, State, answering}
 use Rattle.model.specs.Stops.{stops_refusal}
 use Rattle.model.specs.Calls.{Left, Stops, calling, known_of}
 use Rattle.model.specs.Promises.{after, before}
-use Rattle.model.specs.Good.{Good, StopsPassed, left-good, stops-passed}
+use Rattle.model.specs.Good.{Good, StopsPassed}
+use Rattle.model.proofs.Good.{left-good, stops-passed}
 use Rattle.model.specs.GoProof.{SameLengths}
 use Rattle.network.specs.Refusals.{refusal_in}
 use Rattle.network.specs.declared.Refusal.{Refusal}

@@ -9,7 +9,7 @@ use borrow.Author.Tests.{leb-true}
 use lib.Dec.{leb}
 use lib.ListN.{length}
 use native.Mathlib.Omega.{arith}
-use Rattle.graph.specs.Total.{and_true}
+use Rattle.graph.proofs.Total.{and_true}
 use Rattle.model.specs.Types as model
 use Rattle.model.specs.Limits.{fewest_stops, most_stops}
 use Rattle.model.specs.Areas.{Areas, Each, lengths}
@@ -17,7 +17,7 @@ use Rattle.model.specs.State.{Lent}
 use Rattle.model.specs.Stops.{stops_refusal}
 use Rattle.model.specs.Calls.{Stops, calling, refusal_by}
 use Rattle.model.specs.Promises.{base_on}
-use Rattle.model.specs.Laws.{ask-none}
+use Rattle.model.proofs.Laws.{ask-none}
 use Rattle.network.specs.Refusals.{verdict_in}
 use Rattle.network.specs.declared.Refusal.{Refusal}
 use Rattle.network.specs.declared.Verdict.{Verdict}

@@ -1,4 +1,6 @@
 // A list of stops of a class (document 02, A3 and A6): leg by leg an aim and a go.
+#![tactic(auto)]
+
 ghost use Rattle.std.specs.Prelude.{◌≡◌, ◌&&◌, ◌*◌, ◌+◌, ◌≤◌, min, ℕ, leb};
 ghost use Rattle.graph.specs.Total.{Total};
 ghost use Rattle.model.specs.Limits.{fewest_stops, most_stops};
@@ -29,7 +31,7 @@ pub struct Legs {
 }
 
 // A refusal, or the number of legs and the whole total.
-#[derive(Drop)]
+#[derive(Clone, Copy)]
 pub enum Stopping {
     Refused(Refusal),
     Stopped(u32, TimeWord),

@@ -1,14 +1,15 @@
 -- What a call may rely on once question 9 has passed. Assumes nothing.
 use Rattle.std.proofs.Common.{◌∙◌, ap, leb-true, arith}
 use Rattle.std.specs.Prelude.{◌≡◌, ◌&&◌, true, List, ◌*◌, ◌≤◌, ℕ, eqb, leb, length}
-use Rattle.graph.specs.Total.{and_true}
+use Rattle.graph.proofs.Total.{and_true}
 use Rattle.model.specs.Types.{Header}
 use Rattle.model.specs.Limits.{most_junctions, most_pairs, most_roads}
 use Rattle.model.specs.Layout.{access_fits, named, names, order_in, place_size, road_size, roads_in}
-use Rattle.model.specs.Accept.{names-length}
+use Rattle.model.proofs.Accept.{names-length}
 use Rattle.model.specs.Areas.{Areas, Each, lengths, lengths_fit}
 use Rattle.model.specs.State.{question9}
-use Rattle.model.specs.Good.{LengthFacts, lengths-facts}
+use Rattle.model.specs.Good.{LengthFacts}
+use Rattle.model.proofs.Good.{lengths-facts}
 use Rattle.search_junctions.specs.State.{Sized}
 use Rattle.unit_questions.specs.Lending.{fits_by}
 

@@ -2,7 +2,7 @@
 use Rattle.std.proofs.Common.{◌∙◌, ap, subst, sym}
 use Rattle.std.specs.Prelude.{◌≡◌, refl, true, List, ℕ}
 use Rattle.std.proofs.Math.Option.{none, some}
-use Rattle.graph.specs.Total.{true_false}
+use Rattle.graph.proofs.Total.{true_false}
 use Rattle.model.specs.Types as model
 use Rattle.model.specs.Types.{At, Header, Lengths, Target}
 use Rattle.model.specs.Card.{ask, map_on}
@@ -11,7 +11,7 @@ use Rattle.model.specs.State.{Lent, State}
 use Rattle.model.specs.Machine.{is_at, target_of}
 use Rattle.model.specs.Calls.{Asked, Call, calling, known_of, refusal_by, refusal_of}
 use Rattle.model.specs.Promises.{CallContract, after, base_on, before}
-use Rattle.model.specs.Laws.{ask-none}
+use Rattle.model.proofs.Laws.{ask-none}
 use Rattle.model.specs.Good.{AimFacts, Aims, Good}
 use Rattle.network.specs.Refusals.{refusal_in, verdict_in}
 use Rattle.network.specs.declared.Refusal as code

@@ -5,7 +5,8 @@ use Rattle.std.proofs.Math.Path.{ap, refl, subst, sym}
 use Rattle.std.proofs.Math.Bool.{true}
 use Rattle.std.proofs.Math.Option.{Option, none, some}
 use Rattle.std.proofs.Math.Decide.{dec_lt}
-use Rattle.graph.specs.Total.{Tested, and_true, decide, none-some, some-some, true_false}
+use Rattle.graph.specs.Total.{Tested}
+use Rattle.graph.proofs.Total.{and_true, decide, none-some, some-some, true_false}
 use Rattle.model.specs.Types.{Header, Lengths, Refusal}
 use Rattle.model.specs.Card.{and_then, ask, card_map, map_on}
 use Rattle.model.specs.Areas.{Areas, lengths}
@@ -18,8 +19,9 @@ use Rattle.model.specs.Preview.{preview_refusal, work_size}
 use Rattle.model.specs.Stops.{stops_refusal}
 use Rattle.model.specs.Calls.{Aim, Asked, Call, Estimate, Go, Left, Preview, Set, Stops, Writes, calling, known_of, made, refusal_by, step}
 use Rattle.model.specs.Promises.{CallContract, base_on, before, refusing}
-use Rattle.model.specs.Good.{Good, left-good, left-usable, zero-refused}
-use Rattle.model.specs.Chain.{step-lengths}
+use Rattle.model.specs.Good.{Good}
+use Rattle.model.proofs.Good.{left-good, left-usable, zero-refused}
+use Rattle.model.proofs.Chain.{step-lengths}
 use Rattle.unit_questions.specs.Lending.{fits_by}
 use Rattle.calls.specs.Roads.{good-base}
 

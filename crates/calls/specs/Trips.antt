@@ -3,9 +3,11 @@
 use Rattle.std.proofs.Common.{◌∙◌, ap, subst, subst₂, sym, inl, inr, ltb-false, ltb-true, arith}
 use Rattle.std.specs.Prelude.{◌≡◌, refl, ◌⊎◌, Bool, false, true, List, ◌<◌, ◌≤◌, ℕ, ltb, length}
 use Rattle.std.proofs.Math.Option.{Option, none, some}
-use Rattle.graph.specs.Total.{Total, some-some}
+use Rattle.graph.specs.Total.{Total}
+use Rattle.graph.proofs.Total.{some-some}
 use Rattle.model.specs.Types.{Header, Lengths, Refusal}
-use Rattle.model.specs.Word.{none_word, of_word, of_word-word, word}
+use Rattle.model.specs.Word.{none_word, of_word, word}
+use Rattle.model.proofs.Word.{of_word-word}
 use Rattle.model.specs.Limits.{most_total}
 use Rattle.model.specs.Layout.{access_in, order_in, roads_in}
 use Rattle.model.specs.Classes.{access_of, class_times}
@@ -15,9 +17,10 @@ use Rattle.model.specs.State.{Lent}
 use Rattle.model.specs.Machine.{is_at, target_of}
 use Rattle.model.specs.Calls.{Asked, Writes, calling, refusal_by}
 use Rattle.model.specs.Promises.{CallContract, after, base_on, before, refusing}
-use Rattle.model.specs.Laws.{and_then-none, ask-none}
-use Rattle.model.specs.ClassLaws.{times-length}
-use Rattle.model.specs.Good.{Good, met-good, met_times}
+use Rattle.model.proofs.Laws.{and_then-none, ask-none}
+use Rattle.model.proofs.ClassLaws.{times-length}
+use Rattle.model.specs.Good.{Good, met_times}
+use Rattle.model.proofs.Good.{met-good}
 use Rattle.network.specs.Refusals.{refusal_in, verdict_in}
 use Rattle.network.specs.declared.Refusal as code
 use Rattle.network.specs.declared.Verdict.{Verdict}

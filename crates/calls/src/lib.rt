@@ -1,4 +1,6 @@
 // What the calls share: the target, question 9, question 13.
+#![tactic(auto)]
+
 ghost use Rattle.std.specs.Prelude.{◌≡◌};
 ghost use Rattle.model.specs.Machine.{is_at, target_of};
 ghost use Rattle.unit_questions.specs.Lending.{fits_by, lengths_in};
@@ -9,7 +11,7 @@ use network::{Junction, Sizes};
 use unit_questions::Lengths;
 
 // The junction that was aimed at last.
-#[derive(Drop)]
+#[derive(Clone, Copy)]
 pub enum Target {
     At(Junction),
     Absent,

@@ -9,10 +9,11 @@ use lib.Dec.{leb}
 use lib.ListN.{length}
 use native.Mathlib.Omega.{arith}
 use Rattle.model.specs.Types.{Kinds, Read, Refusal, Short, Sizes, Starts, Unreadable}
-use Rattle.model.specs.Layout.{Section, access_fits, count_size, order_in, place_size, road_size, roads_in, roads_kind, sections, sections_from}
-use Rattle.model.specs.Layout.{table_size}
+use Rattle.model.specs.Layout.{Section, access_fits, count_size, order_in, place_size, road_size, roads_in, roads_kind}
+use Rattle.model.specs.Layout.{sections, sections_from, table_size}
 use Rattle.model.specs.Card.{ask, bodies_refusal, card_refusal, count_ok, kinds_ok, map_on, read_card, reading, rows_of, starts_ok}
-use Rattle.model.specs.Accept.{SizesFacts, rows-facts, sizes-facts}
+use Rattle.model.specs.Accept.{SizesFacts}
+use Rattle.model.proofs.Accept.{rows-facts, sizes-facts}
 use Rattle.card_sections.proofs.Roads.{arcs, junctions}
 
 -- a question that passes leaves the rest, and one that does not refuses

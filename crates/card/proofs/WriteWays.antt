@@ -10,8 +10,8 @@ use native.Mathlib.Omega.{arith}
 use Rattle.model.specs.Types.{Accepted, AreaLengths, Refusal, Refused}
 use Rattle.model.specs.Layout.{card_size, road_size, row_size, size_with}
 use Rattle.model.specs.Card.{card_of, map_refusal, write_refusal}
-use Rattle.model.specs.Accept.{rows-facts, sizes-facts}
-use Rattle.model.specs.CardBack.{card-length, write_contract}
+use Rattle.model.proofs.Accept.{rows-facts, sizes-facts}
+use Rattle.model.proofs.CardBack.{card-length, write_contract}
 use Rattle.model.specs.Promises.{WriteContract}
 use Rattle.card_writer.specs.Lent.{Short, rows_of}
 

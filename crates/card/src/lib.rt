@@ -1,18 +1,20 @@
 // The card: reading it by questions 1 to 6, and writing it by questions 4 to 7.
+#![tactic(auto)]
+
 ghost use Rattle.model.specs.Promises.{ReadContract, WriteContract};
 ghost use Rattle.card.specs.Answers.{reading_in, rows_of, writing_in};
 
 use network::{Refusal, Verdict};
 
 // What reading answers: n and m, or a refusal.
-#[derive(Drop)]
+#[derive(Clone, Copy)]
 pub enum Reading {
     Unreadable(Refusal),
     Read(u32, u32),
 }
 
 // What writing answers.
-#[derive(Drop)]
+#[derive(Clone, Copy)]
 pub enum Writing {
     Refused(Refusal),
     Accepted,

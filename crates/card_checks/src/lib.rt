@@ -1,4 +1,6 @@
 // Questions 2 to 6: what is asked of the entries of a card, and what its bodies and the rows of a map share.
+#![tactic(auto)]
+
 ghost use Rattle.std.specs.Prelude.{◌≡◌, ◌&&◌, cond, ◌≤◌, eqb, ltb, get_or, length, set};
 ghost use Rattle.model.specs.Layout.{roads_kind, sections, sections_from, table_size};
 ghost use Rattle.model.specs.Card.{count_ok, kinds_ok, road_fits, sizes_ok, starts_ok};

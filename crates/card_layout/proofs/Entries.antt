@@ -10,10 +10,12 @@ use lib.Dec.{eqb, leb, ltb}
 use lib.ListN.{get_or-eq_default, drop, get_or, length, take}
 use native.Mathlib.Nat.{add-sub_cancel_left}
 use native.Mathlib.Omega.{arith}
-use Rattle.graph.specs.Total.{Tested, and_true, decide, true_false}
+use Rattle.graph.specs.Total.{Tested}
+use Rattle.graph.proofs.Total.{and_true, decide, true_false}
 use Rattle.model.specs.Bytes.{word_at}
-use Rattle.model.specs.Layout.{Section, access_fits, body, body_at, entry_at, entry_of, has_entry, names, part_of, section, sections, table_size}
-use Rattle.model.specs.Laws.{true_and}
+use Rattle.model.specs.Layout.{Section, access_fits, body, body_at, entry_at, entry_of, has_entry, names}
+use Rattle.model.specs.Layout.{part_of, section, sections, table_size}
+use Rattle.model.proofs.Laws.{true_and}
 use Rattle.card_layout.specs.Sections.{entry_after}
 
 -- ---- the table
@@ -76,7 +78,8 @@ module _ (card : List ℕ) (i : ℕ) {b : Bool} (e : b ≡ has_entry card i) whe
   entry-is t = sym (ap (λ (x : Bool). cond x (section card i) (record { kind = 0; start = 0; size = 0 })) (sym e ∙ t))
 
   -- the words that were read are the entry's
-  pub entry_read : {k s l : ℕ} → b ≡ true → k ≡ word_at card (entry_at i) → s ≡ word_at card (entry_at i + 4) → l ≡ word_at card (entry_at i + 8)
+  pub entry_read : {k s l : ℕ} → b ≡ true → k ≡ word_at card (entry_at i) → s ≡ word_at card (entry_at i + 4)
+      → l ≡ word_at card (entry_at i + 8)
       → record { kind = k; start = s; size = l } ≡ entry_of card i
   entry_read {k} {s} {l} t ek es el = same ek es el ∙ entry-is t
     where

@@ -3,8 +3,8 @@ use Rattle.std.specs.Prelude.{◌≡◌, List, ℕ}
 use Rattle.std.proofs.Math.Option.{none}
 pub use Rattle.model.specs.Layout.{access_in, order_in, roads_in}
 use Rattle.model.specs.Card.{card_refusal}
-use Rattle.model.specs.Accept.{passed}
-pub use Rattle.model.specs.Accept.{part_length, part-word}
+use Rattle.model.proofs.Accept.{passed}
+pub use Rattle.model.proofs.Accept.{part_length, part-word}
 use Rattle.network.specs.Bodies.{Sound}
 
 -- they pass questions 4 to 6

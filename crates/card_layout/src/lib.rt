@@ -1,9 +1,11 @@
 // The card's layout: the table of contents, and the bodies as the parts of the card that its entries name.
+#![tactic(auto)]
+
 ghost use Rattle.std.specs.Prelude.{◌≡◌, ◌++◌, ◌+◌, ◌<◌, ◌≤◌, drop, get_or, length};
 ghost use Rattle.model.specs.Bytes.{bytes_of};
 ghost use Rattle.model.specs.Layout as layout;
-ghost use Rattle.model.specs.Layout.{access_fits, access_in, body_at, card_size, entry_of, has_entry, named, names, order_in, part_of, roads_in};
-ghost use Rattle.model.specs.Layout.{table, table_size};
+ghost use Rattle.model.specs.Layout.{access_fits, access_in, body_at, card_size, entry_of, has_entry, named, names};
+ghost use Rattle.model.specs.Layout.{order_in, part_of, roads_in, table, table_size};
 ghost use Rattle.card_layout.specs.Sections.{entry_after, section_in};
 
 // ---- the table of contents: the number of sections, then an entry for each
@@ -23,7 +25,7 @@ pub const ORDER_KIND: u32 = 2;
 pub const PLACE_SIZE: usize = 4;
 
 // An entry: kind, start byte and length in bytes of a body.
-#[derive(Drop)]
+#[derive(Clone, Copy)]
 pub struct Section {
     pub kind: u32,
     pub start: u32,

@@ -1,4 +1,6 @@
 // The reader: it walks the card from body to body and remembers its place.
+#![tactic(auto)]
+
 ghost use Rattle.std.specs.Prelude.{◌≡◌};
 ghost use Rattle.model.specs.Card.{bodies_refusal};
 ghost use Rattle.model.specs.Layout.{body_at, order_in, roads_in};
@@ -8,7 +10,7 @@ ghost use Rattle.network.specs.Refusals.{verdict_in};
 use network::Verdict;
 
 // The card, and the number of the next body's entry in the table of contents.
-#[derive(Drop)]
+#[derive(Clone, Copy)]
 pub struct Reader<'a> {
     pub card: &'a [u8],
     pub at: usize,

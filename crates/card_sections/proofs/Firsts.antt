@@ -7,7 +7,8 @@ use native.Mathlib.Decide.{dec_lt}
 use native.Mathlib.Numerals.{add-one}
 use native.Mathlib.Omega.{arith}
 use Rattle.graph.specs.Total.{Total}
-use Rattle.graph.specs.Least.{first_below, first_below-least, least-number, least_unique}
+use Rattle.graph.specs.Least.{first_below}
+use Rattle.graph.proofs.Least.{first_below-least, least-number, least_unique}
 
 -- the first number below n that does not pass
 abbrev pub failing : (ℕ → Bool) → ℕ → Total

@@ -7,11 +7,11 @@ use Prim.Native.Nat.{◌*◌, ◌+◌, ◌/◌, ◌<◌, ◌≤◌, zero-le, ℕ
 use lib.ListN.{get_or, length}
 use native.Mathlib.Nat.{div-div-eq-div-mul}
 use native.Mathlib.Omega.{arith}
-use Rattle.graph.specs.Total.{some-some}
+use Rattle.graph.proofs.Total.{some-some}
 use Rattle.model.specs.Bytes.{word_at}
 use Rattle.model.specs.Layout.{place_size, road_size}
 use Rattle.model.specs.Card.{Rows, map_of, road_fits, road_ok}
-use Rattle.model.specs.Laws.{listed-length}
+use Rattle.model.proofs.Laws.{listed-length}
 use Rattle.card_sections.proofs.Firsts.{failing, first_found, first-start, first-turn}
 use Rattle.network.specs.Bodies.{base_in_lem, head_in, map_in, rows_in, tail_in_lem}
 

@@ -12,7 +12,7 @@ use lib.Seq.{get_or-set_other, get_or-set_same}
 use native.Mathlib.Decide.{dec_lt, ℕ_discrete}
 use native.Mathlib.Numerals.{add-one}
 use native.Mathlib.Omega.{arith}
-use Rattle.graph.specs.Total.{and_true}
+use Rattle.graph.proofs.Total.{and_true}
 use Rattle.graph.specs.Least.{every}
 use Rattle.model.specs.Limits.{most_junctions}
 use Rattle.model.specs.Card.{Rows, place_ok}

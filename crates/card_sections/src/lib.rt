@@ -1,4 +1,6 @@
 // Questions 4 to 6 on the bodies of roads and order of a card.
+#![tactic(auto)]
+
 ghost use Rattle.std.specs.Prelude.{◌≡◌, [], ◌*◌, ◌≤◌, length};
 ghost use Rattle.model.specs.Limits.{most_junctions, most_roads};
 ghost use Rattle.model.specs.Layout.{place_size, road_size};
@@ -10,7 +12,7 @@ use card_layout::{PLACE_SIZE, ROAD_SIZE};
 use network::{Rank, Refusal, Verdict};
 
 // The first road or place that fails, if there is one.
-#[derive(Drop)]
+#[derive(Clone, Copy)]
 pub enum Failing {
     Nothing,
     At(u32),

@@ -8,7 +8,7 @@ use native.Mathlib.Omega.{arith}
 use Rattle.model.specs.Limits.{most_junctions, most_roads}
 use Rattle.model.specs.Layout.{place_size, road_size}
 use Rattle.model.specs.Card.{sizes_ok}
-use Rattle.model.specs.Accept.{sizes-facts}
+use Rattle.model.proofs.Accept.{sizes-facts}
 
 and_false : (b : Bool) → b && false ≡ false
 and_false true = refl

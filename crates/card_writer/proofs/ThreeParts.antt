@@ -9,7 +9,7 @@ use native.Mathlib.Omega.{arith}
 use Rattle.model.specs.Bytes.{bytes_of}
 use Rattle.model.specs.Layout.{row_size, size_with, table, table_size}
 use Rattle.model.specs.Card.{card_of}
-use Rattle.model.specs.CardBack.{bytes-length}
+use Rattle.model.proofs.CardBack.{bytes-length}
 use Rattle.network.specs.Bytes.{bytes-append}
 use Rattle.card_writer.specs.Lent.{rows_of}
 
@@ -49,7 +49,8 @@ module _ (area p q r : List ℕ) (t a b : ℕ) (ep : length p ≡ t) (eq : lengt
 -- what was put, with the table's bytes and the two rows' bytes q and r, is the card
 pub card-put : (roads order area : List ℕ) {z q r : List ℕ} {a b : ℕ} → a ≡ row_size roads → b ≡ row_size order
     → length area ≡ size_with a b → z ≡ bytes_of (table a b) ++ drop (table_size 2) area → q ≡ bytes_of roads → r ≡ bytes_of order
-    → put_mid (table_size 2 + a) (table_size 2 + a + b - (table_size 2 + a)) (put_mid (table_size 2) (table_size 2 + a - table_size 2) z q) r
+    → put_mid (table_size 2 + a) (table_size 2 + a + b - (table_size 2 + a))
+    (put_mid (table_size 2) (table_size 2 + a - table_size 2) z q) r
     ≡ card_of (rows_of roads order)
 card-put roads order area {z} {q} {r} {a} {b} ea eb el ez eq er =
     let s = table_size 2 + a in

@@ -1,5 +1,7 @@
 // The writer: questions 4 to 6 on the rows of words that a map is lent as, and the card made of them.
 // A row's length is taken as 4 bytes a word.
+#![tactic(auto)]
+
 ghost use Rattle.std.specs.Prelude.{◌≡◌, [], ◌*◌, ◌≤◌, length};
 ghost use Rattle.model.specs.Limits.{most_junctions};
 ghost use Rattle.model.specs.Layout.{row_size, size_with};

@@ -1,4 +1,6 @@
 // An answer as text.
+#![tactic(auto)]
+
 ghost use Rattle.std.specs.Prelude.{◌≡◌, cond, true, ◌++◌, eqb, take};
 ghost use Rattle.unit_answers.specs.Shape.{answer_in};
 ghost use Rattle.network.specs.Refusals.{refusal_in};

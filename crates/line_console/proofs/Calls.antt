@@ -1,5 +1,5 @@
 -- The call that a line says, by the ways through the code. Assumes nothing.
-use mathlib.Core.Path.{◌∙◌, ◌≡◌, ap, ap₂, sym}
+use mathlib.Core.Path.{◌∙◌, ◌≡◌, ap₂, sym}
 use mathlib.Core.Bool.{false, true}
 use mathlib.Core.List.{List}
 use Prim.Native.Nat.{ℕ}

@@ -1,26 +1,20 @@
--- Worked lines, as one table each: what lines say, and what answers print. Assumes nothing.
-use Rattle.std.specs.Prelude.{◌≡◌, refl, List, [], ◌∷◌, map, ◌+◌, length, replicate}
+-- Worked lines, as one table each: what lines say (that they do stands in proofs/Examples.antt), and what answers print. Assumes nothing.
+use Rattle.std.specs.Prelude.{◌≡◌, refl, List, [], ◌∷◌, map}
 use Rattle.std.proofs.Math.Option.{Option, none, some}
 use Prim.Native.String.{String}
-use Rattle.bytes.specs.Bytes.{index_after, index_of}
 use Rattle.model.specs.Limits.{most_total}
 use Rattle.model.specs.Types.{Accepted, Answer, At, Estimated, Gone, NoJunction, NoPath, NoRoad, NotAllowed, Place, Refusal, Refused, Road}
 use Rattle.model.specs.Types.{Room}
 use Rattle.model.specs.Word.{closed_word, none_word, of_word}
 use Rattle.model.specs.Machine.{Known}
-use Rattle.model.specs.Set.{set_refusal}
-use Rattle.model.specs.Aim.{aim_refusal}
-use Rattle.model.specs.Estimate.{estimate_refusal}
-use Rattle.model.specs.Go.{go_refusal}
 use Rattle.model.specs.Calls.{refusal_of}
 use Rattle.unit_answers.specs.Shape.{call_in}
 use Rattle.unit_answers.specs.declared.Call.TheVariants.{Aim, Estimate, Go, Set}
-use Rattle.line_fields.specs.Fields.{after_space, all_digits, before_space, is_digit, is_number, number_of, same, value_from}
 use Rattle.line_texts.specs.Areas.{decimal, digits_in, shown, spaced}
 use Rattle.line_console.specs.declared.Line.{Line}
 use Rattle.line_console.specs.declared.Line.TheVariants.{Call, Unreadable}
 use Rattle.line_texts.specs.Ascii.{ascii}
-use Rattle.line_console.specs.Lines.{call_of, line_of, out_of_range, program_class}
+use Rattle.line_console.specs.Lines.{out_of_range, program_class}
 use Rattle.line_console.specs.Texts.{answer_text, unreadable_text}
 
 -- ---- lines that say a call: document 01's six, the ends of both widths, leading zeros
@@ -48,10 +42,6 @@ readable =
     ∷ record { line = "set 00000000000000000001 18446744073709551615"; says = Call (Set 1 (record { 0 = none_word })) }
     ∷ []
 
-pub readable-right : map (λ (r : SaidLine). line_of (ascii r.line)) readable ≡ map (λ (r : SaidLine). r.says) readable
-unfolding line_of call_of same before_space after_space index_of index_after number_of is_number all_digits is_digit value_from
-readable-right = refl
-
 -- ---- what is refused on a map of 4 junctions and 5 roads of base time 10: numbers past its own, and times past the range of tenths
 
 pub record AskedLine : Type 0 where
@@ -71,17 +61,12 @@ asked =
     ∷ record { line = "set 0 18446744073709551615"; refused = none }
     ∷ []
 
-abbrev known : Known
+abbrev pub known : Known
 known = record { n = 4; m = 5; base = λ i. some 10; target = At 3 }
 
-abbrev refused_by : Line → Option Refusal
+abbrev pub refused_by : Line → Option Refusal
 refused_by (Call c) = refusal_of known (call_in c) 4 4
 refused_by Unreadable = none
-
-pub asked-right : map (λ (a : AskedLine). refused_by (line_of (ascii a.line))) asked ≡ map (λ (a : AskedLine). a.refused) asked
-unfolding line_of call_of same before_space after_space index_of index_after number_of is_number all_digits is_digit value_from
-    set_refusal aim_refusal estimate_refusal go_refusal
-asked-right = refl
 
 -- ---- lines that are unreadable
 
@@ -94,15 +79,6 @@ unreadable =
     ∷ "set 0 18446744073709551616" ∷ "set 18446744073709551616 1"
     ∷ "AIM 3" ∷ "Aim 3" ∷ "estimate 0" ∷ "ai 3" ∷ "stop 0" ∷ "aim 3 4" ∷ "set 1 2 3" ∷ "3 aim" ∷ "3"
     ∷ []
-
-pub unreadable-right : map (λ (s : String). line_of (ascii s)) unreadable ≡ replicate (length unreadable) Unreadable
-unfolding line_of call_of same before_space after_space index_of index_after number_of is_number all_digits is_digit value_from
-unreadable-right = refl
-
--- the byte 0, and one that is no ASCII character
-pub odd_bytes : (line_of (97 ∷ 105 ∷ 109 ∷ 32 ∷ 51 ∷ 0 ∷ []) ≡ Unreadable) × (line_of (97 ∷ 105 ∷ 109 ∷ 32 ∷ 195 ∷ 169 ∷ []) ≡ Unreadable)
-unfolding line_of call_of same before_space after_space index_of index_after number_of is_number all_digits is_digit value_from
-odd_bytes = (refl, refl)
 
 -- ---- what answers print, with the route area [0, 1, 7]: document 01's six, and the other kinds
 

@@ -1,4 +1,6 @@
 // Lines of the program: a line of input as a call, an answer as a line of text.
+#![tactic(auto)]
+
 ghost use Rattle.std.specs.Prelude.{◌≡◌};
 ghost use Rattle.unit_answers.specs.Shape.{answer_in};
 ghost use Rattle.line_texts.specs.Areas.{Written};
@@ -12,7 +14,7 @@ use unit_answers::{Answer, Call};
 // ---- a line as a call
 
 // What a line of input says.
-#[derive(Drop)]
+#[derive(Clone, Copy)]
 pub enum Line {
     Call(Call),
     Unreadable,

@@ -1,17 +1,16 @@
 -- Two rows of bytes compared, and the parts of a line at its first space. Assumes nothing.
-use mathlib.Core.Path.{◌∙◌, ◌≡◌, ap, refl, sym}
+use mathlib.Core.Path.{◌∙◌, ◌≡◌, refl, sym}
 use mathlib.Core.Bool.{◌&&◌, false, true}
 use mathlib.Core.List.{List, [], ◌∷◌}
 use Prim.Native.Nat.{◌+◌, ◌-◌, ◌<◌, ◌≤◌, ℕ}
 use borrow.Author.Tests.{eq-eqb, ne_eqb}
 use lib.Dec.{eqb}
 use lib.ListN.{drop, drop_of_length-le, get_or, length, length-drop, take}
-use lib.Seq.{drop-cons, take_all, take-length}
-use native.Mathlib.Nat.{zero-add}
+use lib.Seq.{drop-cons, take_all}
+use native.Mathlib.Nat.{add-suc, add-zero, suc-add, zero-add}
 use native.Mathlib.Numerals.{add-one}
 use native.Mathlib.Omega.{arith}
-use Rattle.bytes.specs.Bytes.{index_of, slice}
-use Rattle.line_fields.specs.Fields.{after_space, before_space, same}
+use Rattle.line_fields.specs.Fields.{after_space, before_space, index_after, index_of, same}
 use Rattle.line_fields.proofs.Numbers.{and_false}
 
 -- ---- two rows of bytes
@@ -53,10 +52,29 @@ module _ {a b : List ℕ} {i : ℕ} (agreed : Agreed a b i) where
 
 -- ---- parts
 
--- the whole of a list as the range that `bytes::scan::find` searches
-pub found : (s : List ℕ) {i : ℕ} → i ≡ 0 + index_of 32 (slice 0 (length s) s) → i ≡ index_of 32 s
-unfolding slice
-found s e = e ∙ zero-add (index_of 32 (slice 0 (length s) s)) ∙ ap (index_of 32) (take-length s)
+-- the byte b is not among the first i
+pub record Sought (b : ℕ) (s : List ℕ) (i : ℕ) : Type 0 where
+  pub inside : i ≤ length s
+  pub ahead : index_of b s ≡ i + index_of b (drop i s)
+
+pub sought_none : {b : ℕ} {s : List ℕ} → Sought b s 0
+sought_none {b} {s} = record { inside = omega arith; ahead = sym (zero-add (index_of b s)) }
+
+module _ {b : ℕ} {s : List ℕ} {i : ℕ} (sought : Sought b s i) where
+  pub sought_more : i < length s → (get_or s i 0 ≡ b → ⊥) → Sought b s (i + 1)
+  unfolding index_of index_after
+  sought_more h f = record {
+    inside = omega arith;
+    ahead = sought.ahead ∙ rw (drop-cons s i 0 h, ne_eqb (get_or s i 0) b f, add-one, add-suc, suc-add);
+  }
+
+  pub sought_here : i < length s → get_or s i 0 ≡ b → i ≡ index_of b s
+  unfolding index_of index_after
+  sought_here h e = sym (sought.ahead ∙ rw (drop-cons s i 0 h, eq-eqb (get_or s i 0) b e, add-zero))
+
+  pub sought_all : length s ≤ i → i ≡ index_of b s
+  unfolding index_of
+  sought_all h = sym (sought.ahead ∙ rw (drop_of_length-le s h, add-zero))
 
 module _ (s : List ℕ) {i : ℕ} (e : i ≡ index_of 32 s) where
   pub before-is : take (i - 0) s ≡ before_space s

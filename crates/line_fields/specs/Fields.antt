@@ -1,6 +1,6 @@
 -- The fields of a line: "a number has 1 to 20 decimal digits and fits the width of a time", and the parts at a space. Definitions only.
 use Rattle.std.specs.Prelude.{Bool, ◌&&◌, cond, false, true, List, [], ◌∷◌, ◌*◌, ◌+◌, ◌-◌, ℕ, eqb, leb, drop, length, take}
-use Rattle.bytes.specs.Bytes.{index_of}
+use Rattle.std.proofs.Common.{suc}
 use Rattle.model.specs.Word.{none_word}
 use Rattle.line_fields.specs.declared.Number.{Number}
 use Rattle.line_fields.specs.declared.Number.TheVariants.{NotOne, Value}
@@ -34,6 +34,15 @@ same [] [] = true
 same [] (b ∷ t) = false
 same (a ∷ s) [] = false
 same (a ∷ s) (b ∷ t) = eqb a b && same s t
+
+-- where the byte b stands first; the length where it stands nowhere
+unfoldable pub index_after : Bool → ℕ → ℕ
+index_after true i = 0
+index_after false i = suc i
+
+unfoldable pub index_of : (b : ℕ) → List ℕ → ℕ
+index_of b [] = 0
+index_of b (c ∷ s) = index_after (eqb c b) (index_of b s)
 
 -- the parts before and after the first space; where there is none, all of it and nothing
 unfoldable pub before_space : List ℕ → List ℕ

@@ -5,12 +5,13 @@ use Rattle.std.proofs.Math.Path.{ap}
 use Rattle.std.proofs.lemmas.Bool.{false≢true}
 use Rattle.std.proofs.Math.ListN.{drop, take}
 use Rattle.std.proofs.Math.Seq.{drop-append-add, take-append_seam}
-use Rattle.graph.specs.Total.{Tested, decide}
-use Rattle.bytes.specs.Bytes.{index_after, index_of}
+use Rattle.graph.specs.Total.{Tested}
+use Rattle.graph.proofs.Total.{decide}
 use Rattle.model.specs.Word.{none_word}
 use Rattle.line_fields.specs.declared.Number.{Number}
 use Rattle.line_fields.specs.declared.Number.TheVariants.{NotOne, Value}
-use Rattle.line_fields.specs.Fields.{after_space, all_digits, before_space, is_digit, is_number, number_of, same, value_from}
+use Rattle.line_fields.specs.Fields.{after_space, all_digits, before_space, index_after, index_of, is_digit, is_number, number_of}
+use Rattle.line_fields.specs.Fields.{same, value_from}
 
 pub both_left : (a b : Bool) → a && b ≡ true → a ≡ true
 both_left true b e = refl

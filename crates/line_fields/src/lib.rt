@@ -1,12 +1,13 @@
 // The fields of a line: words, and numbers in decimal digits, with a space between them.
+#![tactic(auto)]
+
 ghost use Rattle.std.specs.Prelude.{◌≡◌, ◌≤◌, length};
-ghost use Rattle.bytes.specs.Bytes.{index_of};
-ghost use Rattle.line_fields.specs.Fields.{after_space, before_space, number_of, same};
+ghost use Rattle.line_fields.specs.Fields.{after_space, before_space, index_of, number_of, same};
 
 use network::{Time, TimeWord};
 
 // What a part of a line spells.
-#[derive(Drop)]
+#[derive(Clone, Copy)]
 pub enum Number {
     Value(TimeWord),
     NotOne,
@@ -66,11 +67,25 @@ pub fn same_bytes(a: &[u8], b: &[u8]) -> bool
     true
 }
 
+// Where a byte stands first; the length where it stands nowhere.
+fn find(s: &[u8], b: u8) -> usize
+    ensures { (result ≡ index_of b s.now) × (result ≤ length s.now) }
+{
+    let mut i = 0;
+    while i < s.len() {
+        if s[i] == b {
+            return i;
+        }
+        i += 1;
+    }
+    i
+}
+
 // Where the first space stands; the length where there is none.
 fn space_in(s: &[u8]) -> usize
     ensures { (result ≡ index_of 32 s.now) × (result ≤ length s.now) }
 {
-    bytes::scan::find(s, 0, s.len(), 32)
+    find(s, 32)
 }
 
 // The part before the first space; all of it where there is none.

@@ -1,4 +1,6 @@
 // Lines of the input: a line is taken byte by byte, out of chunks that are read from a descriptor.
+#![tactic(auto)]
+
 ghost use Rattle.std.specs.Prelude.{◌≡◌, List, [], ◌++◌, ◌∷◌, ◌<◌, ◌≤◌, ℕ, length};
 ghost use Rattle.io.specs.Counts.{clamp_len};
 ghost use Rattle.line_input.specs.Holds.{Holds};

@@ -1,4 +1,6 @@
 // Text put into an area, as much of it as fits: bytes, and numbers in decimal digits.
+#![tactic(auto)]
+
 ghost use Rattle.std.specs.Prelude.{◌≡◌, [], ◌++◌, ◌∷◌, ◌+◌, ◌<◌};
 ghost use Rattle.line_texts.specs.Areas.{Puts, decimal, spaced};
 

@@ -7,7 +7,7 @@ use lib.Seq.{drop-append-add, drop-drop, drop-length, length-take-le, sets-eq, t
 use native.Mathlib.Numerals.{add-one}
 use native.Mathlib.Omega.{arith}
 use Rattle.model.specs.Bytes.{bytes_of}
-use Rattle.model.specs.CardBack.{bytes-length}
+use Rattle.model.proofs.CardBack.{bytes-length}
 use Rattle.network.specs.Bytes.{bytes-append}
 
 -- the four stores of a word

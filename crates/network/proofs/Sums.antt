@@ -2,8 +2,10 @@
 use mathlib.Core.Path.{◌≡◌}
 use Prim.Native.Nat.{◌+◌, ◌-◌, ◌<◌, ◌≤◌, ℕ}
 use native.Mathlib.Omega.{arith}
-use Rattle.graph.specs.Total.{◌⊕◌, ⊕-none}
-use Rattle.model.specs.Word.{Reads, none_word, nothing, number, of_word, of_word-none, of_word-some, reads, unasked, word}
+use Rattle.graph.specs.Total.{◌⊕◌}
+use Rattle.graph.proofs.Total.{⊕-none}
+use Rattle.model.specs.Word.{Reads, none_word, nothing, number, of_word, unasked, word}
+use Rattle.model.proofs.Word.{of_word-none, of_word-some, reads}
 use Rattle.network.specs.Width.{fit, fit_in, fit-out}
 
 -- both are below the marks, and so is their sum

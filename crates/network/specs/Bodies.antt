@@ -11,8 +11,9 @@ use Rattle.model.specs.Layout.{place_size, road_size, words_in}
 use Rattle.model.specs.Card.{bodies_refusal, map_of}
 pub use Rattle.model.specs.Card.{rows_in}
 use Rattle.model.specs.Areas.{record_size, records_in, times_in}
-use Rattle.model.specs.Laws.{listed_at, listed-length}
-use Rattle.model.specs.Accept.{RoadFacts, rows-facts, rows-most, rows-valid, sizes-facts}
+use Rattle.model.proofs.Laws.{listed_at, listed-length}
+use Rattle.model.specs.Accept.{RoadFacts}
+use Rattle.model.proofs.Accept.{rows-facts, rows-most, rows-valid, sizes-facts}
 
 abbrev pub map_in : (roads order : List ℕ) → Map
 map_in roads order = map_of (rows_in roads order)

@@ -4,7 +4,8 @@ use Rattle.std.proofs.Math.Option.{none, some}
 use Rattle.std.proofs.Common.{le-ltb, lt-ltb, arith}
 use Rattle.std.proofs.Math.Decide.{dec_lt}
 use Rattle.graph.specs.Total.{Total, ◌⊓◌}
-use Rattle.model.specs.Word.{none_word, of_word, of_word-none, of_word-some, unasked, word}
+use Rattle.model.specs.Word.{none_word, of_word, unasked, word}
+use Rattle.model.proofs.Word.{of_word-none, of_word-some}
 
 -- a total that a time cannot hold is none
 abbrev pub fit : Total → Total

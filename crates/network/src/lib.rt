@@ -1,4 +1,6 @@
 // The vocabulary of the code: junctions, ranks and times, and words in bytes.
+#![tactic(auto)]
+
 ghost use Rattle.std.specs.Prelude.{◌≡◌, [], ◌++◌, ◌∷◌, ◌*◌, ◌+◌, ◌<◌, ◌≤◌, min, eqb, drop, get_or, length, take};
 ghost use Rattle.graph.specs.Total.{◌⊕◌};
 ghost use Rattle.model.specs.Types as model;
@@ -49,7 +51,7 @@ pub const MOST_PAIR_WORDS: usize = RECORD * (MOST_PAIRS as usize);
 pub type TimeWord = u64;
 
 // Numbers of junctions, roads and pairs, and the card's length in bytes.
-#[derive(Drop)]
+#[derive(Clone, Copy)]
 pub struct Sizes {
     pub n: u32,
     pub m: u32,
@@ -58,11 +60,11 @@ pub struct Sizes {
 }
 
 // The number of a junction (a vertex).
-#[derive(Drop)]
+#[derive(Clone, Copy)]
 pub struct Junction(pub u32);
 
 // A level of the contraction order. (Document 01: a rank.)
-#[derive(Drop)]
+#[derive(Clone, Copy)]
 pub struct Rank(pub u32);
 
 // The words of the marks.
@@ -71,7 +73,7 @@ const NONE_WORD: TimeWord = 18446744073709551615;
 const UNASKED_WORD: TimeWord = 18446744073709551614;
 
 // A time in tenths of a second, or one of the marks.
-#[derive(Drop)]
+#[derive(Clone, Copy)]
 pub struct Time(pub TimeWord);
 
 impl Time {
@@ -142,7 +144,7 @@ impl Time {
 }
 
 // Why something is refused: the number of the question; the road, place or leg that 5, 6 and 17 name and the count that 15 gives, else 0.
-#[derive(Drop)]
+#[derive(Clone, Copy)]
 pub struct Refusal {
     pub question: u32,
     pub place: u32,
@@ -280,7 +282,7 @@ impl Refusal {
 }
 
 // What questions find: nothing to refuse, or the first that says no.
-#[derive(Drop)]
+#[derive(Clone, Copy)]
 pub enum Verdict {
     Passed,
     Failed(Refusal),

@@ -10,20 +10,25 @@ use native.Mathlib.Numerals.{add-one}
 use native.Mathlib.Omega.{arith}
 use mir.Syntax.{w32}
 use mir.Val.{Fits}
-use Rattle.graph.specs.Total.{some-some}
-use Rattle.graph.specs.Least.{min_below, min_below_cong}
+use Rattle.graph.proofs.Total.{some-some}
+use Rattle.graph.specs.Least.{min_below}
+use Rattle.graph.proofs.Least.{min_below_cong}
 use Rattle.graph.specs.Path.{EndsBelow, Weighs, Weights}
-use Rattle.graph.specs.Network.{Arc, Network, arc_of, cost_between, direct, direct-least, ends-below}
-use Rattle.graph.specs.Records.{begins-length, rows, rows-begins}
-use Rattle.graph.specs.Bound.{CostsAtMost, down-bound, up-bound}
-use Rattle.graph.specs.Ranks.{rank_below, ranks_rename, renamed, renamed-inside}
+use Rattle.graph.specs.Network.{Arc, Network, arc_of, cost_between, direct}
+use Rattle.graph.proofs.Network.{direct-least, ends-below}
+use Rattle.graph.specs.Records.{rows}
+use Rattle.graph.proofs.Records.{begins-length, rows-begins}
+use Rattle.graph.specs.Bound.{CostsAtMost}
+use Rattle.graph.proofs.Bound.{down-bound, up-bound}
+use Rattle.graph.specs.Ranks.{renamed}
+use Rattle.graph.proofs.Ranks.{rank_below, ranks_rename, renamed-inside}
 use Rattle.graph.specs.Map.{Map, pairs_of, rank, weights}
 use Rattle.model.specs.Limits.{most_junctions, most_pairs, most_time}
-use Rattle.model.specs.LimitLaws.{totals_fit}
+use Rattle.model.proofs.LimitLaws.{totals_fit}
 use Rattle.model.specs.Word.{none_word}
 use Rattle.model.specs.Bytes.{word_at}
 use Rattle.model.specs.Areas.{rank_words, record_size, time_words, zeros_after}
-use Rattle.model.specs.Laws.{listed_at, listed-length}
+use Rattle.model.proofs.Laws.{listed_at, listed-length}
 use Rattle.network.specs.Bodies.{MapFacts, Sound, base_in_lem, head_in, map-facts, map_in, tail_in_lem}
 use Rattle.pairs_contraction.specs.declared.Contracted.TheVariants.{Kept, Overflow}
 use Rattle.pairs_rows.specs.Links.{Ranked, net_in}

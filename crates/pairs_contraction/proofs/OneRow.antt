@@ -15,8 +15,10 @@ use native.Mathlib.Numerals.{add-one}
 use native.Mathlib.Omega.{arith}
 use Rattle.graph.specs.Path.{Weights}
 use Rattle.graph.specs.Network.{Network, direct}
-use Rattle.graph.specs.Pairs.{down, down-at, up, up_at}
-use Rattle.graph.specs.Records.{Pair, edge, row, row_low, rows, rows_at}
+use Rattle.graph.specs.Pairs.{down, up}
+use Rattle.graph.proofs.Pairs.{down-at, up_at}
+use Rattle.graph.specs.Records.{Pair, edge, row, rows}
+use Rattle.graph.proofs.Records.{row_low, rows_at}
 use Rattle.model.specs.Word.{none_word}
 use Rattle.model.specs.Areas.{record_size}
 use Rattle.pairs_contraction.specs.declared.Contracted.TheVariants.{Kept, Overflow}

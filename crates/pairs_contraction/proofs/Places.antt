@@ -7,9 +7,10 @@ use lib.Seq.{ext_get_or, get_or-set_other, get_or-set_same}
 use native.Mathlib.Decide.{ℕ_discrete}
 use native.Mathlib.Omega.{arith}
 use Rattle.graph.specs.Map.{Map, rank}
-use Rattle.graph.specs.Ranks.{Orders, rank_below, vertex_of_rank}
+use Rattle.graph.specs.Ranks.{Orders}
+use Rattle.graph.proofs.Ranks.{rank_below, vertex_of_rank}
 use Rattle.model.specs.Bytes.{word_at}
-use Rattle.model.specs.Laws.{listed_at, listed-length}
+use Rattle.model.proofs.Laws.{listed_at, listed-length}
 use Rattle.network.specs.Bodies.{Sound, junction_in, map-facts, map_in}
 use Rattle.pairs_contraction.specs.Contraction.{ranks_in}
 

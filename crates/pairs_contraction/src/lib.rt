@@ -4,6 +4,8 @@
 // linking). Then each lower rank v that has a pair with r gives the paths over v, from r to the highs of v's later pairs and back (crates
 // fronts and passing). The work is in the pairs and the triangles of pairs; ranks stand in blocks, and what is in the square of the number
 // of ranks is a test of each block in each row.
+#![tactic(auto)]
+
 ghost use Rattle.std.specs.Prelude.{◌≡◌, List, ◌*◌, ◌≤◌, ℕ, length};
 ghost use Rattle.model.specs.Limits.{most_pairs};
 ghost use Rattle.model.specs.Areas.{record_size};
@@ -30,14 +32,14 @@ pub fn fill_ranks(order: &[u8], ranks: &mut [u32])
 }
 
 // The number of kept pairs, if they fit.
-#[derive(Drop)]
+#[derive(Clone, Copy)]
 pub enum Contracted {
     Kept(u32),
     Overflow,
 }
 
 // Where a row begins: its rank, and the number of records before its own.
-#[derive(Drop)]
+#[derive(Clone, Copy)]
 pub struct RowStart(pub Rank, pub u32);
 
 // The row of a rank: its times from the roads and over the lower ranks, its records, and the front of its own row.

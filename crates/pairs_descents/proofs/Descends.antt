@@ -12,16 +12,19 @@ use native.Mathlib.Decide.{ℕ_discrete}
 use native.Mathlib.Nat.{not-suc-le-zero}
 use native.Mathlib.Numerals.{add-one}
 use native.Mathlib.Omega.{arith}
-use Rattle.graph.specs.Total.{Total, ◌⊓◌, ◌⊕◌, cond_no, cond_yes, ⊕-none}
+use Rattle.graph.specs.Total.{Total, ◌⊓◌, ◌⊕◌}
+use Rattle.graph.proofs.Total.{cond_no, cond_yes, ⊕-none}
 use Rattle.graph.specs.Records.{Pair}
-use Rattle.graph.specs.Folds.{hand, hand-all, pass, pass-append, seed}
-use Rattle.graph.specs.Ranks.{rank_below, vertex_of_rank}
+use Rattle.graph.specs.Folds.{hand, pass, seed}
+use Rattle.graph.proofs.Folds.{hand-all, pass-append}
+use Rattle.graph.proofs.Ranks.{rank_below, vertex_of_rank}
 use Rattle.graph.specs.Map.{Map, down_total_of, pairs_of, rank, weights}
-use Rattle.graph.specs.Rows.{ranked-down}
-use Rattle.model.specs.LimitLaws.{totals_fit}
+use Rattle.graph.proofs.Rows.{ranked-down}
+use Rattle.model.proofs.LimitLaws.{totals_fit}
 use Rattle.model.specs.Bytes.{word_at}
-use Rattle.model.specs.Word.{none_word, of_word, of_word-none, of_word-word, unasked, word}
-use Rattle.model.specs.Ends.{listed-is}
+use Rattle.model.specs.Word.{none_word, of_word, unasked, word}
+use Rattle.model.proofs.Word.{of_word-none, of_word-word}
+use Rattle.model.proofs.Ends.{listed-is}
 use Rattle.model.specs.Use.{pair_in}
 use Rattle.network.specs.Width.{Fits, fit, fit_is, fit-min, fit-of_word, fit-out, fit_word, fits, fits_in, fits_out}
 use Rattle.network.specs.Bodies.{map_in}
@@ -250,8 +253,9 @@ module _ {n i : ℕ} {order pairs times d : List ℕ} where
       record { exact = λ l h lr hr w. sym (ap (set d (higher_in order pairs i)) (kept q w) ∙ set-get_or d (higher_in order pairs i) 0) }
     where
       kept : get_or d (lower_in order pairs i) 0 ≡ none_word → get_or d (higher_in order pairs i) 0 ≤ none_word
-          → min (get_or d (higher_in order pairs i) 0) (word (fit (of_word (down_in times i) ⊕ of_word (get_or d (lower_in order pairs i) 0)))) ≡
-          get_or d (higher_in order pairs i) 0
+          → min (get_or d (higher_in order pairs i) 0)
+          (word (fit (of_word (down_in times i) ⊕ of_word (get_or d (lower_in order pairs i) 0))))
+          ≡ get_or d (higher_in order pairs i) 0
       kept q w = rw (q, of_word-none, ⊕-none) (omega arith)
 
   -- best, time and rest are read as times, v is stored

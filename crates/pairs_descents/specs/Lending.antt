@@ -1,5 +1,6 @@
 -- The areas that the pass over the records is lent, and what its clauses say of them. Definitions only.
 use Rattle.std.specs.Prelude.{◌≡◌, List, ◌*◌, ◌+◌, ◌<◌, ◌≤◌, ℕ, length}
+use Rattle.std.specs.Borrow.{MutBor}
 use denote.Triple.Both.{Both}
 use Rattle.model.specs.Limits.{most_junctions, most_pairs}
 use Rattle.model.specs.Areas.{record_size}
@@ -13,10 +14,10 @@ pub record Lent : Type 0 where
   pub times : List ℕ
   pub down : List ℕ
 
-abbrev pub lent_of : (order pairs times down : Held) → Lent
+abbrev pub lent_of : (order pairs times : Held) (down : MutBor (List ℕ)) → Lent
 lent_of o p q d = record { order = o.now; pairs = p.now; times = q.now; down = d.now }
 
-abbrev pub lent : (order pairs times down : Slice) → Both Lent Lent
+abbrev pub lent : (order pairs times : Slice) (down : Both (MutBor (List ℕ)) (MutBor (List ℕ))) → Both Lent Lent
 lent o p q d = record {
   entry = lent_of o.entry p.entry q.entry d.entry;
   exit = lent_of o.exit p.exit q.exit d.exit;

@@ -1,4 +1,6 @@
 // The down totals of a target over the prepared pairs (document 01: aim): functions on slices.
+#![tactic(auto)]
+
 ghost use Rattle.pairs_descents.specs.Lending.{DownsAsked, DownsMade, HandAsked, HandDone, lent, lent_of};
 
 use areas::fill_times;

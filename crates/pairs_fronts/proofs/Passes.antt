@@ -13,14 +13,19 @@ use lib.Seq.{get_or-drop, get_or-set_other, get_or-set_same, take_all}
 use native.Mathlib.Decide.{dec_lt, ℕ_discrete}
 use native.Mathlib.Numerals.{add-one}
 use native.Mathlib.Omega.{arith}
-use Rattle.graph.specs.Total.{Tested, Total, ◌⊓◌, ◌⊕◌, cond_no, cond_yes, decide, ⊓-assoc, ⊓-none}
+use Rattle.graph.specs.Total.{Tested, Total, ◌⊓◌, ◌⊕◌}
+use Rattle.graph.proofs.Total.{cond_no, cond_yes, decide, ⊓-assoc, ⊓-none}
 use Rattle.graph.specs.Path.{Weights}
 use Rattle.graph.specs.Level.{level}
 use Rattle.graph.specs.Pairs.{down, up}
-use Rattle.graph.specs.Records.{Pair, begins-length, edge, exists, min_over, min_over-take, pair_of, row, row-ahead, row_at, row-begins}
-use Rattle.graph.specs.Records.{row-blank, row_kept, row-place, rows, rows_at, rows-length}
-use Rattle.graph.specs.Folds.{later, over-blank, over-downs, over-ups, through}
-use Rattle.model.specs.Word.{of_word, of_word-word, word}
+use Rattle.graph.specs.Records.{Pair, edge, exists, min_over, pair_of, row}
+use Rattle.graph.proofs.Records.{begins-length, min_over-take, row-ahead, row_at, row-begins}
+use Rattle.graph.specs.Records.{rows}
+use Rattle.graph.proofs.Records.{row-blank, row_kept, row-place, rows_at, rows-length}
+use Rattle.graph.specs.Folds.{later, through}
+use Rattle.graph.proofs.Folds.{over-blank, over-downs, over-ups}
+use Rattle.model.specs.Word.{of_word, word}
+use Rattle.model.proofs.Word.{of_word-word}
 use Rattle.model.specs.Areas.{record_size}
 use Rattle.model.specs.Use.{RecordAt}
 use Rattle.network.specs.Width.{fit, fit-min}

@@ -4,7 +4,8 @@ use Rattle.std.specs.Prelude.{◌≡◌, refl, List, [], ◌∷◌, ◌*◌, ◌
 use Rattle.graph.specs.Records.{Pair}
 use Rattle.model.specs.Word.{word}
 use Rattle.model.specs.Areas.{rank_words, record_size, time_words}
-use Rattle.model.specs.Use.{RecordAt, record_later}
+use Rattle.model.specs.Use.{RecordAt}
+use Rattle.model.proofs.Use.{record_later}
 use Rattle.pairs_fronts.specs.Fronts.{Holds}
 
 records-at : (l : List Pair) (i : ℕ) (d : Pair) → i < length l → RecordAt (rank_words l) (time_words l) i (get_or l i d)

@@ -3,6 +3,8 @@
 // Each lower rank v that has a pair with r gives the paths over v, from r to the highs of v's later pairs and back. A front for each v,
 // which moves along v's records as r ascends, says whether v has a pair with r. Ranks stand in blocks, and of each block a bound is kept,
 // which is at most the highs ahead of its ranks.
+#![tactic(auto)]
+
 ghost use Rattle.std.specs.Prelude.{◌≡◌, cond, ◌*◌, ◌+◌, ◌<◌, ◌≤◌, ltb, get_or, length};
 ghost use Rattle.graph.specs.Path.{Weights};
 ghost use Rattle.model.specs.Areas.{record_size};

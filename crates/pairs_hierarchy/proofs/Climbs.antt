@@ -12,19 +12,24 @@ use lib.Seq.{get_or-set_other, get_or-set_same}
 use native.Mathlib.Decide.{dec_lt, ℕ_discrete}
 use native.Mathlib.Numerals.{add-one}
 use native.Mathlib.Omega.{arith}
-use Rattle.graph.specs.Total.{Total, ◌⊓◌, ◌⊕◌, none-some, true_false, decide, Tested, ⊓-assoc, ⊓-none}
-use Rattle.graph.specs.Least.{min_below, min_below-none, min_below-skip}
+use Rattle.graph.specs.Total.{Total, ◌⊓◌, ◌⊕◌, Tested}
+use Rattle.graph.proofs.Total.{none-some, true_false, decide, ⊓-assoc, ⊓-none}
+use Rattle.graph.specs.Least.{min_below}
+use Rattle.graph.proofs.Least.{min_below-none, min_below-skip}
 use Rattle.graph.specs.Pairs.{up}
 use Rattle.graph.specs.Records.{Pair}
-use Rattle.graph.specs.Reach.{reaches, reaches-path}
-use Rattle.graph.specs.Ranks.{rank_below, vertex_of_rank}
+use Rattle.graph.specs.Reach.{reaches}
+use Rattle.graph.proofs.Reach.{reaches-path}
+use Rattle.graph.proofs.Ranks.{rank_below, vertex_of_rank}
 use Rattle.graph.specs.Map.{Map, down_total_of, estimate_of, rank, weights}
-use Rattle.model.specs.Word.{none_word, of_word, of_word-word, unasked, word}
+use Rattle.model.specs.Word.{none_word, of_word, unasked, word}
+use Rattle.model.proofs.Word.{of_word-word}
 use Rattle.model.specs.Bytes.{word_at}
 use Rattle.model.specs.Estimate.{filled}
-use Rattle.model.specs.Laws.{kept_refl, kept_trans, listed_at}
-use Rattle.model.specs.Good.{AimFacts, Filled, filled-no, filled_yes}
-use Rattle.model.specs.Ends.{filled_is}
+use Rattle.model.proofs.Laws.{kept_refl, kept_trans, listed_at}
+use Rattle.model.specs.Good.{AimFacts, Filled}
+use Rattle.model.proofs.Good.{filled-no, filled_yes}
+use Rattle.model.proofs.Ends.{filled_is}
 use Rattle.network.specs.Width.{fit, fit_is, fit-min}
 use Rattle.pairs_hierarchy.specs.Estimates.{aim-filled}
 use Rattle.pairs_hierarchy.specs.Walks.{AboveFilled, Climbed, Risen, Walked, above, down_at, estimate_at, least_below, over, pair_at}
@@ -92,8 +97,8 @@ module _ {M : Map} {n : ℕ} {order pairs times : List ℕ} {count : ℕ} (o : H
 
       -- one that does gives its up time plus the estimate of its high, and what is above that is filled
       risen_take : {v best' : ℕ} {z : List ℕ} → k < count → Leads n r (low_in pairs k) (high_in pairs k) (up_in times k)
-          → Climbed n order pairs times count down e z (high_in pairs k) v → best' ≡ min best (word (fit (of_word (up_in times k) ⊕ of_word v)))
-          → Risen M t r (suc k) down e₀ z best'
+          → Climbed n order pairs times count down e z (high_in pairs k) v
+          → best' ≡ min best (word (fit (of_word (up_in times k) ⊕ of_word v))) → Risen M t r (suc k) down e₀ z best'
       risen_take {v} {best'} {z} l f c b = record {
         best-is = b ∙ ap₂ min w.best-is (ap (λ (y : Total). word (fit y)) sum)
             ∙ fit-min (least_below M t r k) (over M t r k)

@@ -9,16 +9,19 @@ use borrow.Author.Tests.{eq-eqb, ne_eqb}
 use lib.Dec.{eqb}
 use native.Mathlib.Decide.{ℕ_discrete}
 use native.Mathlib.Omega.{arith}
-use Rattle.graph.specs.Total.{Total, ◌⊓◌, ◌⊕◌, cond_no, cond_yes, decide_option, true_false}
+use Rattle.graph.specs.Total.{Total, ◌⊓◌, ◌⊕◌}
+use Rattle.graph.proofs.Total.{cond_no, cond_yes, decide_option, true_false}
 use Rattle.graph.specs.Least.{min_below}
-use Rattle.graph.specs.Path.{Path, Weights, empty, link, path_join}
+use Rattle.graph.specs.Path.{Path, Weights, empty, link}
+use Rattle.graph.proofs.Path.{path_join}
 use Rattle.graph.specs.Pairs.{up}
 use Rattle.graph.specs.Records.{pair_of}
-use Rattle.graph.specs.Estimate.{estimate_law}
-use Rattle.graph.specs.Reach.{Ups, path-reaches, reaches, reaches-path}
+use Rattle.graph.proofs.Estimate.{estimate_law}
+use Rattle.graph.specs.Reach.{Ups, reaches}
+use Rattle.graph.proofs.Reach.{path-reaches, reaches-path}
 use Rattle.graph.specs.Map.{Map, pairs_of, rank, weights}
-use Rattle.graph.specs.Rows.{ranked-estimate, ranked-up, rows_ascend, rows_has, ups-rows}
-use Rattle.model.specs.LimitLaws.{totals_fit}
+use Rattle.graph.proofs.Rows.{ranked-estimate, ranked-up, rows_ascend, rows_has, ups-rows}
+use Rattle.model.proofs.LimitLaws.{totals_fit}
 use Rattle.model.specs.Word.{none_word, unasked, word}
 use Rattle.model.specs.Good.{UpClosed}
 use Rattle.network.specs.Width.{fit, fit_is}

@@ -5,17 +5,20 @@ use Prim.Native.Nat.{◌<◌, ◌≤◌, suc, zero, ℕ}
 use lib.ListN.{length}
 use native.Mathlib.Nat.{not-suc-le-zero}
 use native.Mathlib.Omega.{arith}
-use Rattle.graph.specs.Total.{Total, ◌⊓◌, ⊓-assoc, ⊓-none}
+use Rattle.graph.specs.Total.{Total, ◌⊓◌}
+use Rattle.graph.proofs.Total.{⊓-assoc, ⊓-none}
 use Rattle.graph.specs.Least.{min_below}
 use Rattle.graph.specs.Lists.{Ordered, ordered_cons, ordered_nil}
 use Rattle.graph.specs.Records.{Pair, min_over}
 use Rattle.graph.specs.Rows.{Ascend}
-use Rattle.model.specs.Use.{pair_in, pair_in-mem}
+use Rattle.model.specs.Use.{pair_in}
+use Rattle.model.proofs.Use.{pair_in-mem}
 
 -- a minimum from its other end
 min_below-first : (n : ℕ) (f : ℕ → Total) → min_below (suc n) f ≡ f 0 ⊓ min_below n (λ i. f (suc i))
 min_below-first zero f = sym (⊓-none (f 0))
-min_below-first (suc n) f = ap (λ (x : Total). x ⊓ f (suc n)) (min_below-first n f) ∙ ⊓-assoc (f 0) (min_below n (λ i. f (suc i))) (f (suc n))
+min_below-first (suc n) f =
+    ap (λ (x : Total). x ⊓ f (suc n)) (min_below-first n f) ∙ ⊓-assoc (f 0) (min_below n (λ i. f (suc i))) (f (suc n))
 
 pub min_over-places : (g : Pair → Total) (l : List Pair) → min_over g l ≡ min_below (length l) (λ i. g (pair_in l i))
 min_over-places g [] = refl

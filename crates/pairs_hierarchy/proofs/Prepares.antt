@@ -4,10 +4,10 @@ use mathlib.Core.List.{List}
 use Prim.Native.Nat.{◌*◌, ◌<◌, ◌≤◌, ℕ}
 use lib.ListN.{get_or, length}
 use native.Mathlib.Omega.{arith}
-use Rattle.graph.specs.Ranks.{rank_below}
+use Rattle.graph.proofs.Ranks.{rank_below}
 use Rattle.graph.specs.Map.{rank}
 use Rattle.model.specs.Word.{none_word}
-use Rattle.model.specs.Laws.{kept_refl, listed_at}
+use Rattle.model.proofs.Laws.{kept_refl, listed_at}
 use Rattle.network.specs.Bodies.{Prepared, map_in}
 use Rattle.pairs_hierarchy.specs.Estimates.{Estimated}
 use Rattle.pairs_hierarchy.specs.Walks.{Climbed}

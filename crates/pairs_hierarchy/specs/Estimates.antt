@@ -4,7 +4,8 @@ use Rattle.std.proofs.Common.{subst, sym}
 use Rattle.graph.specs.Map.{Map, estimate_of, fills}
 use Rattle.model.specs.Word.{unasked, word}
 use Rattle.model.specs.Estimate.{Kept, filled}
-use Rattle.model.specs.Good.{AimFacts, UpClosed, filled-entries, fills-on}
+use Rattle.model.specs.Good.{AimFacts, UpClosed}
+use Rattle.model.proofs.Good.{filled-entries, fills-on}
 use Rattle.network.specs.Bodies.{Prepared, map_in}
 
 -- The estimate v of junction j; e are the estimates before it, z those after it.

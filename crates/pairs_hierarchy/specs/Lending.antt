@@ -1,5 +1,6 @@
 -- The areas that an estimate is lent, and what its clauses say of them. Definitions only.
 use Rattle.std.specs.Prelude.{◌≡◌, List, ◌*◌, ◌<◌, ◌≤◌, ℕ, length}
+use Rattle.std.specs.Borrow.{MutBor}
 use denote.Triple.Both.{Both}
 use Rattle.model.specs.Limits.{most_junctions, most_pairs}
 use Rattle.model.specs.Areas.{record_size}
@@ -15,10 +16,10 @@ pub record Lent : Type 0 where
   pub down : List ℕ
   pub estimates : List ℕ
 
-abbrev pub lent_of : (order pairs times down estimates : Held) → Lent
+abbrev pub lent_of : (order pairs times down : Held) (estimates : MutBor (List ℕ)) → Lent
 lent_of o p q d e = record { order = o.now; pairs = p.now; times = q.now; down = d.now; estimates = e.now }
 
-abbrev pub lent : (order pairs times down estimates : Slice) → Both Lent Lent
+abbrev pub lent : (order pairs times down : Slice) (estimates : Both (MutBor (List ℕ)) (MutBor (List ℕ))) → Both Lent Lent
 lent o p q d e = record {
   entry = lent_of o.entry p.entry q.entry d.entry e.entry;
   exit = lent_of o.exit p.exit q.exit d.exit e.exit;

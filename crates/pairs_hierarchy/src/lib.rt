@@ -1,4 +1,6 @@
 // Estimates over the prepared pairs (document 01: estimate): functions on slices.
+#![tactic(auto)]
+
 ghost use Rattle.std.specs.Prelude.{◌≡◌};
 ghost use Rattle.pairs_hierarchy.specs.Lending.{EstimateAsked, EstimateTold, KnownAsked, RankAsked, RankTold, WalkTold, lent, lent_of};
 ghost use Rattle.pairs_hierarchy.specs.Walks.{standing};

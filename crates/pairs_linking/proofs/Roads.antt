@@ -12,8 +12,10 @@ use native.Mathlib.Decide.{ℕ_discrete}
 use native.Mathlib.Nat.{not-suc-le-zero}
 use native.Mathlib.Numerals.{add-one}
 use native.Mathlib.Omega.{arith}
-use Rattle.graph.specs.Total.{Total, ◌⊓◌, cond_same, ⊓-assoc, ⊓-comm, ⊓-none}
-use Rattle.graph.specs.Least.{min_below, min_below-skip}
+use Rattle.graph.specs.Total.{Total, ◌⊓◌}
+use Rattle.graph.proofs.Total.{cond_same, ⊓-assoc, ⊓-comm, ⊓-none}
+use Rattle.graph.specs.Least.{min_below}
+use Rattle.graph.proofs.Least.{min_below-skip}
 use Rattle.graph.specs.Network.{Network, cost_between, direct}
 use Rattle.model.specs.Limits.{most_time}
 use Rattle.model.specs.Word.{word}

@@ -1,4 +1,6 @@
 // The row of a rank r begins with the roads between r and the ranks above it, which are linked by the lower of their ranks.
+#![tactic(auto)]
+
 ghost use Rattle.std.specs.Prelude.{◌≡◌, ◌<◌, ◌/◌, length};
 ghost use Rattle.pairs_rows.specs.Links.{Ranked, net_in, row_of};
 ghost use Rattle.pairs_rows.specs.Lending.{AllLinked, RoadAsked, RoadDone, RowAsked, RowBegun, Unlinked, links, links_of, rows, rows_of};

@@ -1,4 +1,6 @@
 // The rows of the lower ranks, passed over the row of a rank r, block by block: a block whose bound is above r has no pair with r.
+#![tactic(auto)]
+
 ghost use Rattle.std.specs.Prelude.{◌<◌, ◌≤◌};
 ghost use Rattle.graph.specs.Path.{Weights};
 ghost use Rattle.model.specs.Limits.{most_junctions};

@@ -5,16 +5,18 @@ use Rattle.std.proofs.Math.Option.{some}
 use Rattle.graph.specs.Network.{Arc}
 use Rattle.graph.specs.Bound.{CostsAtMost}
 use Rattle.graph.specs.Pairs.{down, up}
-use Rattle.graph.specs.Records.{Kept, Pair, rows_member}
+use Rattle.graph.specs.Records.{Kept, Pair}
+use Rattle.graph.proofs.Records.{rows_member}
 use Rattle.graph.specs.Estimate.{down_total}
-use Rattle.graph.specs.Ranks.{rank_of-vertex}
+use Rattle.graph.proofs.Ranks.{rank_of-vertex}
 use Rattle.graph.specs.Map.{Map, Valid, pairs_of, rank, weights}
-use Rattle.graph.specs.Rows.{ranked-down_total}
+use Rattle.graph.proofs.Rows.{ranked-down_total}
 use Rattle.model.specs.Limits.{most_junctions, most_time}
-use Rattle.model.specs.LimitLaws.{totals_fit}
+use Rattle.model.proofs.LimitLaws.{totals_fit}
 use Rattle.model.specs.Bytes.{word_at}
 use Rattle.model.specs.Word.{unasked}
-use Rattle.model.specs.Use.{RecordAt, pair_in, pair_in-mem, words-at}
+use Rattle.model.specs.Use.{RecordAt, pair_in}
+use Rattle.model.proofs.Use.{pair_in-mem, words-at}
 use Rattle.network.specs.Bodies.{Prepared, junction_in, map-facts, map_in}
 
 pub record Holds (M : Map) (n : ℕ) (order pairs times : List ℕ) (count : ℕ) : Type 0 where

@@ -3,7 +3,7 @@ use Rattle.std.proofs.Common.{◌∙◌, subst, sym, inl, inr, arith}
 use Rattle.std.specs.Prelude.{◌≡◌, ◌⊎◌, Bool, false, not, true, List, ◌*◌, ◌+◌, ◌-◌, ◌/◌, ◌<◌, ◌≤◌, ℕ, eqb, ltb}
 use borrow.Author.Tests.{eq-eqb, eqb-false, eqb-true, le-ltb, lt-ltb, ltb-true, ne_eqb, not-true}
 use Rattle.std.proofs.Math.Decide.{dec_lt, ℕ_discrete}
-use Rattle.graph.specs.Total.{and_true}
+use Rattle.graph.proofs.Total.{and_true}
 use Rattle.model.specs.Word.{none_word, unasked}
 use Rattle.pairs_records.specs.Words.{Ascending, Starts, answer, below_in, leads, low_in}
 
@@ -122,7 +122,8 @@ module _ {pairs : List ℕ} {count r base size : ℕ} (left : Left pairs count r
         → (Ascending pairs count → (i : ℕ) → base + p + (size - 3 * q) ≤ i → i < count → r ≤ low_in pairs i) → Next p
     by p h f g = record { fits = omega (arith, h, q-is, left.fits); before = f; onward = g }
 
-    up : (p u : ℕ) → u < base + size → base + p ≤ u → low_in pairs u < r → Ascending pairs count → (i : ℕ) → i < base + p → low_in pairs i < r
+    up : (p u : ℕ) → u < base + size → base + p ≤ u → low_in pairs u < r → Ascending pairs count → (i : ℕ) → i < base + p
+        → low_in pairs i < r
     up p u h l b s i k = omega (arith, b, s i u (omega (arith, k, l)) (omega (arith, h, left.fits)))
 
     down : (p v : ℕ) → v ≤ base + p + (size - 3 * q) → r ≤ low_in pairs v → Ascending pairs count → (i : ℕ) → base + p + (size - 3 * q) ≤ i

@@ -1,5 +1,7 @@
 // The records of the pairs, two ranks in one area and two times in another: read and written here and nowhere else; the first one of a
 // rank, and which lead up.
+#![tactic(auto)]
+
 ghost use Rattle.std.specs.Prelude.{◌≡◌, ◌*◌, ◌+◌, ◌<◌, ◌≤◌, length};
 ghost use Rattle.model.specs.Limits.{most_pairs};
 ghost use Rattle.model.specs.Areas.{record_size};

@@ -1,4 +1,6 @@
 // The row of a rank r: its times with the ranks above it, in two areas by rank, and marks at the blocks of ranks where they are relaxed.
+#![tactic(auto)]
+
 ghost use Rattle.std.specs.Prelude.{◌≡◌, ◌*◌, ◌<◌, ◌/◌, min, get_or, length, set};
 ghost use Rattle.graph.specs.Total.{◌⊕◌};
 ghost use Rattle.graph.specs.Records.{exists};

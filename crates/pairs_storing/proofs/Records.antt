@@ -10,8 +10,10 @@ use native.Mathlib.Numerals.{add-one}
 use native.Mathlib.Omega.{arith}
 use Rattle.graph.specs.Path.{Weights}
 use Rattle.graph.specs.Pairs.{down, up}
-use Rattle.graph.specs.Records.{Pair, begins-length, exists, pair_of, row, row-begins, row-blank, row_kept, row_low, rows}
-use Rattle.model.specs.Word.{none_word, of_word, of_word-none, word}
+use Rattle.graph.specs.Records.{Pair, exists, pair_of, row, rows}
+use Rattle.graph.proofs.Records.{begins-length, row-begins, row-blank, row_kept, row_low}
+use Rattle.model.specs.Word.{none_word, of_word, word}
+use Rattle.model.proofs.Word.{of_word-none}
 use Rattle.model.specs.Areas.{rank_words, record_size, time_words, zeros_after}
 use Rattle.pairs_rows.specs.Rows.{block}
 use Rattle.network.specs.Width.{fit, fit_is, fit-of_word}

@@ -1,4 +1,6 @@
 // The records of a row, appended to the two areas of pairs, and the zeros after the last.
+#![tactic(auto)]
+
 ghost use Rattle.std.specs.Prelude.{◌≡◌, ◌*◌, ◌≤◌, length};
 ghost use Rattle.graph.specs.Path.{Weights};
 ghost use Rattle.model.specs.Areas.{record_size};
@@ -10,7 +12,7 @@ use network::{Rank, TimeWord};
 use pairs_rows::BLOCK;
 
 // The number of records in the areas, if all fit.
-#[derive(Drop)]
+#[derive(Clone, Copy)]
 pub enum Stored {
     All(u32),
     Full,

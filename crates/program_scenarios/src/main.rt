@@ -1,5 +1,7 @@
 // Runs of the program. Each three arguments are a card's file, a file of lines, and a file with what must be printed: a line says whether
 // it was.
+#![tactic(auto)]
+
 ghost use Rattle.std.specs.Prelude.{◌-◌, ◌<◌, ◌≤◌};
 
 // What is compared at a time.

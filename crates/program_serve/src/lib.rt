@@ -1,4 +1,6 @@
 // The program: reads its card, then lines to the end of the input, and writes each answer at once.
+#![tactic(auto)]
+
 ghost use Rattle.std.specs.Prelude.{◌≡◌, List, ℕ, length, take};
 ghost use Rattle.io.specs.Counts.{IsPrefixLen};
 ghost use Rattle.line_input.specs.Holds.{Holds};

@@ -9,7 +9,8 @@ use lib.Dec.{eqb, ltb}
 use lib.ListN.{drop, length, length-append, length-take, take}
 use lib.Seq.{take_all, take_at}
 use native.Mathlib.Omega.{arith}
-use Rattle.graph.specs.Total.{Tested, Total, decide}
+use Rattle.graph.specs.Total.{Tested, Total}
+use Rattle.graph.proofs.Total.{decide}
 use Rattle.model.specs.Types.{Accepted, Answer, Estimated, Gone, Previewed, Refusal, Refused, Stopped}
 use Rattle.model.specs.Word.{of_word}
 use Rattle.line_texts.specs.Areas.{Written, decimal, digits_in, shown, spaced}

@@ -11,18 +11,20 @@ use lib.Dec.{eqb, leb, ltb}
 use lib.ListN.{length, take}
 use native.Mathlib.Decide.{ℕ_discrete}
 use native.Mathlib.Omega.{arith}
-use Rattle.graph.specs.Total.{Tested, Total, decide, none-some, some-some, true_false}
+use Rattle.graph.specs.Total.{Tested, Total}
+use Rattle.graph.proofs.Total.{decide, none-some, some-some, true_false}
 use Rattle.graph.specs.Map.{Map, pairs_of}
 use Rattle.model.specs.Types.{Accepted, Answer, Answered, AreaLengths, Header, Kinds, Place, Refusal, Refused, Road, Room, Short, Sizes}
 use Rattle.model.specs.Types.{Starts}
 use Rattle.model.specs.Layout.{access_fits, count_size, order_in, road_size, roads_in, roads_kind, sections, sections_from, table_size}
 use Rattle.model.specs.Card.{and_then, ask, ask_each, card_refusal, count_ok, failing_place, failing_road, kinds_ok, map_on, rows_of, rows_refusal}
 use Rattle.model.specs.Card.{sizes_ok, starts_ok}
-use Rattle.model.specs.Accept.{card-facts}
+use Rattle.model.proofs.Accept.{card-facts}
 use Rattle.model.specs.Areas.{Areas, Each, lengths, lengths_fit, record_size, zeroed}
 use Rattle.model.specs.State.{State, Step, answering, areas_refusal, fresh, none_lent, prepare, room_refusal, unless, unprepared}
 use Rattle.model.specs.Promises.{after}
-use Rattle.model.specs.Good.{LengthFacts, facts-lengths, lengths-facts}
+use Rattle.model.specs.Good.{LengthFacts}
+use Rattle.model.proofs.Good.{facts-lengths, lengths-facts}
 use Rattle.line_texts.specs.Areas.{Written}
 use Rattle.line_console.specs.Texts.{unreadable_text}
 use Rattle.program_shell.specs.Limits.{file_limit, junction_limit, out_room, pair_words, road_limit}

@@ -18,7 +18,8 @@ use Rattle.model.specs.Stops.{plain_journey, stops_answer}
 use Rattle.model.specs.Calls as calls
 use Rattle.model.specs.Calls.{Aim, Asked, Estimate, Go, Plain, Preview, Set, Stops, calling, machine_step, plain, refusal_of}
 use Rattle.model.specs.Demand3.{Demand3}
-use Rattle.model.specs.Chain.{Chain, chain_demand3}
+use Rattle.model.specs.Chain.{Chain}
+use Rattle.model.proofs.Chain.{chain_demand3}
 use Rattle.unit_answers.specs.Shape.{call_in}
 use Rattle.line_console.specs.Lines.{line_of}
 use Rattle.line_answers.specs.Texts.{trip_text}

@@ -1,4 +1,6 @@
 // The program's steps on slices: what it makes of its card, and what it answers to a line.
+#![tactic(auto)]
+
 ghost use Rattle.std.specs.Prelude.{◌≡◌, true, List, ◌<◌, ◌≤◌, ℕ, length};
 ghost use Rattle.model.specs.Areas.{Areas};
 ghost use Rattle.network.specs.Refusals.{refusal_in};
@@ -41,14 +43,14 @@ pub const OUT_ROOM: usize = 8192;
 // ---- the card
 
 // The lengths of the areas that a card is lent, by junction and by road.
-#[derive(Drop)]
+#[derive(Clone, Copy)]
 pub struct Room {
     pub n: usize,
     pub m: usize,
 }
 
 // What the program makes of its card: the number of bytes to print, and whether the unit is prepared; if so, its header.
-#[derive(Drop)]
+#[derive(Clone, Copy)]
 pub struct Opened {
     pub header: Header,
     pub length: usize,
@@ -173,7 +175,7 @@ pub fn kept_line(p: Part, area: &[u8]) -> &[u8]
 }
 
 // What answering a line hands back: the header, and the number of bytes to print.
-#[derive(Drop)]
+#[derive(Clone, Copy)]
 pub struct Reply {
     pub header: Header,
     pub length: usize,

@@ -10,24 +10,28 @@ use lib.Dec.{eqb}
 use lib.ListN.{get_or, length}
 use native.Mathlib.Decide.{ℕ_discrete}
 use native.Mathlib.Omega.{arith}
-use Rattle.graph.specs.Total.{Tested, Total, and_true, decide, decide_option, is_number, is_number_true, none-some, true_false, true_is_number}
-use Rattle.graph.specs.Least.{any_below, any_below_true, true_any_below}
+use Rattle.graph.specs.Total.{Tested, Total, is_number}
+use Rattle.graph.proofs.Total.{and_true, decide, decide_option, is_number_true, none-some, true_false, true_is_number}
+use Rattle.graph.specs.Least.{any_below}
+use Rattle.graph.proofs.Least.{any_below_true, true_any_below}
 use Rattle.graph.specs.Search.{Entry, Problem, back, has_goal, history, is, log_of, route_of, time_in, total_of, way_in}
-use Rattle.graph.specs.Walk.{time_in-here}
-use Rattle.graph.specs.Complete.{history-reached, length-le, no-goal}
-use Rattle.graph.specs.Back.{back-route, true_is}
-use Rattle.graph.specs.Answer.{Ended, count-is, end, found, lost}
+use Rattle.graph.proofs.Walk.{time_in-here}
+use Rattle.graph.proofs.Complete.{history-reached, length-le, no-goal}
+use Rattle.graph.proofs.Back.{back-route, true_is}
+use Rattle.graph.specs.Answer.{Ended, found, lost}
+use Rattle.graph.proofs.Answer.{count-is, end}
 use Rattle.graph.specs.Map.{Map, estimate_of, fills}
 use Rattle.graph.specs.Go.{go_of}
 use Rattle.model.specs.Limits.{most_total}
-use Rattle.model.specs.Word.{none_word, word, word_none, word_some}
+use Rattle.model.specs.Word.{none_word, word}
+use Rattle.model.proofs.Word.{word_none, word_some}
 use Rattle.model.specs.Layout.{road_size}
 use Rattle.model.specs.Bytes.{listed, word_at}
 use Rattle.model.specs.State.{first}
 use Rattle.model.specs.Estimate.{filled}
 use Rattle.model.specs.Go.{asks, go_asks, go_fills, go_route, live_of}
-use Rattle.model.specs.Laws.{listed_at, or_true, true_and, true_or_right}
-use Rattle.model.specs.Ends.{filled_is}
+use Rattle.model.proofs.Laws.{listed_at, or_true, true_and, true_or_right}
+use Rattle.model.proofs.Ends.{filled_is}
 use Rattle.search_labels.specs.Labelling.{labels_in}
 use Rattle.search_labels.specs.Ways.{arcs_back, way_of}
 use Rattle.search_labels.specs.Ended.{arcs-back, start_no_later, way-back_is}

@@ -15,9 +15,10 @@ use Rattle.model.specs.State.{first}
 use Rattle.model.specs.Estimate.{filled}
 use Rattle.model.specs.Go.{asks}
 use Rattle.model.specs.Preview.{either_asks, work_size}
-use Rattle.model.specs.Laws.{kept_trans}
-use Rattle.model.specs.Ends.{filled-same, filled-twice}
-use Rattle.model.specs.Good.{AimFacts, asks-closed, filled-entries}
+use Rattle.model.proofs.Laws.{kept_trans}
+use Rattle.model.proofs.Ends.{filled-same, filled-twice}
+use Rattle.model.specs.Good.{AimFacts}
+use Rattle.model.proofs.Good.{asks-closed, filled-entries}
 use Rattle.network.specs.Bodies.{map-facts}
 use Rattle.road_groups.specs.Lending.{GroupsMade}
 use Rattle.search_queue.specs.Order.{blank_word}

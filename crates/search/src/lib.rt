@@ -1,5 +1,7 @@
 // The search of a go (document 01: the search log): a run whose budget never ends it, its total and its route. The two searches of a
 // preview (document 02, A2): the total alone, twice.
+#![tactic(auto)]
+
 ghost use Rattle.search_junctions.specs.Views.{met};
 ghost use Rattle.search_junctions.specs.State.{given, given_to};
 ghost use Rattle.search_run.specs.Runs.{Lends, written};
@@ -23,7 +25,7 @@ const LARGEST: usize = MOST_JUNCTIONS as usize;
 const WORDS: usize = 3;
 
 // The answer of a search: the total or none, the number of logged junctions (document 01: count), and of the route's roads.
-#[derive(Drop)]
+#[derive(Clone, Copy)]
 pub struct Searched {
     pub total: Time,
     pub count: u32,
@@ -136,7 +138,7 @@ pub fn search(
 // ---- the two searches of a preview
 
 // The totals of a preview, each none where there is no chain.
-#[derive(Drop)]
+#[derive(Clone, Copy)]
 pub struct TwoTotals {
     pub present: Time,
     pub new: Time,

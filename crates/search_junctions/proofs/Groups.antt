@@ -8,7 +8,8 @@ use native.Mathlib.Decide.{dec_lt}
 use native.Mathlib.Nat.{le_of_suc-le-suc, not-suc-le-zero}
 use native.Mathlib.Omega.{arith}
 use Rattle.graph.specs.ByTail.{group_size}
-use Rattle.graph.specs.ByTailLaws.{GroupEntry, group_entry, size_gap, size-here, size-more, size-rises}
+use Rattle.graph.specs.ByTailLaws.{GroupEntry}
+use Rattle.graph.proofs.ByTailLaws.{group_entry, size_gap, size-here, size-more, size-rises}
 use Rattle.model.specs.Layout.{road_size}
 use Rattle.model.specs.Bytes.{word_at}
 use Rattle.road_groups.specs.Lending.{tail_in}

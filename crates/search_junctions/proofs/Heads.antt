@@ -14,7 +14,7 @@ use Rattle.model.specs.Word.{none_word, unasked}
 use Rattle.model.specs.Layout.{road_size}
 use Rattle.model.specs.Bytes.{word_at}
 use Rattle.model.specs.Estimate.{Kept}
-use Rattle.model.specs.Laws.{kept_refl, kept_trans}
+use Rattle.model.proofs.Laws.{kept_refl, kept_trans}
 use Rattle.pairs_hierarchy.specs.Estimates.{Estimated, aim-estimated}
 use Rattle.search_junctions.specs.Groups.{IsGroup}
 use Rattle.search_junctions.specs.State.{Given, Ready, go_given}

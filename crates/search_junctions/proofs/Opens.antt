@@ -9,7 +9,8 @@ use lib.Dec.{eqb}
 use lib.ListN.{get_or}
 use native.Mathlib.Omega.{arith}
 use Rattle.graph.specs.Search.{Problem}
-use Rattle.model.specs.Word.{none_word, of_word, of_word-none}
+use Rattle.model.specs.Word.{none_word, of_word}
+use Rattle.model.proofs.Word.{of_word-none}
 use Rattle.model.specs.Layout.{road_size}
 use Rattle.model.specs.Bytes.{word_at}
 use Rattle.network.specs.declared.Sizes.{Sizes}

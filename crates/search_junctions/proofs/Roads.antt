@@ -8,10 +8,12 @@ use lib.Dec.{eqb}
 use lib.ListN.{get_or, length}
 use native.Mathlib.Numerals.{add-one}
 use native.Mathlib.Omega.{arith}
-use Rattle.graph.specs.Total.{◌⊕◌, cond_same, ⊕-none}
+use Rattle.graph.specs.Total.{◌⊕◌}
+use Rattle.graph.proofs.Total.{cond_same, ⊕-none}
 use Rattle.graph.specs.Search.{Entry, Problem, offer_via, time_in}
-use Rattle.graph.specs.Walk.{some-offer_via}
-use Rattle.model.specs.Word.{none_word, of_word, of_word-some, unasked, word}
+use Rattle.graph.proofs.Walk.{some-offer_via}
+use Rattle.model.specs.Word.{none_word, of_word, unasked, word}
+use Rattle.model.proofs.Word.{of_word-some}
 use Rattle.model.specs.Layout.{road_size}
 use Rattle.model.specs.Bytes.{word_at}
 use Rattle.network.specs.Width.{fit, fit_in}

@@ -10,7 +10,7 @@ use lib.Seq.{get_or-set_other, get_or-set_same}
 use native.Mathlib.Omega.{arith}
 use Rattle.model.specs.Word.{closed_word}
 use Rattle.model.specs.Classes.{access_of, admits}
-use Rattle.model.specs.ClassLaws.{times-at, times-length}
+use Rattle.model.proofs.ClassLaws.{times-at, times-length}
 use Rattle.network.specs.declared.Time.{Time}
 use Rattle.search_junctions.specs.declared.Trip.{Trip}
 use Rattle.search_junctions.specs.declared.View.{View}

@@ -3,20 +3,23 @@ use Rattle.std.specs.Prelude.{◌≡◌, refl, List, ◌*◌, ◌+◌, ◌<◌, 
 use Rattle.std.proofs.Common.{sym, eq-eqb, ne_eqb, arith}
 use Rattle.std.proofs.Math.Option.{none, some}
 use Rattle.std.proofs.Math.ListN.{length}
-use Rattle.graph.specs.Least.{least_unique}
+use Rattle.graph.proofs.Least.{least_unique}
 use Rattle.graph.specs.Network.{Arc}
 use Rattle.graph.specs.Bound.{CostsAtMost}
 use Rattle.graph.specs.Potential.{Slower}
 use Rattle.graph.specs.Search.{Entry, time_in}
-use Rattle.graph.specs.Walk.{offer_via-some, start_at-some}
-use Rattle.graph.specs.History.{Reached, logged-least, mem-time_in}
-use Rattle.graph.specs.Map.{estimate_of, estimate_of-bound, live_net, time_of-bound}
-use Rattle.graph.specs.Go.{go_time_least, go_well_formed, go_of}
+use Rattle.graph.proofs.Walk.{offer_via-some, start_at-some}
+use Rattle.graph.specs.History.{Reached}
+use Rattle.graph.proofs.History.{logged-least, mem-time_in}
+use Rattle.graph.specs.Map.{estimate_of, live_net}
+use Rattle.graph.proofs.Map.{estimate_of-bound, time_of-bound}
+use Rattle.graph.specs.Go.{go_of}
+use Rattle.graph.proofs.Go.{go_time_least, go_well_formed}
 use Rattle.model.specs.Layout.{road_size}
 use Rattle.model.specs.Limits.{most_time, most_total}
 use Rattle.model.specs.Go.{by_time, live_of}
-use Rattle.model.specs.LimitLaws.{totals_fit}
-use Rattle.model.specs.Good.{settable-most, settable_slower}
+use Rattle.model.proofs.LimitLaws.{totals_fit}
+use Rattle.model.proofs.Good.{settable-most, settable_slower}
 use Rattle.network.specs.Bodies.{head_in, map-facts, tail_in_lem}
 use Rattle.search_labels.specs.Labelled.{Searchable}
 use Rattle.search_junctions.specs.State.{Given, Ready, go_given, map_given}

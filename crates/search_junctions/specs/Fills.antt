@@ -4,14 +4,17 @@ use Rattle.std.specs.Prelude.{◌≡◌, ◌⊎◌, false, true, List, [], ◌�
 use Rattle.std.proofs.Math.Path.{refl}
 use Rattle.std.proofs.Math.Option.{none}
 use Rattle.std.proofs.Math.Decide.{dec_lt, ℕ_discrete}
-use Rattle.graph.specs.Total.{Tested, decide, none-some}
+use Rattle.graph.specs.Total.{Tested}
+use Rattle.graph.proofs.Total.{decide, none-some}
 use Rattle.graph.specs.Network.{Network}
 use Rattle.graph.specs.Search.{Entry, Problem, time_in}
-use Rattle.graph.specs.Walk.{TimeIs, time_in-cases, time_in-here, time_in-there}
+use Rattle.graph.specs.Walk.{TimeIs}
+use Rattle.graph.proofs.Walk.{time_in-cases, time_in-here, time_in-there}
 use Rattle.graph.specs.Map.{Map, estimate_of, fills}
 use Rattle.model.specs.Word.{unasked, word}
 use Rattle.model.specs.Estimate.{filled}
-use Rattle.model.specs.Good.{AimFacts, Filled, filled-length, filled-no, filled_yes, fills_self}
+use Rattle.model.specs.Good.{AimFacts, Filled}
+use Rattle.model.proofs.Good.{filled-length, filled-no, filled_yes, fills_self}
 use Rattle.network.specs.declared.Sizes.{Sizes}
 use Rattle.search_junctions.specs.Asking.{Asked, AskedTo, Filling, Leads, PairsIn, asked-head, asked-start}
 

@@ -2,7 +2,7 @@
 use Rattle.std.proofs.Common.{◌∙◌, length-set}
 use Rattle.std.specs.Prelude.{◌≡◌, refl, List, ℕ, length, set}
 use Rattle.model.specs.Classes.{access_of, class_times}
-use Rattle.model.specs.ClassLaws.{times-length}
+use Rattle.model.proofs.ClassLaws.{times-length}
 use Rattle.search_junctions.specs.declared.Trip.{Trip}
 use Rattle.search_junctions.specs.declared.View.{View}
 use Rattle.search_junctions.specs.declared.View.TheVariants.{Live, Set}

@@ -1,5 +1,7 @@
 // What a node of the search is, and where it leads: nodes are junctions, the roads of each are lent as its group, and the estimates of open
 // roads' heads are asked before a junction's roads are relaxed (document 01: the search log).
+#![tactic(auto)]
+
 ghost use Rattle.std.specs.Prelude.{◌≡◌, ◌*◌, ◌+◌, ◌<◌, ◌≤◌, eqb, get_or, length};
 ghost use Rattle.model.specs.Layout.{road_size};
 ghost use Rattle.model.specs.Bytes.{word_at};
@@ -30,7 +32,7 @@ pub fn group_at(leaving: &[u32], a: u32, b: u32) -> &[u32]
 // ---- a trip
 
 // The times that a trip goes by: the live times, or these with one road's time set (document 02, A2).
-#[derive(Drop)]
+#[derive(Clone, Copy)]
 pub enum View {
     Live,
     Set(u32, Time),
@@ -52,7 +54,7 @@ impl View {
 }
 
 // A trip on a map of so many junctions and roads, from the start to the target, by a vehicle of a class (document 02, A6).
-#[derive(Drop)]
+#[derive(Clone, Copy)]
 pub struct Trip {
     pub sizes: Sizes,
     pub start: Junction,

@@ -6,8 +6,10 @@ use lib.ListN.{get_or, length, length-set, set}
 use lib.Seq.{get_or-set_other, get_or-set_same}
 use native.Mathlib.Decide.{dec_lt, ℕ_discrete}
 use native.Mathlib.Omega.{arith}
-use Rattle.graph.specs.Total.{◌⊕◌, ⊕-none}
-use Rattle.model.specs.Word.{Reads, none_word, nothing, number, of_word, of_word-none, of_word-some, reads, word}
+use Rattle.graph.specs.Total.{◌⊕◌}
+use Rattle.graph.proofs.Total.{⊕-none}
+use Rattle.model.specs.Word.{Reads, none_word, nothing, number, of_word, word}
+use Rattle.model.proofs.Word.{of_word-none, of_word-some, reads}
 use Rattle.network.specs.Width.{fit, fit_in, fits, fits_in, fits_out}
 use Rattle.network.specs.Width as width
 use Rattle.search_queue.specs.Order.{by_key, key_in, key_unit, most_nodes, settled_key, tie_in}

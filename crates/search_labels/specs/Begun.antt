@@ -2,8 +2,8 @@
 use Rattle.std.specs.Prelude.{◌≡◌, refl, List, [], ◌+◌, ◌<◌, ◌≤◌, ℕ, eqb}
 use Rattle.std.proofs.Common.{inl, inr, arith}
 use Rattle.std.proofs.Math.Option.{none, some}
-use Rattle.graph.specs.Total.{cond_same, none-some, some-some}
-use Rattle.graph.specs.Least.{least-number}
+use Rattle.graph.proofs.Total.{cond_same, none-some, some-some}
+use Rattle.graph.proofs.Least.{least-number}
 use Rattle.graph.specs.Search.{Problem, offer_via, time_in}
 use Rattle.model.specs.Word.{word}
 use Rattle.search_queue.specs.Order.{no_key, settled_key}

@@ -7,9 +7,10 @@ use mathlib.Core.List.{List, [], ◌++◌, ◌∷◌}
 use Prim.Native.Nat.{◌+◌, ◌<◌, ◌≤◌, suc, zero, ℕ}
 use Rattle.std.proofs.Math.ListN.{length, length-append}
 use native.Mathlib.Omega.{arith}
-use Rattle.graph.specs.Total.{none-some}
+use Rattle.graph.proofs.Total.{none-some}
 use Rattle.graph.specs.Search.{Entry, Problem, back, is, time_in}
-use Rattle.graph.specs.Walk.{TimeIs, WellFormed, by_start, offered-least, time_in-cases}
+use Rattle.graph.specs.Walk.{TimeIs, WellFormed, by_start}
+use Rattle.graph.proofs.Walk.{offered-least, time_in-cases}
 use Rattle.graph.specs.Choice.{chosen}
 use Rattle.graph.specs.History.{Reached, fresh, grow}
 use Rattle.search_labels.specs.Labelling.{Labelling}

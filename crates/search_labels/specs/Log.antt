@@ -4,13 +4,16 @@ use Rattle.std.proofs.Common.{◌∙◌, ap, sym, inl, inr, arith}
 use Rattle.std.specs.Prelude.{◌≡◌, refl, ◌⊎◌, false, List, [], ◌++◌, ◌∷◌, ◌*◌, ◌+◌, ◌<◌, ◌≤◌, ℕ, get_or}
 use Rattle.std.proofs.Math.Option.{none, some}
 use Rattle.std.proofs.Math.Decide.{ℕ_discrete}
-use Rattle.graph.specs.Total.{Tested, decide, none-some, some-some}
-use Rattle.graph.specs.Least.{IsLeast, least-map, least_unique}
+use Rattle.graph.specs.Total.{Tested}
+use Rattle.graph.proofs.Total.{decide, none-some, some-some}
+use Rattle.graph.specs.Least.{IsLeast}
+use Rattle.graph.proofs.Least.{least-map, least_unique}
 use Rattle.graph.specs.Network.{arc_of}
 use Rattle.graph.specs.Search.{Entry, Problem, first_via, is, offer_via, offered, time_in}
-use Rattle.graph.specs.Walk.{Offer, by_arc, by_start, offer_via-some, offered-least, some-offer_via, time_in-here, time_in-there}
+use Rattle.graph.specs.Walk.{Offer, by_arc, by_start}
+use Rattle.graph.proofs.Walk.{offer_via-some, offered-least, some-offer_via, time_in-here, time_in-there}
 use Rattle.graph.specs.Choice.{Candidate}
-use Rattle.graph.specs.Back.{back_start, back-there, back-via, first_via-least, is_true, true_is}
+use Rattle.graph.proofs.Back.{back_start, back-there, back-via, first_via-least, is_true, true_is}
 use Rattle.search_queue.specs.Order.{most_nodes, settled_key}
 use Rattle.search_queue.specs.Tree.{Put}
 use Rattle.search_queue.specs.Sums.{SumsKept}

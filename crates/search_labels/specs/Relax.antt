@@ -3,12 +3,15 @@ use Rattle.std.proofs.Common.{◌∙◌, ap, sym, inl, inr, ne_eqb, arith}
 use Rattle.std.specs.Prelude.{◌≡◌, refl, ◌⊎◌, List, ◌+◌, ◌<◌, ◌≤◌, ℕ}
 use Rattle.std.proofs.Math.Option.{none, some}
 use Rattle.std.proofs.Math.Decide.{dec_lt, ℕ_discrete}
-use Rattle.graph.specs.Total.{Total, none-some, some-some}
-use Rattle.graph.specs.Least.{IsLeast, least-map, least-number}
-use Rattle.graph.specs.Walk.{offer_via-some}
+use Rattle.graph.specs.Total.{Total}
+use Rattle.graph.proofs.Total.{none-some, some-some}
+use Rattle.graph.specs.Least.{IsLeast}
+use Rattle.graph.proofs.Least.{least-map, least-number}
+use Rattle.graph.proofs.Walk.{offer_via-some}
 use Rattle.graph.specs.Search.{Entry, Problem, offer_via, time_in}
 use Rattle.graph.specs.History.{Reached}
-use Rattle.model.specs.Word.{word, word_some}
+use Rattle.model.specs.Word.{word}
+use Rattle.model.proofs.Word.{word_some}
 use Rattle.search_queue.specs.Order.{settled_key}
 use Rattle.search_labels.specs.Labelling.{Improved, Labelling, Taken, behind, earlier, labels_in, later, lost, settled, tied}
 use Rattle.search_labels.specs.Labelled.{Gives, Labelled, Labels, Offers, Searchable, Way, label_candidate}

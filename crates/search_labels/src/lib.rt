@@ -1,6 +1,8 @@
 // What a search keeps of each node: its time, its key and the arc that gave the time, and how an offer improves them. What a node stands
 // for is not known here. A room of 3 n words holds it for n nodes: first the queue, with the keys, then a word for each node, its time and
 // the arc.
+#![tactic(auto)]
+
 ghost use Rattle.std.specs.Prelude.{◌≡◌, ◌*◌, ◌<◌, ◌≤◌, length};
 ghost use Rattle.search_queue.specs.Order.{most_nodes};
 ghost use Rattle.search_labels.specs.Labelling.{Fits, Improved, Room, Taken, labels_in};
@@ -31,7 +33,7 @@ pub fn via_of(room: &[u64], n: u32, v: u32) -> u32
 // ---- a label
 
 // The time of a candidate or of a logged node, its key, and the arc that gave the time.
-#[derive(Drop)]
+#[derive(Clone, Copy)]
 struct Label {
     pub time: u64,
     pub key: u64,

@@ -8,7 +8,8 @@ use lib.ListN.{get_or, length, length-set, set}
 use lib.Seq.{get_or-set_other, get_or-set_same}
 use native.Mathlib.Decide.{dec_lt, ℕ_discrete}
 use native.Mathlib.Omega.{arith}
-use Rattle.graph.specs.Total.{Tested, decide}
+use Rattle.graph.specs.Total.{Tested}
+use Rattle.graph.proofs.Total.{decide}
 use Rattle.search_queue.specs.Order.{Alike, Before, Order, SameBut, Waiting, by_key, key_unit, most_nodes, settled_key, tie_in}
 use Rattle.search_queue.specs.Tree.{Above, Changed, Holds, NodeIn, Own, Put, Tells, before, better, here, nobody, part_of, placed_of}
 use Rattle.search_queue.specs.Tree.{somebody}

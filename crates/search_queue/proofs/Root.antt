@@ -7,7 +7,7 @@ use lib.ListN.{get_or}
 use native.Mathlib.Decide.{dec_lt}
 use native.Mathlib.Nat.{not-suc-le-zero}
 use native.Mathlib.Omega.{arith}
-use Rattle.graph.specs.Total.{some-some}
+use Rattle.graph.proofs.Total.{some-some}
 use Rattle.graph.specs.Search.{Entry, Problem, offered}
 use Rattle.graph.specs.Choice.{Candidate, Prior, chosen, finished}
 use Rattle.search_queue.specs.Order.{Chosen, FirstOf, Order, first-is, key_unit, most_nodes, none_left, settled_key}

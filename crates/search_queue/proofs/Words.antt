@@ -7,7 +7,7 @@ use lib.Dec.{leb}
 use native.Mathlib.Decide.{dec_lt, ℕ_discrete}
 use native.Mathlib.Omega.{arith}
 use Rattle.graph.specs.Search.{below_or}
-use Rattle.graph.specs.Choice.{below_or_false, below_or_true}
+use Rattle.graph.proofs.Choice.{below_or_false, below_or_true}
 use Rattle.search_queue.specs.Order.{Before, Order, Waiting, key_unit, most_nodes, settled_key}
 use Rattle.search_queue.specs.Tree.{Tells, before, better, placed_of}
 use Rattle.search_queue.specs.Laws.{placed-key, placed-number}

@@ -3,6 +3,8 @@
 // holds its key. It stands in the first 2 n places of a room; behind them the room has a word for each node, whose upper part, the node's
 // time, decides between equal keys. A part of that time stands in the words of the tree too, between key and number, so that one comparison
 // of words nearly always decides.
+#![tactic(auto)]
+
 ghost use Rattle.std.specs.Prelude.{◌≡◌, ◌%◌, ◌*◌, ◌/◌, ◌<◌, ◌≤◌, min, length};
 ghost use Rattle.search_queue.specs.Order.{by_key, key_in, key_unit, most_nodes, most_upper, no_key, settled_key, tie_in};
 ghost use Rattle.search_queue.specs.Tree.{Changed, NodeIn, Own, Put, Tells, better, word_of};

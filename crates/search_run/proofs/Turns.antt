@@ -11,15 +11,16 @@ use lib.Seq.{get_or-set_other, get_or-set_same}
 use native.Mathlib.Decide.{ℕ_discrete}
 use native.Mathlib.Omega.{arith}
 use Rattle.graph.specs.Search.{Entry, Problem, has_goal, time_in, vertices}
-use Rattle.graph.specs.Walk.{time_in-here, time_in-there}
+use Rattle.graph.proofs.Walk.{time_in-here, time_in-there}
 use Rattle.graph.specs.Choice.{NextIs, chosen}
 use Rattle.graph.specs.History.{Reached, fresh, grow}
-use Rattle.graph.specs.Complete.{Complete, length-vertices}
+use Rattle.graph.specs.Complete.{Complete}
+use Rattle.graph.proofs.Complete.{length-vertices}
 use Rattle.model.specs.Word.{none_word, word}
 use Rattle.model.specs.Bytes.{listed}
 use Rattle.model.specs.State.{first}
-use Rattle.model.specs.Laws.{listed_at, listed-length}
-use Rattle.model.specs.Ends.{first_snoc, listed-is}
+use Rattle.model.proofs.Laws.{listed_at, listed-length}
+use Rattle.model.proofs.Ends.{first_snoc, listed-is}
 use Rattle.search_queue.specs.Order.{Waiting, settled_key}
 use Rattle.search_queue.specs.Tree.{Put}
 use Rattle.search_queue.specs.Sums.{Choice, NextAt, SumsKept, entry_in, next-at, no-next}

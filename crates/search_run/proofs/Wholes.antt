@@ -11,19 +11,20 @@ use lib.ListN.{drop, get_or, get_or-replicate, length, length-replicate, length-
 use native.Mathlib.Decide.{dec_lt}
 use native.Mathlib.Numerals.{add-one}
 use native.Mathlib.Omega.{arith}
-use Rattle.graph.specs.Total.{and_true, true_false}
+use Rattle.graph.proofs.Total.{and_true, true_false}
 use Rattle.graph.specs.ByTail.{start_of}
-use Rattle.graph.specs.ByTailLaws.{group_part}
+use Rattle.graph.proofs.ByTailLaws.{group_part}
 use Rattle.graph.specs.Search.{Entry, Problem, has_goal, run}
 use Rattle.graph.specs.Choice.{NextIs, chosen, finished}
 use Rattle.graph.specs.History.{Reached, grow}
-use Rattle.graph.specs.Complete.{Complete, length-le, run_add, run_complete_stays}
-use Rattle.graph.specs.Steps.{reached-run}
+use Rattle.graph.specs.Complete.{Complete}
+use Rattle.graph.proofs.Complete.{length-le, run_add, run_complete_stays}
+use Rattle.graph.proofs.Steps.{reached-run}
 use Rattle.graph.specs.Walk.{WellFormed}
 use Rattle.model.specs.Limits.{most_junctions}
 use Rattle.model.specs.Word.{none_word}
 use Rattle.model.specs.Estimate.{Kept}
-use Rattle.model.specs.Laws.{kept_refl, kept_trans, listed_at}
+use Rattle.model.proofs.Laws.{kept_refl, kept_trans, listed_at}
 use Rattle.network.specs.declared.Sizes.{Sizes}
 use Rattle.road_groups.specs.Lending.{GroupsMade, tail_in}
 use Rattle.search_queue.specs.Order.{settled_key}

@@ -1,5 +1,7 @@
 // The run of a search (document 01: the search log): one node after the other is chosen, logged and gone on from; and the way back over the
 // arcs that gave the times. What a node is and where it leads is said in `search_junctions`, whose functions it calls.
+#![tactic(auto)]
+
 ghost use Rattle.std.specs.Prelude.{◌≡◌, ◌*◌, ◌<◌, ◌≤◌, eqb, length};
 ghost use Rattle.model.specs.Layout.{road_size};
 ghost use Rattle.model.specs.State.{first};
@@ -15,7 +17,7 @@ use search_labels::{time_of, via_of};
 use search_queue::{SETTLED, choose, put};
 
 // How many nodes are logged (document 01: count), and whether the log is complete.
-#[derive(Drop)]
+#[derive(Clone, Copy)]
 pub struct Progress {
     pub count: u32,
     pub complete: bool,

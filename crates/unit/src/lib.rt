@@ -1,4 +1,6 @@
 // The header, the calls as its methods, and any of document 01's four by its case.
+#![tactic(auto)]
+
 ghost use Rattle.std.specs.Prelude.{◌≡◌};
 ghost use Rattle.model.specs.Calls.{Aim, Estimate, Go, Set};
 ghost use Rattle.network.specs.Lending.{areas};
@@ -14,21 +16,21 @@ use network::{Junction, Sizes, Time, TimeWord};
 use unit_answers::{Answer, Call};
 
 // Numbers of junctions, roads and pairs, the card's length, and the target.
-#[derive(Drop)]
+#[derive(Clone, Copy)]
 pub struct Header {
     pub sizes: Sizes,
     pub target: Target,
 }
 
 // What each call hands back.
-#[derive(Drop)]
+#[derive(Clone, Copy)]
 pub struct Answered {
     pub header: Header,
     pub answer: Answer,
 }
 
 // What a list of stops hands back.
-#[derive(Drop)]
+#[derive(Clone, Copy)]
 pub struct Stopped {
     pub header: Header,
     pub answer: Stopping,

@@ -11,9 +11,11 @@ use mir.Syntax.{w64}
 use mir.Val.{SFits, of_z, to_z}
 use mir.ValLaws.{to_z-of_z, to_z_pos}
 use native.Mathlib.Omega.{arith}
-use Rattle.graph.specs.Total.{Total, none-some, some-some}
+use Rattle.graph.specs.Total.{Total}
+use Rattle.graph.proofs.Total.{none-some, some-some}
 use Rattle.model.specs.Types as model
-use Rattle.model.specs.Word.{Reads, none_word, nothing, number, of_word, of_word-none, of_word-some, reads}
+use Rattle.model.specs.Word.{Reads, none_word, nothing, number, of_word}
+use Rattle.model.proofs.Word.{of_word-none, of_word-some, reads}
 use Rattle.model.specs.Preview.{change_of, preview_answer}
 use Rattle.unit_answers.specs.Signed.{Fits, held, most}
 use Rattle.unit_answers.specs.Shape.{total_in}

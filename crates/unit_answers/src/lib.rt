@@ -1,4 +1,6 @@
 // What is asked and answered: the calls that the program's lines name, and the answers of all calls, without the areas.
+#![tactic(auto)]
+
 ghost use Rattle.std.specs.Prelude.{◌≡◌, ◌<◌, ◌-ℤ◌, pos};
 ghost use Rattle.model.specs.Word.{of_word, word};
 ghost use Rattle.model.specs.Preview.{change_of, preview_answer};
@@ -8,7 +10,7 @@ ghost use Rattle.unit_answers.specs.Signed.{Fits, held, most};
 use network::{Junction, Refusal, Time, TimeWord};
 
 // One of document 01's four calls with its arguments; a go has a class and a start (document 02, A6).
-#[derive(Drop)]
+#[derive(Clone, Copy)]
 pub enum Call {
     Set(u32, Time),
     Aim(Junction),
@@ -17,7 +19,7 @@ pub enum Call {
 }
 
 // A total, or none.
-#[derive(Drop)]
+#[derive(Clone, Copy)]
 pub enum Total {
     Of(TimeWord),
     None,
@@ -36,14 +38,14 @@ impl Total {
 }
 
 // The change from one total to another, or its absence.
-#[derive(Drop)]
+#[derive(Clone, Copy)]
 pub enum Change {
     By(i64),
     Absent,
 }
 
 // What preparing and the calls answer. `Gone` has total, count and number of roads; `Previewed` present total, new total and change.
-#[derive(Drop)]
+#[derive(Clone, Copy)]
 pub enum Answer {
     Refused(Refusal),
     Accepted,

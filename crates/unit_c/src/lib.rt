@@ -1,4 +1,6 @@
 // What C and Rust call: the public functions over plain words and slices. A refusal is its number, and 0 is an acceptance.
+#![tactic(auto)]
+
 ghost use Rattle.std.specs.Prelude.{◌≡◌, [], ◌∷◌, length};
 ghost use Rattle.model.specs.Card.{read_card};
 ghost use Rattle.model.specs.Calls.{Aim, Estimate, Go, Set};
@@ -26,7 +28,7 @@ use unit_answers::{Answer, Change};
 
 // A header as C holds it: `card` is the card's length; `aimed` is 0 where there is no target, and `target` is 0 then.
 #[repr(C)]
-#[derive(Drop)]
+#[derive(Clone, Copy)]
 pub struct UnitHeader {
     pub n: u32,
     pub m: u32,
@@ -41,7 +43,7 @@ pub struct UnitHeader {
 // the present total and `then` the one with the time set, each the mark none where there is none; `compared` is 1 where both exist, and
 // `change` is then minus total. What does not apply is 0.
 #[repr(C)]
-#[derive(Drop)]
+#[derive(Clone, Copy)]
 pub struct UnitAnswer {
     pub header: UnitHeader,
     pub question: u32,
@@ -57,7 +59,7 @@ pub struct UnitAnswer {
 // What a list of stops hands back. `question` and `leg` are 0, or the number of the refusal and the leg that 17 names; `legs` is their
 // number, `whole` the whole total, `totals` and `roads` each leg's. What does not apply is 0.
 #[repr(C)]
-#[derive(Drop)]
+#[derive(Clone, Copy)]
 pub struct UnitStops {
     pub header: UnitHeader,
     pub question: u32,

@@ -9,7 +9,7 @@ use native.Mathlib.Nat.{not-suc-le-zero}
 use native.Mathlib.Omega.{arith}
 use Rattle.model.specs.Bytes.{listed}
 use Rattle.model.specs.Areas.{Areas, Each, areas_of, each}
-use Rattle.model.specs.Ends.{listed-is}
+use Rattle.model.proofs.Ends.{listed-is}
 use Rattle.unit_preparing.specs.Preparing.{base_in}
 
 -- ---- the loop over the live times

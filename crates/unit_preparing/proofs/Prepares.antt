@@ -15,9 +15,10 @@ use Rattle.model.specs.Card.{card_refusal, map_on}
 use Rattle.model.specs.Areas.{Areas, Each, areas_of, fresh_areas, groups_of, leaving_of, lengths, lengths_fit, record_size, records_in, times_in}
 use Rattle.model.specs.State.{answering, areas_refusal, none_lent, prepare, room_refusal, unprepared}
 use Rattle.model.specs.Promises.{PrepareContract, before}
-use Rattle.model.specs.Laws.{and_then-none, ask-none}
-use Rattle.model.specs.Good.{LengthFacts, lengths-facts}
-use Rattle.model.specs.Ends.{listed_same}
+use Rattle.model.proofs.Laws.{and_then-none, ask-none}
+use Rattle.model.specs.Good.{LengthFacts}
+use Rattle.model.proofs.Good.{lengths-facts}
+use Rattle.model.proofs.Ends.{listed_same}
 use Rattle.network.specs.Bodies.{Prepared, Sound, base_in_lem, map-facts, map_in}
 use Rattle.network.specs.declared.Sizes.{Sizes}
 use Rattle.road_groups.specs.Lending.{GroupsAsked, GroupsMade, TailsIn}

@@ -1,4 +1,6 @@
 // Preparing once questions 1 to 7 have passed: ranks, pairs, live times, the roads by tail; question 8.
+#![tactic(auto)]
+
 ghost use Rattle.std.specs.Prelude.{◌≡◌, ◌*◌, length};
 ghost use Rattle.model.specs.Bytes.{listed};
 ghost use Rattle.model.specs.Layout.{road_size};

@@ -5,7 +5,8 @@ use mathlib.Core.Option.{some}
 use Prim.Native.Nat.{ℕ}
 use lib.Dec.{eqb, leb}
 use borrow.Author.Tests.{eqb-true}
-use Rattle.model.specs.Word.{none_word, of_word, of_word-none}
+use Rattle.model.specs.Word.{none_word, of_word}
+use Rattle.model.proofs.Word.{of_word-none}
 use Rattle.model.specs.Limits.{most_time}
 use Rattle.model.specs.Set.{settable}
 

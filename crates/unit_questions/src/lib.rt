@@ -1,4 +1,6 @@
 // Questions 7, 9, 11, 14 and 18 on numbers, and 9 of a preview's work area.
+#![tactic(auto)]
+
 ghost use Rattle.std.specs.Prelude.{◌≡◌, ◌&&◌, eqb, leb, ltb};
 ghost use Rattle.std.proofs.Math.Option.{some};
 ghost use Rattle.model.specs.Word.{of_word};
@@ -14,7 +16,7 @@ ghost use Rattle.unit_questions.specs.Lending.{lengths_in};
 use network::{Sizes, Time, TimeWord};
 
 // The lengths of the unit's areas.
-#[derive(Drop)]
+#[derive(Clone, Copy)]
 pub struct Lengths {
     pub ranks: usize,
     pub pairs: usize,

@@ -10,7 +10,8 @@ use lib.ListN.{drop, length, length-append, length-map, take, take-append-drop}
 use lib.Seq.{drop-append-add, drop-drop, length-take-le, take_at}
 use native.Mathlib.Nat.{sub-zero}
 use native.Mathlib.Omega.{arith}
-use Rattle.graph.specs.Total.{Tested, and_true, decide}
+use Rattle.graph.specs.Total.{Tested}
+use Rattle.graph.proofs.Total.{and_true, decide}
 use Rattle.model.specs.Types.{Accepted, Answer, Answered, Header}
 use Rattle.model.specs.Card.{CardMap, card_map, map_on}
 use Rattle.model.specs.Areas.{Areas}
@@ -19,7 +20,8 @@ use Rattle.model.specs.Machine.{Machine, started}
 use Rattle.model.specs.Calls.{Asked, Call, Plain, Preview, calling, machine_step, plain}
 use Rattle.model.specs.Demand3.{Demand3}
 use Rattle.model.specs.Promises.{CallContract, PrepareContract, after, before}
-use Rattle.model.specs.Chain.{Chain, chain_demand3, chain_steps, left-prepared}
+use Rattle.model.specs.Chain.{Chain}
+use Rattle.model.proofs.Chain.{chain_demand3, chain_steps, left-prepared}
 use Rattle.network.specs.declared.Time.{Time}
 use Rattle.network.specs.declared.Junction.{Junction}
 use Rattle.unit_script.specs.declared.Asked as code-asked

@@ -11,7 +11,7 @@ use mir.Syntax.{w64}
 use mir.Val.{Fits, SFits, of_z, to_z}
 use mir.ValLaws.{to_z-of_z}
 use native.Mathlib.Omega.{arith}
-use Rattle.graph.specs.Total.{true_false}
+use Rattle.graph.proofs.Total.{true_false}
 use Rattle.unit_answers.specs.declared.Change.{Change}
 use Rattle.unit_answers.specs.declared.Change.TheVariants.{By}
 use Rattle.unit_answers.specs.Shape.{change_in}

@@ -10,7 +10,8 @@ use lib.Seq.{take_all}
 use native.Mathlib.Nat.{add-zero}
 use native.Mathlib.Decide.{dec_lt}
 use native.Mathlib.Omega.{arith}
-use Rattle.graph.specs.Total.{Tested, decide}
+use Rattle.graph.specs.Total.{Tested}
+use Rattle.graph.proofs.Total.{decide}
 use Rattle.model.specs.Calls.{Go, Plain, Preview, Set, Stops}
 use Rattle.unit_script.specs.Words.{Lending, call_at, end_at, spelled, stops_at, time_of, with_all, words_of}
 

@@ -1,4 +1,6 @@
 // A script of calls as words: makes them one after the other, and writes the words of their answers.
+#![tactic(auto)]
+
 ghost use Rattle.std.specs.Prelude.{◌≡◌, List, [], ◌++◌, ◌∷◌, ◌*◌, ◌+◌, ◌≤◌, min, ℕ, get_or, length, replicate};
 ghost use Rattle.std.proofs.Math.Option.{some};
 ghost use Rattle.model.specs.Limits.{most_legs};
@@ -21,7 +23,7 @@ use unit_answers::{Answer, Call, Change};
 
 // What a call of a script asks: one of document 01's four; a preview of a class, a road, a time and a start; or a list of stops of a class,
 // which stand in the script.
-#[derive(Drop)]
+#[derive(Clone, Copy)]
 enum Asked {
     Four(Call),
     Preview(u32, u32, Time, Junction),
@@ -29,7 +31,7 @@ enum Asked {
 }
 
 // A call of a script, and how many entries of route and log it is lent.
-#[derive(Drop)]
+#[derive(Clone, Copy)]
 struct Scripted {
     asked: Asked,
     route: usize,
@@ -217,7 +219,7 @@ const LEG_WORDS: usize = 2;
 const ANSWER_SIZE: usize = 4 + LEG_WORDS * MOST_LEGS;
 
 // What a call hands back: the header, and its answer as words.
-#[derive(Drop)]
+#[derive(Clone, Copy)]
 struct Made {
     header: Header,
     one: u64,

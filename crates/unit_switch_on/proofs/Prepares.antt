@@ -11,8 +11,8 @@ use Rattle.model.specs.Card.{card_refusal, map_on, read_card, reading}
 use Rattle.model.specs.Areas.{Areas, Each, lengths, lengths_fit}
 use Rattle.model.specs.State.{areas_refusal, none_lent, prepare}
 use Rattle.model.specs.Promises.{PrepareContract, after}
-use Rattle.model.specs.Laws.{read_is}
-use Rattle.model.specs.Accept.{card-facts}
+use Rattle.model.proofs.Laws.{read_is}
+use Rattle.model.proofs.Accept.{card-facts}
 use Rattle.unit_preparing.specs.Preparing.{Accepts, refused_by}
 
 -- ---- questions 1 to 7

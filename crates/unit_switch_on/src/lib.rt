@@ -1,4 +1,6 @@
 // Preparing, as it is done at switch-on: questions 1 to 8, and the header.
+#![tactic(auto)]
+
 ghost use Rattle.std.specs.Prelude.{◌≡◌};
 ghost use Rattle.model.specs.Areas.{Areas, lengths};
 ghost use Rattle.network.specs.Refusals.{refusal_in};
@@ -17,7 +19,7 @@ use unit_answers::Answer;
 use unit_questions::Lengths;
 
 // What questions 1 to 7 say: refused, or the numbers of junctions and roads and the card's length, with no pair yet.
-#[derive(Drop)]
+#[derive(Clone, Copy)]
 enum Asked {
     No(Refusal),
     Yes(Sizes),

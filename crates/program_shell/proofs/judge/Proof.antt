@@ -4,7 +4,7 @@ use mathlib.Core.Path.{◌∙◌, ◌≡◌, ap, refl, sym}
 use Prim.Native.Nat.{◌≤◌}
 use native.Mathlib.Omega.{arith}
 use borrow.Author.Rules.{rules}
-use Rattle.graph.specs.Total.{true_false}
+use Rattle.graph.proofs.Total.{true_false}
 use Rattle.model.specs.Areas.{Areas}
 use Rattle.unit_answers.specs.declared.Answer.{Answer}
 use Rattle.unit_answers.specs.Shape.{answer_in}
