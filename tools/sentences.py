@@ -3,9 +3,9 @@
 tells what was, so only its links are looked at; docs/BENCHMARK.md is written by the benchmark, and of it links and paths are.
 
   sentences   docs/SENTENCES.md is a list: a sentence, an arrow, and what holds it. Each name after the arrow stands in the
-              place named before it. A place is `crate/File` (crates/crate/specs/File.antt), `crate/src`, `crate/must-fail`
-              (wrong programs of the gate), `crate/tried` (those outside of it), `program_scenarios/data`, or a file of rust/ or
-              crates/ by its path. Names in brackets are fields, declared somewhere in the tree. A sentence that a request of
+              place named before it. A place is `crate/File` (crates/crate/specs/File.antt, and proofs/File.antt, where its theorems
+              stand), `crate/src`, `crate/must-fail` (wrong programs of the gate), `crate/tried` (those outside of it),
+              `program_scenarios/data`, or a file of rust/ or crates/ by its path. Names in brackets are fields, declared somewhere in the tree. A sentence that a request of
               document 02 has changed (CHANGED) says since when.
   names       A name in backquotes is declared somewhere in the tree, `crate::name` in that crate's code, `Type::name` in some
               crate's, `File.name` or `Record.field` in that file or one that declares the record. In a table whose last column
@@ -42,7 +42,7 @@ CHANGED = (r'base time in seconds', r'\b1,000,000\b', r'4,095,000,000', r'4,294,
 
 # words of Rattle, of antt, of the kit and of the commands: no name of ours
 FOREIGN = set('''eqb ltb leb not cond none some replicate get_or take drop length min abbrev unfoldable unfolding use data record
-    requires ensures rt cc tried repeats'''.split())
+    requires ensures result rt cc tried'''.split())
 NAME = r"[\w'-]*[^\W\d][\w'-]*"
 TOP = ('c', 'crates', 'docs', 'examples', 'rust', 'target', 'tools')
 KIT = ('bytes', 'io', 'libc', 'os', 'std')
@@ -112,12 +112,17 @@ def place_files(place):
         return files_of(f'crates/{crate}/src/*.rt')
     if part in ('must-fail', 'tried', 'data'):
         return files_of(f'crates/{crate}/{part}/*')
-    return [f'crates/{crate}/specs/{part}.antt']
+    return of_name(crate, part)
+
+
+def of_name(crate, name):
+    """The file of that name in specs, and the one in proofs, as far as they are there."""
+    return files_of(f'crates/{crate}/specs/{name}.antt', f'crates/{crate}/proofs/{name}.antt')
 
 
 def where(name):
     """The files that have the name."""
-    every = files_of('crates/*/must-fail/*', 'crates/*/tried/*', 'crates/*/specs/*.antt', 'crates/*/src/*.rt', 'rust/tests/*.rs')
+    every = files_of('crates/*/must-fail/*', 'crates/*/tried/*', 'crates/*/specs/*.antt', 'crates/*/proofs/*.antt', 'crates/*/src/*.rt', 'rust/tests/*.rs')
     return [file for file in every if declared(name, file)]
 
 
@@ -162,14 +167,16 @@ def sentences(text):
 # ---- names of the other documents
 
 def named_files(cell):
-    """The files of a File column: [Card](..) or Card, of model; graph/Map; Map after graph/ in the same cell."""
-    found, crate = [], 'model'
+    """The files of a File column: [Card](..) or Card, of model; graph/Map; Map after graph/ in the same cell. Of specs and of proofs."""
+    found = []
     for link, word in re.findall(r'\[[^\]]*\]\(\.\./([^)]*)\)|((?:\w+/)?[A-Z]\w+)', cell):
-        if link:
+        place = re.fullmatch(r'crates/(\w+)/(?:specs|proofs)/(\w+)\.antt', link)
+        if link and not (place and os.path.isfile(link)):
             found.append(link)
         else:
             crate, _, file = word.rpartition('/') if '/' in word else ('model', '', word)
-            found.append(f'crates/{crate}/specs/{file}.antt')
+            crate, file = place.groups() if place else (crate, file)
+            found += of_name(crate, file) or [f'crates/{crate}/specs/{file}.antt']
     return found
 
 
@@ -200,7 +207,8 @@ def anywhere(name):
 def is_place(place):
     """Is it a place, as SENTENCES has them, a folder of a crate, or `crate/edit`?"""
     crate, part = place.split('/')
-    return bool(files_of(f'crates/{crate}/{part}', f'crates/{crate}/specs/{part}.antt', f'crates/{crate}/must-fail/{part}.edit', f'crates/{crate}/tried/{part}.edit'))
+    return bool(files_of(f'crates/{crate}/{part}', f'crates/{crate}/specs/{part}.antt', f'crates/{crate}/proofs/{part}.antt',
+                         f'crates/{crate}/must-fail/{part}.edit', f'crates/{crate}/tried/{part}.edit'))
 
 
 def qualified(owner, name):
@@ -371,21 +379,9 @@ def areas():
     return len(re.search(r'^abbrev pub areas_of : .*?\((.*?) : A\)', read('crates/model/specs/Areas.antt'), re.M).group(1).split())
 
 
-def answers(form):
-    """How many answers of a form the proof has that docs/PROOFS.md walks through, in the list at its end."""
-    return len(re.findall(form, read('crates/pairs_descents/proofs/down_totals/Proof.antt').split('tie.spec')[-1]))
-
-
-def plain_answers():
-    return answers(r'search needs')
-
-
-def own_answers():
-    return answers(r'\b(?:loop-holds|loop-again|returns)\b')
-
-
-def all_answers():
-    return plain_answers() + own_answers()
+def answers():
+    """How many goals are answered in the proof that docs/PROOFS.md walks through."""
+    return how_many(r'^pub \S+ : goal\.', 'crates/pairs_descents/proofs/down_totals/Answers.antt')
 
 
 # document, what it says, the number in brackets, and what that is
@@ -398,9 +394,7 @@ COUNTS = (
     ('docs/DECISIONS.md', r'`Calls` lists the (\w+)', calls),
     ('README.md', r'the (\w+) calls, a list of calls, and what C', calls),
     ('docs/SENTENCES.md', r'since A7 (\w+) areas', areas),
-    ('docs/PROOFS.md', r'(\w+) of the \w+ follow from what is known', plain_answers),
-    ('docs/PROOFS.md', r'of the (\w+) follow from what is known', all_answers),
-    ('docs/PROOFS.md', r'(\w+) say why the function is right', own_answers),
+    ('docs/PROOFS.md', r'(\w+) say why the function is right', answers),
 )
 
 
@@ -528,7 +522,7 @@ def beliefs(theorems):
         yield None if file in ours | code else f'part 5 does not list {file}, which public contracts cite'
     for file in sorted(code - set(found)):
         yield f'part 5 lists {file}, which no public contract cites'
-    for file in files_of(spec('model', '*')):
+    for file in files_of(spec('model', '*'), 'crates/model/proofs/*.antt'):
         name = os.path.basename(file).split('.')[0]
         yield None if name == 'Lib' or re.search(rf'\b{name}\b', part) else f'part 5 does not name {name} of model'
     reading = theorems.split('## 1.')[1].split('\n## ')[0]
@@ -599,7 +593,7 @@ def figures(theorems, theory, readme):
         sums.append(value)
         yield None if value == int(sentence_of.group(1).replace(',', '')) else f'{kind}: {sentence_of.group(1)} lines are told, there are {value}'
     yield told(readme, r'\(([\d,]+) lines, \[listed\]', sum(sums), 'lines to believe (README)')
-    graph = files_of('crates/graph/specs/*.antt')
+    graph = files_of('crates/graph/specs/*.antt', 'crates/graph/proofs/*.antt')
     every = sum(not re.match(r' *(?:--|use |pub use |$)', line) for file in graph for line in read(file).split('\n'))
     yield told(theory, r'It is ([\d,]+) lines without', every, 'lines of the theory')
     yield told(theory, r'of which ([\d,]+) are definitions', lines(*graph), 'lines of its definitions')
