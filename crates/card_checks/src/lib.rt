@@ -32,6 +32,7 @@ pub fn kinds_ok(card: &[u8]) -> bool
 }
 
 // Question 3: each body begins where the one before it ends. The sums are taken in 64 bits; one of 2^32 or more would wrap in a word.
+#[tactic(auto, using(crate::proofs::Tables::wraps))]
 pub fn starts_ok(card: &[u8]) -> bool
     requires { table_size (sections card.now) ≤ length card.now }
     ensures { result ≡ starts_ok (table_size (sections card.now))

@@ -1,7 +1,8 @@
 -- Defines down totals and estimates. Proves that a down total is the least total over paths of down times (`down_total-least`), and of all
 -- paths that stay below their first rank (`down_total_inner`); and that an estimate is the least total of all paths (`estimate-via`,
 -- `estimate-dist`): some least path climbs by up times and then falls by down times. Assumes nothing.
-use Rattle.std.proofs.Common.{◌∙◌, inl, inr, zero-le, eq-eqb, eqb-true, add_assoc, add-zero, le_of_suc-le-suc, le_refl, lt_irrefl, lt_of_lt_of_le, not-suc-le-zero, arith}
+use Rattle.std.proofs.Common.{◌∙◌, inl, inr, zero-le, eq-eqb, eqb-true, add_assoc, add-zero, le_of_suc-le-suc, le_refl, lt_irrefl}
+use Rattle.std.proofs.Common.{lt_of_lt_of_le, not-suc-le-zero, arith}
 use Rattle.std.specs.Prelude.{◌≡◌, ◌⊎◌, Bool, ◌+◌, ◌-◌, ◌<◌, ◌≤◌, suc, zero, ℕ, eqb}
 use Rattle.std.proofs.Math.Path.{ap, refl, sym}
 use Rattle.std.proofs.Math.Bool.{cond, false, true}
@@ -21,7 +22,8 @@ use Rattle.graph.specs.Level.{dist, level}
 use Rattle.graph.proofs.Level.{dist-via, level-least}
 use Rattle.graph.specs.Pairs.{down, up}
 use Rattle.graph.proofs.Pairs.{down-least, down_lt, down-none, up_least, up_lt, up_none}
-use Rattle.graph.specs.Estimate.{Downs, down_step, down_total, estimate_step, estimate, Climb, turn, rise, Compared, compared_less, compared_equal, compared_greater, pushed, asked}
+use Rattle.graph.specs.Estimate.{Downs, down_step, down_total, estimate_step, estimate, Climb, turn, rise, Compared, compared_less}
+use Rattle.graph.specs.Estimate.{compared_equal, compared_greater, pushed, asked}
 
 -- ---- their recursion
 

@@ -224,7 +224,8 @@ pub searches_are :
     -- from a start without an estimate
     ∷ record { log = []; times = []; keys = []; elapsed = none ∷ none ∷ none ∷ none ∷ none ∷ []; total = none; route = []; count = 0 }
     ∷ []
-unfolding go_of estimate direct vertices log_of total_of route_of count_of history run extend has_goal push next best_below consider better before
+unfolding go_of estimate direct vertices log_of total_of route_of count_of history run extend has_goal push next best_below consider
+    better before
     below_or offered offer_via time_in total_in way_in back back_step first_via first_below is
 searches_are = refl
 
@@ -274,6 +275,7 @@ pub ties_are : shown_on tied tied.base.cost 0 3
       route = 2 ∷ 0 ∷ 3 ∷ [];
       count = 5;
     }
-unfolding go_of estimate direct vertices log_of total_of route_of count_of history run extend has_goal push next best_below consider better before
+unfolding go_of estimate direct vertices log_of total_of route_of count_of history run extend has_goal push next best_below consider
+    better before
     below_or offered offer_via time_in total_in way_in back back_step first_via first_below is
 ties_are = refl

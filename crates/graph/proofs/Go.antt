@@ -61,7 +61,8 @@ module _ {M : Map} (ok : Valid M) {live : ℕ → Total} (slower : Slower M.base
   go-none = least-none go-total
 
   go-route : (T : ℕ) → total_of (go_of M live tie s z) ≡ some T
-      → Leads (live_net M live) s (route_of (go_of M live tie s z)) z × (total_over (live_net M live) (route_of (go_of M live tie s z)) ≡ some T)
+      → Leads (live_net M live) s (route_of (go_of M live tie s z)) z
+      × (total_over (live_net M live) (route_of (go_of M live tie s z)) ≡ some T)
       × (length (route_of (go_of M live tie s z)) < count_of (go_of M live tie s z))
   unfolding go_of
   go-route T q =

@@ -12,7 +12,6 @@ use Rattle.graph.specs.Network.{Arc, direct}
 use Rattle.graph.proofs.Network.{at_costs-inside, direct-least, ends-below}
 use Rattle.graph.specs.Level.{dist}
 use Rattle.graph.proofs.Level.{dist-least}
-use Rattle.graph.specs.Pairs.{down, up}
 use Rattle.graph.proofs.Pairs.{down-least, up_least}
 use Rattle.graph.proofs.Estimate.{down_total_inner}
 use Rattle.graph.specs.Bound.{CostsAtMost}
@@ -24,7 +23,6 @@ use Rattle.graph.proofs.Potential.{base-consistent}
 use Rattle.graph.specs.Map.{Map, Valid, rank, up_of, down_of, down_total_of, estimate_of, live_net, time_of, BelowRank}
 
 module _ {M : Map} (ok : Valid M) where
-
   -- the up time and the down time, in the words of document 01; to rank below both is to rank below low
   module _ {low high : ℕ} (ll : low < M.vertices) (lh : high < M.vertices) (lt : rank M low < rank M high) where
     pub up_of-least : IsLeast (BelowRank M (rank M low) low high) (up_of M low high)

@@ -1,7 +1,9 @@
 -- The pairs that are kept, ascending by low and then by high; minima over them: a pair
 -- that is not kept adds nothing; and the place of each in the list. Assumes nothing.
-use Rattle.std.proofs.Common.{◌∙◌, ap, ap₂, sym, inl, inr, append_assoc, append-nil, eq-eqb, ne_eqb, length-append, get_or-append-add, take-suc, le_refl, not-suc-le-zero, arith}
-use Rattle.std.specs.Prelude.{◌≡◌, refl, ◌⊎◌, Bool, cond, false, true, [], ◌++◌, ◌∷◌, ◌+◌, ◌-◌, ◌<◌, ◌≤◌, suc, zero, ℕ, eqb, get_or, length, take}
+use Rattle.std.proofs.Common.{◌∙◌, ap, ap₂, sym, inl, inr, append_assoc, append-nil, eq-eqb, ne_eqb, length-append, get_or-append-add}
+use Rattle.std.proofs.Common.{take-suc, le_refl, not-suc-le-zero, arith}
+use Rattle.std.specs.Prelude.{◌≡◌, refl, ◌⊎◌, Bool, cond, false, true, [], ◌++◌, ◌∷◌, ◌+◌, ◌-◌, ◌<◌, ◌≤◌, suc, zero, ℕ, eqb, get_or, length}
+use Rattle.std.specs.Prelude.{take}
 use Rattle.std.proofs.Math.Option.{none, some}
 use mathlib.Core.List.Memᴰ
 use mathlib.Core.List.{List, Memᴰ}

@@ -3,7 +3,6 @@
 -- total, if only the goal has the potential 0 (`log-found`); and that of one which finds none it is all vertices that a walk reaches and
 -- that have a potential (`log-lost`). Assumes nothing.
 use Rattle.std.specs.Prelude.{◌<◌, ℕ}
-use mathlib.Core.List.{[]}
 use Rattle.graph.specs.Path.{Arcs}
 
 -- every arc costs something (document 01: "a base time 1 to 1,000,000")

@@ -1,8 +1,7 @@
 -- The kept pairs in their order: the pairs of one lower rank stand together, and
 -- each pair with a time stands among them. Bounds of a map's times. Assumes nothing.
-use Rattle.std.specs.Prelude.{◌≡◌, ◌⊎◌, [], ◌<◌, ◌≤◌, ℕ}
+use Rattle.std.specs.Prelude.{◌≡◌, ◌⊎◌, ◌<◌, ◌≤◌, ℕ}
 use Rattle.std.proofs.Math.Option.{some}
-use mathlib.Core.List.Memᴰ
 use mathlib.Core.List.{List, Memᴰ}
 use Rattle.graph.specs.Total.{Total}
 use Rattle.graph.specs.Lists.{Ordered}

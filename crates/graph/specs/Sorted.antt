@@ -2,7 +2,6 @@
 -- such list (`sorted-one`), that sorting makes it (`sorted_all`), and that a list in the reverse order is one backwards (`sorted-reverse`).
 -- Assumes nothing.
 use Rattle.std.specs.Prelude.{◌≡◌, Bool, cond, true}
-use mathlib.Core.List.Memᴰ
 use mathlib.Core.List.{List, Memᴰ}
 use mathlib.Core.List.{[], ◌∷◌}
 use Rattle.graph.specs.Lists.{Distinct, Ordered}

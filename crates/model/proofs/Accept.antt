@@ -1,6 +1,7 @@
 -- What questions 1 to 6 give: the map of an accepted card is valid, and its sizes are those of document 01. Assumes nothing.
 use Rattle.std.proofs.Common.{◌∙◌, ap, sym, inl, inr, length-drop, get_or-drop, get_or-take, length-take-le, add_assoc, arith}
-use Rattle.std.specs.Prelude.{◌≡◌, refl, ◌⊎◌, Bool, ◌&&◌, false, true, List, [], ◌∷◌, ◌%◌, ◌*◌, ◌+◌, ◌/◌, ◌<◌, ◌≤◌, suc, zero, ℕ, eqb, leb, drop, get_or, length, take}
+use Rattle.std.specs.Prelude.{◌≡◌, refl, ◌⊎◌, Bool, ◌&&◌, false, true, List, [], ◌∷◌, ◌%◌, ◌*◌, ◌+◌, ◌/◌, ◌<◌, ◌≤◌, suc, zero, ℕ, eqb, leb}
+use Rattle.std.specs.Prelude.{drop, get_or, length, take}
 use Rattle.std.proofs.Math.Bool.{not}
 use Rattle.std.proofs.Math.Option.{none}
 use borrow.Author.Tests.{eq-eqb, eqb-false, eqb-true, le-leb, leb-true, lt-ltb, ltb-true, not-false, not-true}
@@ -310,7 +311,8 @@ card-facts card h =
       named-is =
           let two = at_least_two p.count in
           let first : names card 0 (road_size * (map_on card).base.arcs) ≡ true = rw (← roads) (names-body card p 0 (omega (arith, two))) in
-          let second : names card 1 (place_size * (map_on card).vertices) ≡ true = rw (← order) (names-body card p 1 (omega (arith, two))) in
+          let second : names card 1 (place_size * (map_on card).vertices)
+          ≡ true = rw (← order) (names-body card p 1 (omega (arith, two))) in
           true_and _ _ (true_and _ _ first second) access;
       size = low p.count p.starts;
     }

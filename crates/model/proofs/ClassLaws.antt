@@ -1,5 +1,5 @@
 -- Laws of the times as a class meets them (document 02, A6): they are live times like any others. Assumes nothing.
-use Rattle.std.proofs.Common.{◌∙◌, ap, sym, arith}
+use Rattle.std.proofs.Common.{arith}
 use Rattle.std.specs.Prelude.{◌≡◌, refl, Bool, cond, false, true, List, ◌<◌, ◌≤◌, ℕ, get_or, length}
 use Rattle.std.proofs.Math.Path.{fun_ext}
 use Rattle.std.proofs.Math.Option.{none}
@@ -34,7 +34,8 @@ module _ (access : ℕ → ℕ) (c : ℕ) (live : List ℕ) where
   pub times-length : length (class_times access c live) ≡ length live
   times-length = listed-length (length live) _
 
-  pub times-at : (i : ℕ) → i < length live → get_or (class_times access c live) i 0 ≡ cond (admits (access i) c) (get_or live i 0) closed_word
+  pub times-at : (i : ℕ) → i < length live
+      → get_or (class_times access c live) i 0 ≡ cond (admits (access i) c) (get_or live i 0) closed_word
   times-at i l = listed_at (length live) (λ i. cond (admits (access i) c) (get_or live i 0) closed_word) i l
 
   -- a time that set allows stays one
@@ -47,7 +48,8 @@ pub class-lives : (bytes live : List ℕ) (c : ℕ) → c < classes → length b
     → live_of (class_times (access_of bytes) c live) ≡ class_live (access_of bytes) c (live_of live)
 class-lives bytes live c lc short = fun_ext (λ i. at i (dec_lt i (length live)))
   where
-    at : (i : ℕ) → Dec (i < length live) → live_of (class_times (access_of bytes) c live) i ≡ class_live (access_of bytes) c (live_of live) i
+    at : (i : ℕ) → Dec (i < length live)
+        → live_of (class_times (access_of bytes) c live) i ≡ class_live (access_of bytes) c (live_of live) i
     at i (yes l) = rw (times-at (access_of bytes) c live i l) (of_cond (admits (access_of bytes i) c) (get_or live i 0))
     at i (no l) =
         let times = class_times (access_of bytes) c live in

@@ -1,6 +1,7 @@
 -- The invariant of the unit: what every state that a list of calls leaves is like, for the proofs of the code. Assumes nothing.
 use Rattle.std.proofs.Common.{◌∙◌, ap, sym, inl, inr, length-append, length-set, get_or-set_other, get_or-set_same, arith}
-use Rattle.std.specs.Prelude.{◌≡◌, refl, ◌⊎◌, Bool, ◌&&◌, cond, false, true, ◌%◌, ◌*◌, ◌+◌, ◌-◌, ◌<◌, ◌≤◌, suc, ℕ, eqb, ltb, drop, get_or, replicate, set}
+use Rattle.std.specs.Prelude.{◌≡◌, refl, ◌⊎◌, Bool, ◌&&◌, cond, false, true, ◌%◌, ◌*◌, ◌+◌, ◌-◌, ◌<◌, ◌≤◌, suc, ℕ, eqb, ltb, drop, get_or}
+use Rattle.std.specs.Prelude.{replicate, set}
 use Rattle.std.proofs.Math.Option.{Option, none, some}
 use mathlib.Core.List.Memᴰ
 use mathlib.Core.List.{List, Memᴰ, [], ◌∷◌}
@@ -24,7 +25,7 @@ use Rattle.graph.specs.Map.{Map, estimate_of, fills, pairs_of, rank, weights}
 use Rattle.model.specs.Word.{none_word, of_word, unasked, word}
 use Rattle.model.specs.Types.{Absent, Accepted, AreaLengths, At, Header, Lengths, LentLengths, NoClass, NoJunction}
 use Rattle.model.specs.Types.{NoRoad, NoTarget, NotAllowed, Refusal, Room, StopCount, Target}
-use Rattle.model.specs.Bytes.{listed, word_at}
+use Rattle.model.specs.Bytes.{word_at}
 use Rattle.model.specs.Limits.{classes, fewest_stops, most_junctions, most_pairs, most_roads, most_stops, most_time}
 use Rattle.model.specs.Layout.{access_in, entry_of, named, names}
 use Rattle.model.specs.Classes.{access_of, class_live, class_times}
@@ -47,7 +48,8 @@ use Rattle.model.proofs.Laws.{true_or_left, true_or_right}
 use Rattle.model.proofs.ClassLaws as classes-of
 use Rattle.model.proofs.ClassLaws.{class-lives, times-settable}
 use Rattle.model.proofs.Accept.{card-facts}
-use Rattle.model.specs.Good.{LengthFacts, Filled, Aims, Good, UpClosed, PreparedFacts, Leaves, GoPassed, PreviewPassed, StopsPassed, met_times, as_met}
+use Rattle.model.specs.Good.{LengthFacts, Filled, Aims, Good, UpClosed, PreparedFacts, Leaves, GoPassed, PreviewPassed, StopsPassed}
+use Rattle.model.specs.Good.{met_times, as_met}
 
 pub lengths-facts : (n m p : ℕ) (l : Each ℕ) → lengths_fit n m p l ≡ true → LengthFacts n m p l
 unfolding lengths_fit
@@ -156,7 +158,8 @@ module _ (M : Map) (z : ℕ) (p : ℕ → Bool) (e : List ℕ) where
       keep f u lu r (inl q) = filled_yes u lu q
       keep f u lu r (inr q) = filled-no u lu q ∙ f u lu r
 
-      go : Tested (p v) → (get_or e v 0 ≡ unasked) ⊎ Filled M z e v → (get_or (filled M z p e) v 0 ≡ unasked) ⊎ Filled M z (filled M z p e) v
+      go : Tested (p v) → (get_or e v 0 ≡ unasked) ⊎ Filled M z e v
+          → (get_or (filled M z p e) v 0 ≡ unasked) ⊎ Filled M z (filled M z p e) v
       go (inl q) o = inr (λ u lu r. filled_yes u lu (closed v u q r))
       go (inr q) (inl o) = inl (filled-no v l q ∙ o)
       go (inr q) (inr f) = inr (λ u lu r. keep f u lu r (decide (p u)))

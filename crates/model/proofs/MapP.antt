@@ -29,7 +29,8 @@ use Rattle.model.specs.Calls.{Call, aim_call, estimate_call, go_call, preview_ca
 use Rattle.model.specs.Calls as calls
 use Rattle.model.specs.Demand3.{Demand3}
 use Rattle.model.proofs.Proof3.{demand3}
-use Rattle.model.specs.MapP.{rows_p, card_p, areas_p, lent_p, Reply, reply_of, replies_of, computed, records_p, times_p, says, ok, est, gone, table, card_a, figured, computed_tie, tie_table}
+use Rattle.model.specs.MapP.{rows_p, card_p, areas_p, lent_p, Reply, reply_of, replies_of, computed, records_p, times_p, says, ok, est}
+use Rattle.model.specs.MapP.{gone, table, card_a, figured, computed_tie, tie_table}
 
 -- "Card: 104 bytes; words 2, 1, 28, 60, 2, 88, 16, then bodies." Its map and its sizes come back.
 pub card_p-is :
@@ -192,7 +193,8 @@ pub stops_P :
     × (calls.run card_p (prepare card_p (areas_p 5)).state (there_and_back ∷ [])
     ≡ aimed_home (10 ∷ 10 ∷ 15 ∷ 10 ∷ 20 ∷ []) (0 ∷ unasked ∷ unasked ∷ 20 ∷ []) (20 ∷ none_word ∷ none_word ∷ 0 ∷ []))
     × (calls.run card_p (prepare card_p (areas_p 5)).state (set_call 4 closed_word ∷ there_and_back ∷ [])
-    ≡ aimed_home (10 ∷ 10 ∷ 15 ∷ 10 ∷ closed_word ∷ []) (unasked ∷ unasked ∷ unasked ∷ 20 ∷ []) (none_word ∷ none_word ∷ none_word ∷ 0 ∷ []))
+    ≡ aimed_home (10 ∷ 10 ∷ 15 ∷ 10 ∷ closed_word ∷ []) (unasked ∷ unasked ∷ unasked ∷ 20 ∷ [])
+    (none_word ∷ none_word ∷ none_word ∷ 0 ∷ []))
 unfolding word_at body_at admits prepare step measured up_total offer_via offered below_or before better consider best_below next
     has_goal push extend run is first_via back_step back total_in way_in up down
 stops_P = (refl, refl, refl)
@@ -223,7 +225,8 @@ replies_a s (c ∷ l) = let r = step card_a s c in reply_of r ∷ replies_a r.st
 abbrev class_calls : List Call
 class_calls = aim_call 3 ∷ estimate_call 0 ∷ go_call 0 0 lent_p ∷ go_call 1 0 lent_p ∷ go_call 7 0 lent_p
     ∷ preview_call 0 2 16 0 8 ∷ preview_call 0 1 12 0 8 ∷ preview_call 1 1 12 0 8 ∷ stops_call 0 (0 ∷ 3 ∷ []) (lent_for 8 4)
-    ∷ go_call 8 9 none_lent ∷ preview_call 8 9 9 9 8 ∷ preview_call 8 9 9 9 7 ∷ stops_call 8 (9 ∷ 9 ∷ []) none_lent ∷ stops_call 8 [] none_lent ∷ []
+    ∷ go_call 8 9 none_lent ∷ preview_call 8 9 9 9 8 ∷ preview_call 8 9 9 9 7 ∷ stops_call 8 (9 ∷ 9 ∷ []) none_lent ∷ stops_call 8 []
+    none_lent ∷ []
 
 pub classes_P :
     (read_card card_a ≡ Read 4 5) × (rows_of card_a ≡ rows_p)
@@ -269,7 +272,8 @@ repeated = refl
 
 pub ties : map computed_tie tie_table ≡ tie_table
 unfolding word_at body_at admits prepare step measured up_total offer_via offered below_or before better consider best_below next
-    has_goal push extend run is first_via back_step back total_in way_in up down dist direct count_below filter range no_more is_number in_order
+    has_goal push extend run is first_via back_step back total_in way_in up down dist direct count_below filter range no_more is_number
+    in_order
     sorted insert sooner smaller_or
 ties = refl
 

@@ -169,7 +169,8 @@ module _ {card : List ℕ} {s : State} (g : Good card s) where
           let live = live_of s.areas.live in
           TotalsRight (map_on card) (class_live access c live) (class_live access c (changed live i (of_word t))) j y a b d
 
-      go : (x : Option Refusal) → asked_of card s call ≡ x → (unless x s l (preview_made (card_map card) s c i t j l)).answer ≡ Previewed a b d
+      go : (x : Option Refusal) → asked_of card s call ≡ x
+          → (unless x s l (preview_made (card_map card) s c i t j l)).answer ≡ Previewed a b d
           → Totals z
       go (some q) h x = absurd (previewed_not_refused refl x)
       go none h x =

@@ -1,7 +1,8 @@
 -- Laws behind A8 (`ReportProof`): changes as signed numbers, the live times around a set, and the calls of a report that no question
 -- refuses. Assumes nothing.
 use Rattle.std.proofs.Common.{◌∙◌, ap, sym, inl, length-set, get_or-set_other, get_or-set_same, arith}
-use Rattle.std.specs.Prelude.{◌≡◌, refl, ◌&&◌, cond, false, List, ◌+◌, ◌-◌, ◌<◌, ◌≤◌, ℕ, eqb, ltb, ◌+ℤ◌, ◌-ℤ◌, neg_ℤ, pos, ℤ, get_or, length, set}
+use Rattle.std.specs.Prelude.{◌≡◌, refl, ◌&&◌, cond, false, List, ◌+◌, ◌-◌, ◌<◌, ◌≤◌, ℕ, eqb, ltb, ◌+ℤ◌, ◌-ℤ◌, neg_ℤ, pos, ℤ, get_or}
+use Rattle.std.specs.Prelude.{length, set}
 use Rattle.std.proofs.Math.Bool.{true}
 use Rattle.std.proofs.Math.Option.{none, some}
 use borrow.Author.Tests.{eq-eqb, le-leb, lt-ltb}

@@ -1,9 +1,7 @@
 -- A8 on map P: reports of several kinds, with what the unit answers, each shown to obey the theorem by citing it. Assumes nothing.
-use Rattle.std.specs.Prelude.{◌≡◌, refl, true, List, [], ◌∷◌, map, ◌+◌, ◌<◌, ◌≤◌, ℕ, negsuc, pos, ℤ, length, set}
+use Rattle.std.specs.Prelude.{◌≡◌, refl, true, List, [], ◌∷◌, ◌+◌, ◌<◌, ◌≤◌, ℕ, negsuc, pos, ℤ, length}
 use Rattle.std.proofs.Math.Option.{Option, none, some}
 use Rattle.std.proofs.Common.{arith}
-use Rattle.graph.specs.Pairs.{down}
-use Rattle.graph.specs.Search.{before}
 use Rattle.graph.specs.Total.{Total}
 use Rattle.model.specs.Word.{closed_word, none_word, of_word, unasked}
 use Rattle.model.specs.Types.{Accepted, Answer, At, Gone, NoPath, Previewed, Refused}
@@ -19,7 +17,6 @@ use Rattle.model.specs.Report.{Calls, CanGo, CanSet, Closes, LeftAccepted, Like,
 use Rattle.model.specs.Report.{one_more}
 use Rattle.model.proofs.ReportProof.{report_closes, report_moves, report_opens}
 use Rattle.model.proofs.ReportUse.{add_up}
-use Rattle.model.specs.ReportTurn.{turn}
 use Rattle.model.proofs.ReportTurn.{like_self, turned}
 use Rattle.model.specs.ReportP.{answers_to}
 

@@ -33,7 +33,6 @@ use Rattle.model.specs.Good.{Aims, Filled, Good, met_times}
 use Rattle.model.proofs.Good.{filled-length, filled-no, filled_yes, fills_self, good-fits, left-usable}
 use Rattle.model.specs.Chain.{Chain}
 use Rattle.model.proofs.Chain.{hands_back, run_snoc}
-use Rattle.graph.specs.Pairs.{down}
 use Rattle.model.proofs.ReportLaws.{go_asked, preview-asked, set-asked}
 use Rattle.model.proofs.ReportProof.{asked-made, reached-good, reached-left}
 use Rattle.model.specs.ReportTurn.{Quiet, last_of, OfReport, turn, Unrefused}

@@ -2,7 +2,8 @@
 -- legs (`stops-told`), they are right and so is the whole (`stops-right`), and the two lent areas keep their lengths (`stops-lengths`).
 -- Assumes nothing.
 use Rattle.std.proofs.Common.{◌∙◌, ap, ap₂, subst, length-append, length-drop, length-take-le, not-suc-le-zero, arith}
-use Rattle.std.specs.Prelude.{◌≡◌, Bool, ◌&&◌, false, true, List, [], ◌++◌, ◌∷◌, ◌*◌, ◌<◌, ◌≤◌, suc, zero, ℕ, leb, ltb, drop, get_or, length, take}
+use Rattle.std.specs.Prelude.{◌≡◌, Bool, ◌&&◌, false, true, List, [], ◌++◌, ◌∷◌, ◌*◌, ◌<◌, ◌≤◌, suc, zero, ℕ, leb, ltb, drop, get_or}
+use Rattle.std.specs.Prelude.{length, take}
 use Rattle.std.proofs.Math.Path.{refl, sym}
 use Rattle.std.proofs.Math.Option.{Option, none, some}
 use mathlib.Core.List.Memᴰ

@@ -1,5 +1,5 @@
 -- A8 on map P: reports of several kinds, with what the unit answers, each shown to obey the theorem by citing it. Assumes nothing.
-use Rattle.std.specs.Prelude.{List, [], map, ℕ}
+use Rattle.std.specs.Prelude.{List, map, ℕ}
 use Rattle.graph.specs.Least.{measured}
 use Rattle.graph.specs.Pairs.{down, up}
 use Rattle.graph.specs.Reach.{up_total}

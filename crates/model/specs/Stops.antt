@@ -1,5 +1,6 @@
 -- A list of stops (document 02, A3): "Buses call at 2 to 32 junctions in a fixed order, repeats allowed." Definitions only.
-use Rattle.std.specs.Prelude.{◌≡◌, Bool, ◌&&◌, false, true, List, [], ◌++◌, ◌∷◌, ◌*◌, ◌+◌, ◌<◌, ◌≤◌, suc, ℕ, leb, ltb, drop, get_or, length, take}
+use Rattle.std.specs.Prelude.{◌≡◌, Bool, ◌&&◌, false, true, List, [], ◌++◌, ◌∷◌, ◌*◌, ◌+◌, ◌<◌, ◌≤◌, suc, ℕ, leb, ltb, drop, get_or, length}
+use Rattle.std.specs.Prelude.{take}
 use Rattle.std.proofs.Math.Option.{Option, none, some}
 use Rattle.graph.specs.Total.{Total}
 use Rattle.graph.specs.Route.{Leads, total_over}

@@ -13,7 +13,6 @@ use Rattle.graph.specs.Search.{back, back_step, before, below_or, best_below, be
 use Rattle.graph.specs.Search.{offer_via, offered, push, run, total_in, way_in}
 use Rattle.graph.specs.Sorted.{insert, sorted}
 use Rattle.graph.specs.LogOrder.{in_order, smaller_or, sooner}
-use Rattle.graph.specs.Map.{Map}
 use Rattle.model.specs.Word.{of_word}
 use Rattle.model.specs.Types.{Absent, Accepted, Answer, At, Estimated, Gone, Header, Leg, NoLeg, NoPath, Previewed, Refusal, Refused}
 use Rattle.model.specs.Types.{Stopped, Target}

@@ -65,7 +65,8 @@ module _ (roads order : List ℕ) where
   pub head_in : (i : ℕ) → road_size * i + road_size ≤ length roads → (map_in roads order).base.head i ≡ word_at roads (road_size * i + 4)
   head_in i h = let e : 4 * (3 * i + 1) ≡ road_size * i + 4 = omega arith in word_in roads (3 * i + 1) (omega arith) ∙ ap (word_at roads) e
 
-  pub base_in_lem : (i : ℕ) → road_size * i + road_size ≤ length roads → (map_in roads order).base.cost i ≡ some (word_at roads (road_size * i + 8))
+  pub base_in_lem : (i : ℕ) → road_size * i + road_size ≤ length roads
+      → (map_in roads order).base.cost i ≡ some (word_at roads (road_size * i + 8))
   base_in_lem i h =
       let e : 4 * (3 * i + 2) ≡ road_size * i + 8 = omega arith in
       ap some (word_in roads (3 * i + 2) (omega arith) ∙ ap (word_at roads) e)

@@ -112,7 +112,8 @@ module _ {r : Read} {group : List ℕ} {t : ℕ} where
   relaxing_start room = record { long = refl; room = room; relaxes = λ u is. relaxes-skip room (first_of is) }
 
   module _ {k : ℕ} {l l' : List ℕ} (inside : k < length group) (relaxing : Relaxing r group t k l l') where
-    pub relaxing_turn : {l'' : List ℕ} → length l'' ≡ length l' → RelaxesRoad r (get_or group k 0) t l' l'' → Relaxing r group t (k + 1) l l''
+    pub relaxing_turn : {l'' : List ℕ} → length l'' ≡ length l' → RelaxesRoad r (get_or group k 0) t l' l''
+        → Relaxing r group t (k + 1) l l''
     relaxing_turn {l''} long road = record {
       long = long ∙ relaxing.long;
       room = road.room;

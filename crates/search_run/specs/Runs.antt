@@ -1,5 +1,5 @@
 -- What a run is lent, and what it leaves (document 01: the search log). Definitions only.
-use Rattle.std.specs.Borrow.{Bor}
+use Rattle.std.specs.Borrow.{MutBor}
 use Rattle.std.specs.Prelude.{◌≡◌, Bool, false, true, List, [], reverse, ◌*◌, ◌<◌, ◌≤◌, min, suc, ℕ, get_or, length}
 use Rattle.std.proofs.Math.Option.{some}
 use Rattle.graph.specs.Search.{Entry, run, time_in, vertices}
@@ -30,7 +30,7 @@ abbrev pub written_of : (estimates elapsed ways log : List ℕ) → Written
 written_of a b c d = record { estimates = a; elapsed = b; ways = c; log = d }
 
 -- the same of what is lent to a function
-abbrev pub written : (estimates elapsed ways log : Bor (List ℕ)) → Written
+abbrev pub written : (estimates elapsed ways log : MutBor (List ℕ)) → Written
 written a b c d = written_of a.now b.now c.now d.now
 
 -- start and target are junctions; the roads by tail have an entry for each road, their groups one for each junction and one more; what is

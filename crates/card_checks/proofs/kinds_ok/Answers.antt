@@ -1,4 +1,4 @@
--- kinds_ok: what its loops keep stands in Invariants.antt.
+-- What the loop keeps stands in Invariants.antt.
 use Rattle.card_checks.proofs.Tables.{kinds-end, kinds_fail, kinds-start, kinds-turn}
 use Rattle.card_checks.proofs.kinds_ok.Goals as goal
 

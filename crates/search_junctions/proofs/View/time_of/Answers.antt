@@ -1,0 +1,19 @@
+-- The live time is read, and it is the time in force unless another one is set in its place (`seen-live`, `seen-set`, `seen_other`).
+use Rattle.search_junctions.proofs.Seeing.{seen_in, seen-live, seen_other, seen-set}
+use Rattle.search_junctions.proofs.View.time_of.Goals as goal
+
+pub bounds-live-k : goal.bounds-live-k
+bounds-live-k c =
+    seen_in c.args.live.now c.args.i c.args.self c.requires
+
+pub returns-in-Live : goal.returns-in-Live
+returns-in-Live c =
+    seen-live c.args.live.now c.args.i c.in-Live.is c.of_word-time.ensures
+
+pub returns-then-road-i : goal.returns-then-road-i
+returns-then-road-i c =
+    seen-set c.args.live.now c.args.i c.in-Set.is c.if-road-i.true c.requires
+
+pub returns-else-road-i : goal.returns-else-road-i
+returns-else-road-i c =
+    seen_other c.args.live.now c.args.i c.in-Set.is c.if-road-i.false c.of_word-time.ensures

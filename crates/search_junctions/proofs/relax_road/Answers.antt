@@ -1,0 +1,31 @@
+-- A closed road offers nothing, and a head that is no junction does not occur in a map; else the head takes the offer, its estimate being
+-- known (`road-closed`, `road_far`, `road_open`).
+use native.Mathlib.Omega.{arith}
+use mathlib.Core.Path.{◌∙◌, sym}
+use Rattle.search_junctions.specs.Views.{met}
+use Rattle.search_junctions.proofs.Opens.{OpenRoad}
+use Rattle.search_junctions.proofs.Roads.{road-closed, road_far, road_open}
+use Rattle.search_junctions.proofs.relax_road.Goals as goal
+
+pub returns-then-is_closed : goal.returns-then-is_closed
+returns-then-is_closed c =
+    let (road_in, _, room) = c.requires in
+    road-closed road_in c.time_of-cost.ensures (sym c.is_closed.ensures ∙ c.if-is_closed.true) room
+
+pub returns-then-sizes-head : goal.returns-then-sizes-head
+returns-then-sizes-head c =
+    let (road_in, _, room) = c.requires in
+    road_far road_in c.head_of-head.ensures c.if-sizes-head.true room
+
+pub returns : goal.returns
+returns c =
+    let args = c.args in
+    let open-road : OpenRoad args.trip.sizes args.roads.now (met args.trip args.access.now args.live.now) args.i c.time_of-cost.result.0
+    c.head_of-head.result.0 = record {
+      road_in = c.requires.0;
+      time-is = c.time_of-cost.ensures;
+      open_is = sym c.is_closed.ensures ∙ c.if-is_closed.false;
+      head-is = c.head_of-head.ensures;
+      head_in = omega (arith, c.if-sizes-head.false);
+    } in
+    road_open open-road c.of_word-to_go.ensures c.plus-offer.ensures c.take.ensures
