@@ -9,7 +9,7 @@ ghost use Rattle.model.specs.Calls.{Go};
 ghost use Rattle.network.specs.Refusals.{verdict_in};
 ghost use Rattle.network.specs.Lending.{areas};
 ghost use Rattle.unit_answers.specs.Shape.{answer_in};
-ghost use Rattle.unit_questions.specs.Lending.{lengths_in, lent};
+ghost use Rattle.unit_questions.specs.Lending.{lengths_in, lent, mut};
 ghost use Rattle.calls.specs.Shape.{handed, header_in, held};
 ghost use Rattle.calls.specs.Meets.{Called, asks_trip};
 
@@ -78,8 +78,8 @@ pub fn go(
     class: u32,
     start: Junction,
 ) -> Answer
-    ensures { Called card.now (held sizes target) (areas ranks pairs times live down estimates elapsed leaving groups)
-        (lent route log) (Go class start.0) (handed (held sizes target) result) }
+    ensures { Called card.now (held sizes target) (areas ranks pairs times live down (mut estimates) (mut elapsed) leaving groups)
+        (lent (mut route) (mut log)) (Go class start.0) (handed (held sizes target) result) }
 {
     let l = unit_questions::lengths_of(
         ranks, pairs, times, live, down, estimates, elapsed, leaving, groups,

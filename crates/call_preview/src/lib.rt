@@ -7,7 +7,7 @@ ghost use Rattle.model.specs.Calls.{Preview};
 ghost use Rattle.model.specs.Promises.{base_on};
 ghost use Rattle.network.specs.Refusals.{verdict_in};
 ghost use Rattle.network.specs.Lending.{areas};
-ghost use Rattle.unit_questions.specs.Lending.{lengths_in};
+ghost use Rattle.unit_questions.specs.Lending.{lengths_in, mut};
 ghost use Rattle.calls.specs.Shape.{handed, header_in, held};
 ghost use Rattle.calls.specs.Meets.{CalledPreview, asks_trip, asks_way};
 
@@ -90,7 +90,7 @@ pub fn preview(
     start: Junction,
 ) -> Answer
     ensures { CalledPreview card.now (held sizes target)
-        (areas ranks pairs times live down estimates elapsed leaving groups)
+        (areas ranks pairs times live down (mut estimates) elapsed leaving groups)
         work.old work.new class road time.0 start.0 (handed (held sizes target) result) }
 {
     let l = unit_questions::lengths_of(

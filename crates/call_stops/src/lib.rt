@@ -8,7 +8,7 @@ ghost use Rattle.model.specs.Stops.{all_below};
 ghost use Rattle.model.specs.Calls.{Stops};
 ghost use Rattle.network.specs.Refusals.{verdict_in};
 ghost use Rattle.network.specs.Lending.{areas};
-ghost use Rattle.unit_questions.specs.Lending.{lengths_in, lent};
+ghost use Rattle.unit_questions.specs.Lending.{lengths_in, lent, mut};
 ghost use Rattle.calls.specs.Shape.{answered_in, header_in, held};
 ghost use Rattle.calls.specs.Meets.{asks};
 ghost use Rattle.call_stops.specs.Shape.{no_legs, sum_in};
@@ -135,7 +135,8 @@ fn leg(
     to: Junction,
 ) -> Aimed
     ensures { LegMade card.now (header_in (held sizes target))
-        (areas ranks pairs times live down estimates elapsed leaving groups) (lent route log) class from.0 to.0
+        (areas ranks pairs times live (mut down) (mut estimates) (mut elapsed) leaving groups)
+        (lent (mut route) (mut log)) class from.0 to.0
         (answered_in (record { header = held sizes result.target; answer = result.answer })) }
 {
     let l = unit_questions::lengths_of(
@@ -206,7 +207,8 @@ fn journey(
 ) -> Visited
     requires { RoomFor stops.now }
     ensures { Journeys card.now sizes (header_in (held sizes target))
-        (areas ranks pairs times live down estimates elapsed leaving groups) (lent route log) class stops.now result }
+        (areas ranks pairs times live (mut down) (mut estimates) (mut elapsed) leaving groups)
+        (lent (mut route) (mut log)) class stops.now result }
 {
     let mut totals = [0; MOST_LEGS];
     let mut roads = [0u32; MOST_LEGS];
@@ -285,7 +287,8 @@ pub fn stops(
     stops: &[u32],
 ) -> Visited
     ensures { CalledStops card.now (held sizes target)
-        (areas ranks pairs times live down estimates elapsed leaving groups) (lent route log) class stops.now result }
+        (areas ranks pairs times live (mut down) (mut estimates) (mut elapsed) leaving groups)
+        (lent (mut route) (mut log)) class stops.now result }
 {
     let l = unit_questions::lengths_of(
         ranks, pairs, times, live, down, estimates, elapsed, leaving, groups,

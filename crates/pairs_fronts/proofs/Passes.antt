@@ -52,7 +52,8 @@ module _ {pairs times : List ℕ} {from to : ℕ} {time_in : List ℕ → ℕ �
   }
 
   pub relaxing_turn : {i b a : ℕ} {row row' : List ℕ} → from ≤ i → i < to → b ≡ high_in pairs i → a ≡ time_in times i
-      → row' ≡ set row b (min (get_or row b 0) (word (fit (of_word first ⊕ of_word a)))) → Relaxing pairs times from to time_in first i row₀ row
+      → row' ≡ set row b (min (get_or row b 0) (word (fit (of_word first ⊕ of_word a))))
+      → Relaxing pairs times from to time_in first i row₀ row
       → Relaxing pairs times from to time_in first (i + 1) row₀ row'
   relaxing_turn {i} {b} {a} {row} fi it eb ea er g = rw er (record { by = one })
     where

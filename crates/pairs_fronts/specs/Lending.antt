@@ -3,7 +3,7 @@ use Rattle.std.specs.Prelude.{List, ◌*◌, ◌<◌, ℕ, length}
 use denote.Triple.Both.{Both}
 use Rattle.graph.specs.Path.{Weights}
 use Rattle.network.specs.Lending.{Held, Slice}
-use Rattle.pairs_rows.specs.Lending.{Rows}
+use Rattle.pairs_rows.specs.Lending.{HeldMut, Rows, SliceMut}
 use Rattle.pairs_rows.specs.Rows.{block}
 use Rattle.pairs_fronts.specs.Fronts.{Begun, Lower, Over, Scanned, Stage}
 
@@ -18,7 +18,7 @@ pub record Lent : Type 0 where
   pub downs : List ℕ
   pub touched : List ℕ
 
-abbrev pub lent_of : (pairs times cursor ahead ends ups downs touched : Held) → Lent
+abbrev pub lent_of : (pairs times : Held) (cursor ahead : HeldMut) (ends : Held) (ups downs touched : HeldMut) → Lent
 lent_of p q c a e u d t = record {
   pairs = p.now;
   times = q.now;
@@ -30,7 +30,7 @@ lent_of p q c a e u d t = record {
   touched = t.now;
 }
 
-abbrev pub lent : (pairs times cursor ahead ends ups downs touched : Slice) → Both Lent Lent
+abbrev pub lent : (pairs times : Slice) (cursor ahead : SliceMut) (ends : Slice) (ups downs touched : SliceMut) → Both Lent Lent
 lent p q c a e u d t = record {
   entry = lent_of p.entry q.entry c.entry a.entry e.entry u.entry d.entry t.entry;
   exit = lent_of p.exit q.exit c.exit a.exit e.exit u.exit d.exit t.exit;
@@ -43,10 +43,10 @@ pub record Fronts : Type 0 where
   pub ends : List ℕ
   pub soon : List ℕ
 
-abbrev pub fronts_of : (cursor ahead ends soon : Held) → Fronts
+abbrev pub fronts_of : (cursor ahead ends soon : HeldMut) → Fronts
 fronts_of c a e s = record { cursor = c.now; ahead = a.now; ends = e.now; soon = s.now }
 
-abbrev pub fronts : (cursor ahead ends soon : Slice) → Both Fronts Fronts
+abbrev pub fronts : (cursor ahead ends soon : SliceMut) → Both Fronts Fronts
 fronts c a e s = record {
   entry = fronts_of c.entry a.entry e.entry s.entry;
   exit = fronts_of c.exit a.exit e.exit s.exit;

@@ -19,8 +19,8 @@ fn row_of(roads: &[u8], ranks: &[u32], i: usize) -> Rank
 
 // Links the roads of each row, the last one first.
 pub fn link_roads(roads: &[u8], ranks: &[u32], first: &mut [u32], next: &mut [u32])
-    requires { Unlinked (links_of roads ranks first next) }
-    ensures { AllLinked (links roads ranks first next).exit }
+    requires { Unlinked (record { roads = roads.now; ranks = ranks.now; first = first.old; next = next.old }) }
+    ensures { AllLinked (record { roads = roads.now; ranks = ranks.now; first = first.new; next = next.new }) }
 {
     let m = roads.len() / 12;
     let mut i = 0;

@@ -1,10 +1,18 @@
 -- The areas that functions over the roads and over a row of times are lent, and what their clauses say of them. Definitions only.
 use Rattle.std.specs.Prelude.{◌≡◌, List, ◌*◌, ◌/◌, ◌<◌, ◌≤◌, ℕ, get_or, length}
+use Rattle.std.specs.Borrow.{MutBor}
 use Rattle.std.proofs.Math.Option.{none}
 use denote.Triple.Both.{Both}
 use Rattle.network.specs.Lending.{Held, Slice}
 use Rattle.pairs_rows.specs.Links.{Grouped, Linked, Ranked, net_in}
 use Rattle.pairs_rows.specs.Rows.{RoadRelaxed, RoadTimes, Row, block}
+
+-- a slice that is lent to be written: what `requires` calls it, and what `ensures` calls it
+abbrev pub HeldMut : Type 0
+HeldMut = MutBor (List ℕ)
+
+abbrev pub SliceMut : Type 0
+SliceMut = Both (MutBor (List ℕ)) (MutBor (List ℕ))
 
 -- the roads, the ranks, and what links the roads of each row
 pub record Links : Type 0 where
@@ -28,10 +36,10 @@ pub record Rows : Type 0 where
   pub downs : List ℕ
   pub touched : List ℕ
 
-abbrev pub rows_of : (ups downs touched : Held) → Rows
+abbrev pub rows_of : (ups downs touched : HeldMut) → Rows
 rows_of u d t = record { ups = u.now; downs = d.now; touched = t.now }
 
-abbrev pub rows : (ups downs touched : Slice) → Both Rows Rows
+abbrev pub rows : (ups downs touched : SliceMut) → Both Rows Rows
 rows u d t = record { entry = rows_of u.entry d.entry t.entry; exit = rows_of u.exit d.exit t.exit }
 
 -- ---- the roads of the rows

@@ -133,7 +133,7 @@ step_is {g} {s} {z} r via v li =
     let i = via v in
     let lm : i < g.sizes.m = rw k.reads.arcs_are at li in
     let t = k.reads.tails i lm in
-    let b : word_at g.roads (road_size * i) < g.sizes.n = omega (arith, k.ok.well_formed.inside.tails i li, t, k.reads.size-is) in
+    let b : word_at g.roads (road_size * i) < g.sizes.n = omega (arith, k.ok.well_formed.inside.tails i li, t, k.reads.size_is) in
     rw (lt-ltb i g.sizes.m lm, lt-ltb (word_at g.roads (road_size * i)) g.sizes.n b) (sym t)
 
 -- what a search writes of its own: of what the run leaves, all but the roads that gave the times, and the route in their place
@@ -242,13 +242,13 @@ module _ {g : Given} {s z : ℕ} (r : Ready g s z) {l l' : Written} {c : ℕ} {c
         let w : way_in G (history G) ≡ back G (history G) z = way-found G z k.goals (history G) (total_of G) (end k.ok.well_formed)
         p.0 p.1 in
         let h : time_in (history G) z ≡ some p.0 = total-time ∙ p.1 in
-        let lz : z < G.size = rw k.reads.size-is r.target in
+        let lz : z < G.size = rw k.reads.size_is r.target in
         let short = (back-route G (history-reached G) z p.0 h).1 in
         let le : length (back G (history G) z) ≤ g.sizes.n = omega (
           arith,
           short,
           length-le k.ok.well_formed (history-reached G),
-          k.reads.size-is,
+          k.reads.size_is,
         ) in
         let steps : (v : ℕ) → v < G.size → via v < G.net.arcs → before v ≡ G.net.tail (via v) = λ v lv li. step_is r via v li in
         let y : number ≡ length (back G (history G) z) = a

@@ -31,7 +31,7 @@ use Rattle.search_junctions.specs.State.{Given, Ready, go_given, map_given}
 use Rattle.search_junctions.specs.Facts.{codes}
 use Rattle.search_run.specs.Runs.{Advanced, Advances, BlankRoom, Within, Written, back_in}
 use Rattle.search.specs.Searches.{AsLeft, FindsBoth, FindsTotal, Searches, at_times, seen_by}
-use Rattle.search.proofs.Answers.{answer-found, answer-lost, answer-total, routed}
+use Rattle.search.proofs.Answers.{answer-found, answer-lost, routed}
 
 -- a room that is made for k junctions is blank, and large enough for n of them
 pub blank-room : (k : ℕ) {n : ℕ} → n ≤ k → BlankRoom n (replicate (3 * k) blank_word)
@@ -115,7 +115,8 @@ module _ {n : ℕ} (work : List ℕ) (twice : length work ≡ work_size n) where
       length (take (length back - n) (drop n back)) ≡ n
   second_half half kept =
       let back = half ++ drop n work in
-      let long : length back ≡ work_size n = length-append half (drop n work) ∙ omega (arith, kept, first_half, length-drop n work, twice) in
+      let long : length back ≡ work_size n =
+      length-append half (drop n work) ∙ omega (arith, kept, first_half, length-drop n work, twice) in
       let rest = length-drop n back in
       length-take-le (length back - n) (drop n back) (omega (arith, rest)) ∙ omega (arith, long)
 

@@ -46,8 +46,8 @@ pub data Next (n : ℕ) (G : Problem) (H : List Entry) (room : List ℕ) (v : �
   over : (c k : ℕ) → v ≡ n → Labels G H c k (labels_in n room) → Complete G H → Next n G H room v
   on :
       (c k : ℕ) → Labels G H c k (labels_in n room) → G.net.arcs ≤ k → has_goal G H ≡ false
-      → SumsKept G H (labels_in n room).times (order_of n room) → v < n → Waiting (order_of n room) v → NextIs G H (some (entry_of n room v))
-      → Next n G H room v
+      → SumsKept G H (labels_in n room).times (order_of n room) → v < n → Waiting (order_of n room) v
+      → NextIs G H (some (entry_of n room v)) → Next n G H room v
 
 -- where a run stands: what it has written so far, how many nodes are logged, and which comes next
 pub record Stand : Type 0 where
@@ -99,7 +99,8 @@ log-next H E log₀ {log} {c} counted log_is lc =
 -- the times of the logged, before anything is logged and with one entry more
 none_yet : (n : ℕ) → replicate n none_word ≡ listed n (λ u. word (time_in [] u))
 unfolding time_in
-none_yet n = listed-is n (λ u. none_word) (replicate n none_word) (length-replicate n none_word) (λ u lu. get_or-replicate n u none_word 0 lu)
+none_yet n =
+    listed-is n (λ u. none_word) (replicate n none_word) (length-replicate n none_word) (λ u lu. get_or-replicate n u none_word 0 lu)
 
 elapsed-next : (H : List Entry) (E : Entry) (n : ℕ) {elapsed : List ℕ} → E.vertex < n → elapsed ≡ listed n (λ u. word (time_in H u))
     → set elapsed E.vertex E.time ≡ listed n (λ u. word (time_in (E ∷ H) u))

@@ -5,7 +5,7 @@ ghost use Rattle.std.specs.Prelude.{◌≡◌};
 ghost use Rattle.model.specs.Calls.{Aim, Estimate, Go, Set};
 ghost use Rattle.network.specs.Lending.{areas};
 ghost use Rattle.unit_answers.specs.Shape.{call_in};
-ghost use Rattle.unit_questions.specs.Lending.{lent};
+ghost use Rattle.unit_questions.specs.Lending.{lent, mut};
 ghost use Rattle.unit.specs.Meets.{Meets, MeetsAlone, MeetsPreview};
 ghost use Rattle.unit.specs.Stops.{MeetsStops};
 
@@ -103,7 +103,7 @@ impl Header {
         road: u32,
         time: Time,
     ) -> Answered
-        ensures { MeetsAlone card.now self (areas ranks pairs times live down estimates elapsed leaving groups)
+        ensures { MeetsAlone card.now self (areas ranks pairs times (mut live) down estimates elapsed leaving groups)
             (Set road time.0) result }
     {
         let l = unit_questions::lengths_of(
@@ -128,7 +128,7 @@ impl Header {
         groups: &[u32],
         j: Junction,
     ) -> Answered
-        ensures { MeetsAlone card.now self (areas ranks pairs times live down estimates elapsed leaving groups)
+        ensures { MeetsAlone card.now self (areas ranks pairs times live (mut down) (mut estimates) elapsed leaving groups)
             (Aim j.0) result }
     {
         let l = unit_questions::lengths_of(
@@ -156,7 +156,7 @@ impl Header {
         groups: &[u32],
         j: Junction,
     ) -> Answered
-        ensures { MeetsAlone card.now self (areas ranks pairs times live down estimates elapsed leaving groups)
+        ensures { MeetsAlone card.now self (areas ranks pairs times live down (mut estimates) elapsed leaving groups)
             (Estimate j.0) result }
     {
         let l = unit_questions::lengths_of(
@@ -188,8 +188,8 @@ impl Header {
         class: u32,
         start: Junction,
     ) -> Answered
-        ensures { Meets card.now self (areas ranks pairs times live down estimates elapsed leaving groups)
-            (lent route log) (Go class start.0) result }
+        ensures { Meets card.now self (areas ranks pairs times live down (mut estimates) (mut elapsed) leaving groups)
+            (lent (mut route) (mut log)) (Go class start.0) result }
     {
         let target = self.target;
         let answer = call_go::go(
@@ -219,7 +219,7 @@ impl Header {
         time: Time,
         start: Junction,
     ) -> Answered
-        ensures { MeetsPreview card.now self (areas ranks pairs times live down estimates elapsed leaving groups)
+        ensures { MeetsPreview card.now self (areas ranks pairs times live down (mut estimates) elapsed leaving groups)
             work.old work.new class road time.0 start.0 result }
     {
         let target = self.target;
@@ -250,8 +250,8 @@ impl Header {
         class: u32,
         stops: &[u32],
     ) -> Stopped
-        ensures { MeetsStops card.now self (areas ranks pairs times live down estimates elapsed leaving groups)
-            (lent route log) class stops.now result }
+        ensures { MeetsStops card.now self (areas ranks pairs times live (mut down) (mut estimates) (mut elapsed) leaving groups)
+            (lent (mut route) (mut log)) class stops.now result }
     {
         let target = self.target;
         let by = call_stops::stops(
@@ -279,8 +279,8 @@ pub fn call(
     log: &mut [u32],
     call: Call,
 ) -> Answered
-    ensures { Meets card.now header (areas ranks pairs times live down estimates elapsed leaving groups) (lent route log)
-        (call_in call) result }
+    ensures { Meets card.now header (areas ranks pairs times (mut live) (mut down) (mut estimates) (mut elapsed) leaving groups)
+        (lent (mut route) (mut log)) (call_in call) result }
 {
     match call {
         Call::Set(road, time) => header.set(

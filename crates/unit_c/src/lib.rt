@@ -6,8 +6,8 @@ ghost use Rattle.model.specs.Card.{read_card};
 ghost use Rattle.model.specs.Calls.{Aim, Estimate, Go, Set};
 ghost use Rattle.card.specs.Answers.{rows_of};
 ghost use Rattle.network.specs.Lending.{areas};
-ghost use Rattle.unit_questions.specs.Lending.{lent};
-ghost use Rattle.unit_preparing.specs.Preparing.{Prepares};
+ghost use Rattle.unit_questions.specs.Lending.{lent, mut};
+ghost use Rattle.unit_preparing.specs.Preparing.{Prepares, areas_lent};
 ghost use Rattle.unit.specs.Shape.{answered_in, header_in};
 ghost use Rattle.unit.specs.Meets.{Meets, MeetsAlone, MeetsPreview};
 ghost use Rattle.unit.specs.Stops.{MeetsStops};
@@ -290,7 +290,7 @@ pub extern "C" fn unit_prepare(
     leaving: &mut [u32],
     groups: &mut [u32],
 ) -> UnitAnswer
-    ensures { Tells (λ x. Prepares card.now (areas ranks pairs times live down estimates elapsed leaving groups)
+    ensures { Tells (λ x. Prepares card.now (areas_lent ranks pairs times live down estimates elapsed leaving groups)
         (answered_in x)) result }
 {
     answer_of(unit_switch_on::prepare(
@@ -316,7 +316,7 @@ pub extern "C" fn unit_set(
     time: TimeWord,
 ) -> UnitAnswer
     ensures { Tells (MeetsAlone card.now (header_of header)
-        (areas ranks pairs times live down estimates elapsed leaving groups) (Set road time)) result }
+        (areas ranks pairs times (mut live) down estimates elapsed leaving groups) (Set road time)) result }
 {
     let h = header_of(header);
     answer_of(h.set(
@@ -352,7 +352,7 @@ pub extern "C" fn unit_aim(
     junction: u32,
 ) -> UnitAnswer
     ensures { Tells (MeetsAlone card.now (header_of header)
-        (areas ranks pairs times live down estimates elapsed leaving groups) (Aim junction)) result }
+        (areas ranks pairs times live (mut down) (mut estimates) elapsed leaving groups) (Aim junction)) result }
 {
     let h = header_of(header);
     answer_of(h.aim(
@@ -387,7 +387,7 @@ pub extern "C" fn unit_estimate(
     junction: u32,
 ) -> UnitAnswer
     ensures { Tells (MeetsAlone card.now (header_of header)
-        (areas ranks pairs times live down estimates elapsed leaving groups) (Estimate junction)) result }
+        (areas ranks pairs times live down (mut estimates) elapsed leaving groups) (Estimate junction)) result }
 {
     let h = header_of(header);
     answer_of(h.estimate(
@@ -424,8 +424,8 @@ pub extern "C" fn unit_go(
     class: u32,
     start: u32,
 ) -> UnitAnswer
-    ensures { Tells (Meets card.now (header_of header) (areas ranks pairs times live down estimates elapsed leaving groups)
-        (lent route log) (Go class start)) result }
+    ensures { Tells (Meets card.now (header_of header) (areas ranks pairs times live down (mut estimates) (mut elapsed) leaving groups)
+        (lent (mut route) (mut log)) (Go class start)) result }
 {
     let h = header_of(header);
     answer_of(h.go(
@@ -467,7 +467,7 @@ pub extern "C" fn unit_preview(
     start: u32,
 ) -> UnitAnswer
     ensures { Tells (MeetsPreview card.now (header_of header)
-        (areas ranks pairs times live down estimates elapsed leaving groups) work.old work.new
+        (areas ranks pairs times live down (mut estimates) elapsed leaving groups) work.old work.new
         class road time start) result }
 {
     let h = header_of(header);
@@ -510,7 +510,8 @@ pub extern "C" fn unit_stops(
     stops: &[u32],
 ) -> UnitStops
     ensures { TellsStops (MeetsStops card.now (header_of header)
-        (areas ranks pairs times live down estimates elapsed leaving groups) (lent route log) class stops.now) result }
+        (areas ranks pairs times live (mut down) (mut estimates) (mut elapsed) leaving groups)
+        (lent (mut route) (mut log)) class stops.now) result }
 {
     let h = header_of(header);
     stopped_of(h.stops(
@@ -548,7 +549,8 @@ pub extern "C" fn unit_replay(
     out: &mut [u64],
 ) -> UnitHeader
     ensures { TellsHeader (λ k. ReplayContract card.now (header_in (header_of header))
-        (areas ranks pairs times live down estimates elapsed leaving groups) (lent route log) (length work.old)
+        (areas ranks pairs times (mut live) (mut down) (mut estimates) (mut elapsed) leaving groups)
+        (lent (mut route) (mut log)) (length work.old)
         script.now out.old out.new (header_in k)) result }
 {
     let h = header_of(header);

@@ -1,7 +1,7 @@
 -- Preparing once questions 1 to 7 have passed. Definitions only.
 use Rattle.std.specs.Prelude.{◌≡◌, List, ℕ, length}
 use Rattle.std.proofs.Math.Option.{none}
-use Rattle.std.specs.Borrow.{Bor}
+use Rattle.std.specs.Borrow.{MutBor}
 use denote.Triple.Both.{Both}
 use Rattle.model.specs.Types.{Absent, Accepted, Answered, Refusal, Refused, Room}
 use Rattle.model.specs.Bytes.{word_at}
@@ -15,8 +15,16 @@ use Rattle.pairs_contraction.specs.declared.Contracted.{Contracted}
 use Rattle.pairs_contraction.specs.declared.Contracted.TheVariants.{Kept, Overflow}
 
 -- the areas that a function is lent, as its `requires` names them
-abbrev pub held : (ranks pairs times live down estimates elapsed leaving groups : Bor (List ℕ)) → Areas
+abbrev pub held : (ranks pairs times live down estimates elapsed leaving groups : MutBor (List ℕ)) → Areas
 held r p q l d e t g h = areas_of r.now p.now q.now l.now d.now e.now t.now g.now h.now
+
+-- and its `ensures`
+abbrev pub areas_lent : (ranks pairs times live down estimates elapsed leaving groups : Both (MutBor (List ℕ)) (MutBor (List ℕ)))
+    → Both Areas Areas
+areas_lent r p q l d e t g h = record {
+  entry = held r.entry p.entry q.entry l.entry d.entry e.entry t.entry g.entry h.entry;
+  exit = held r.exit p.exit q.exit l.exit d.exit e.exit t.exit g.exit h.exit;
+}
 
 -- questions 1 to 7 pass, and the card has so many junctions, roads and bytes
 pub record Accepts (card : List ℕ) (s : Sizes) (a : Areas) : Type 0 where

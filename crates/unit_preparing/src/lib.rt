@@ -5,8 +5,7 @@ ghost use Rattle.std.specs.Prelude.{◌≡◌, ◌*◌, length};
 ghost use Rattle.model.specs.Bytes.{listed};
 ghost use Rattle.model.specs.Layout.{road_size};
 ghost use Rattle.model.specs.Areas.{zeroed};
-ghost use Rattle.network.specs.Lending.{areas};
-ghost use Rattle.unit_preparing.specs.Preparing.{Accepts, Prepares, base_in, handed_back, held};
+ghost use Rattle.unit_preparing.specs.Preparing.{Accepts, Prepares, areas_lent, base_in, handed_back, held};
 
 use network::{Sizes, Time, TimeWord};
 use pairs_contraction::Contracted;
@@ -35,7 +34,7 @@ fn clear(
     leaving: &mut [u32],
     groups: &mut [u32],
 )
-    ensures { let a = areas ranks pairs times live down estimates elapsed leaving groups in a.exit ≡ zeroed a.entry }
+    ensures { let a = areas_lent ranks pairs times live down estimates elapsed leaving groups in a.exit ≡ zeroed a.entry }
 {
     areas::fill(ranks, 0);
     areas::fill(pairs, 0);
@@ -64,7 +63,7 @@ pub fn prepare_areas(
     groups: &mut [u32],
 ) -> Contracted
     requires { Accepts card.now s (held ranks pairs times live down estimates elapsed leaving groups) }
-    ensures { Prepares card.now (areas ranks pairs times live down estimates elapsed leaving groups) (handed_back s result) }
+    ensures { Prepares card.now (areas_lent ranks pairs times live down estimates elapsed leaving groups) (handed_back s result) }
 {
     let roads = card_layout::roads_of(card);
     let order = card_layout::order_of(card);

@@ -1,11 +1,17 @@
 -- The areas that a function is lent beside the unit's, and the lengths of the unit's. Definitions only.
 use Rattle.std.specs.Prelude.{Bool, ◌&&◌, List, ℕ, length}
+use Rattle.std.specs.Borrow.{MutBor}
+use denote.MutBor.{as_bor}
 use denote.Triple.Both.{Both}
 use Rattle.model.specs.Types.{Header}
 use Rattle.model.specs.Areas.{Each, areas_of}
 use Rattle.model.specs.State.{Lent, question9, usable}
 use Rattle.network.specs.Lending.{Slice}
 use Rattle.unit_questions.specs.declared.Lengths.{Lengths}
+
+-- a slice that is lent to be altered, as a lent slice
+abbrev pub mut : Both (MutBor (List ℕ)) (MutBor (List ℕ)) → Slice
+mut x = record { entry = as_bor x.entry; exit = as_bor x.exit }
 
 -- go's two lent areas
 abbrev pub lent_of : (route log : List ℕ) → Lent

@@ -6,7 +6,7 @@ ghost use Rattle.std.proofs.Math.Option.{some};
 ghost use Rattle.model.specs.Limits.{most_legs};
 ghost use Rattle.unit_answers.specs.Shape.{answer_in, call_in, change_in};
 ghost use Rattle.network.specs.Lending.{areas};
-ghost use Rattle.unit_questions.specs.Lending.{lent};
+ghost use Rattle.unit_questions.specs.Lending.{lent, mut};
 ghost use Rattle.unit.specs.Shape.{answered_in, header_in};
 ghost use Rattle.call_stops.specs.Shape.{stopping_in};
 ghost use Rattle.unit.specs.Stops.{Rest};
@@ -374,8 +374,9 @@ fn make_call(
     c: Scripted,
 ) -> Made
     requires { (c.route ≤ length route.old) × (c.log ≤ length log.old) }
-    ensures { OneContract card.now (header_in header) (areas ranks pairs times live down estimates elapsed leaving groups)
-        (lent route log) (scripted_in c (length work.old) stops.now) (header_in result.header) (made_words result) }
+    ensures { OneContract card.now (header_in header)
+        (areas ranks pairs times (mut live) (mut down) (mut estimates) (mut elapsed) leaving groups)
+        (lent (mut route) (mut log)) (scripted_in c (length work.old) stops.now) (header_in result.header) (made_words result) }
 {
     let asked = c.asked;
     let roads = c.route;
@@ -441,7 +442,7 @@ pub fn replay(
     out: &mut [u64],
 ) -> Header
     ensures { ReplayContract card.now (header_in start)
-        (areas ranks pairs times live down estimates elapsed leaving groups) (lent route log)
+        (areas ranks pairs times (mut live) (mut down) (mut estimates) (mut elapsed) leaving groups) (lent (mut route) (mut log))
         (length work.old) script.now out.old out.new (header_in result) }
 {
     let room = room_in(out.len());

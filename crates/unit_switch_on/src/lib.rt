@@ -4,9 +4,8 @@
 ghost use Rattle.std.specs.Prelude.{◌≡◌};
 ghost use Rattle.model.specs.Areas.{Areas, lengths};
 ghost use Rattle.network.specs.Refusals.{refusal_in};
-ghost use Rattle.network.specs.Lending.{areas};
 ghost use Rattle.unit_questions.specs.Lending.{lengths_in};
-ghost use Rattle.unit_preparing.specs.Preparing.{Prepares, handed_back, refused_by};
+ghost use Rattle.unit_preparing.specs.Preparing.{Prepares, areas_lent, handed_back, refused_by};
 ghost use Rattle.unit.specs.Shape.{answered_in};
 ghost use Rattle.unit_switch_on.specs.Asking.{Says};
 
@@ -100,7 +99,7 @@ pub fn prepare(
     leaving: &mut [u32],
     groups: &mut [u32],
 ) -> Answered
-    ensures { Prepares card.now (areas ranks pairs times live down estimates elapsed leaving groups) (answered_in result) }
+    ensures { Prepares card.now (areas_lent ranks pairs times live down estimates elapsed leaving groups) (answered_in result) }
 {
     let l = unit_questions::lengths_of(
         ranks, pairs, times, live, down, estimates, elapsed, leaving, groups,
