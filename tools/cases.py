@@ -27,9 +27,9 @@ LARGEST = 2 ** 32 - 1  # of the words of a card
 # ---- the text of imports, numbers, lists, calls and refusals
 
 def use(module, names):
-    """The lines that take names from a module."""
+    """The lines that take names from a module; an operator's holes are sorted as `_` is, between capital letters and others."""
     lines = [[]]
-    for name in sorted(names):
+    for name in sorted(names, key=lambda name: name.replace("◌", "_")):
         if lines[-1] and len(f"use {module}.{{{', '.join([*lines[-1], name])}}}") > WIDTH:
             lines.append([])
         lines[-1].append(name)
@@ -39,7 +39,7 @@ def use(module, names):
 REFUSALS = ["Short", "Kinds", "Starts", "Sizes", "Road", "Place", "AreaLengths", "Room", "Lengths",
             "NoRoad", "NotAllowed", "NoJunction", "NoTarget", "LentLengths", "NoPath", "StopCount", "NoLeg", "NoClass"]
 PLACED = (5, 6, 15, 17)  # with a place, count or leg
-CALLS = {"set": "setCall", "aim": "aimCall", "est": "estimateCall", "preview": "previewCall"}
+CALLS = {"set": "set_call", "aim": "aim_call", "est": "estimate_call", "preview": "preview_call"}
 
 
 def number(word):
@@ -90,9 +90,9 @@ def lent_text(lent):
 
 def call_text(call):
     if call[0] == "go":
-        return f"{applied('goCall', *call[1:3])} {lent_text(call[3:])}"
+        return f"{applied('go_call', *call[1:3])} {lent_text(call[3:])}"
     if call[0] == "stops":
-        return f"{applied('stopsCall', call[1])} {stops_text(call[2])} {lent_text(call[3:])}"
+        return f"{applied('stops_call', call[1])} {stops_text(call[2])} {lent_text(call[3:])}"
     return applied(CALLS[call[0]], *call[1:])
 
 
@@ -182,7 +182,7 @@ def script_text(index, script):
     turns = "\n      ".join(entry(text, 6) for text in [*map(turn_text, script.turns), "[]"])[2:]
     return f"""
 -- {script.made[0]}
-script-{index} : Holds record {{
+script_{index} : Holds record {{
   roads ={field(road_rows(script.chart.roads))};
   order = {row(script.chart.order)};
   access = {row(script.access)};
@@ -195,19 +195,17 @@ script-{index} : Holds record {{
       {turns};
 }}
 unfolding played figures
-script-{index} = record {{ plays = refl; counts = refl }}
+script_{index} = record {{ plays = refl; counts = refl }}
 """
 
 
-NOTATION = "Rattle·model_cases·specs.specs.Notation"
+NOTATION = "Rattle.model_cases.specs.Notation"
 RANDOM = f"""-- Maps and calls, some made for a purpose and some random, with what the reference model answers and leaves. Made by tools/cases.py.
-use mathlib.Core.Path.{{refl}}
-use mathlib.Core.Option.{{none, some}}
-use mathlib.Core.List.{{[], _∷_}}
-use lib.ListN.{{replicate}}
-use Rattle·model.specs.Types.{{Lengths, LentLengths, NoClass, NoJunction, NoRoad, NoTarget, NotAllowed, StopCount}}
-use Rattle·model.specs.Calls.{{aimCall, estimateCall, goCall, previewCall, setCall, stopsCall}}
-{use(NOTATION, "Holds _over_ _–_–_ aim est figures go largest lent less lost more no pair played preview set stops stranded ∞ □".split())}"""
+use Rattle.std.specs.Prelude.{{refl, [], ◌∷◌, replicate}}
+use Rattle.std.proofs.Math.Option.{{none, some}}
+use Rattle.model.specs.Types.{{Lengths, LentLengths, NoClass, NoJunction, NoRoad, NoTarget, NotAllowed, StopCount}}
+use Rattle.model.specs.Calls.{{aim_call, estimate_call, go_call, preview_call, set_call, stops_call}}
+{use(NOTATION, "Holds ◌over◌ ◌–◌–◌ aim est figures go largest lent less lost more no pair played preview set stops stranded ∞ □".split())}"""
 
 
 # ---- Cards.antt: what is given, in groups with a comment each
@@ -229,7 +227,7 @@ def card(roads, order):
 
 def card_with(roads, order, access):
     data = model.with_access(model.make_card(sum(roads, ()), order), access)
-    return Given(f"cardWith {argument(road_rows(roads))} {argument(row(order))} {argument(row(access))}", data)
+    return Given(f"card_with {argument(road_rows(roads))} {argument(row(order))} {argument(row(access))}", data)
 
 
 def blank(roads, order):
@@ -332,7 +330,7 @@ CALLINGS = {
     "the header of a refused preparing, with areas that it calls for": [
         ("changes", (0, 0, 0, 0), None, 0, UNMAPPED), ("others", (0, 0, 0, 0), None, 0, UNMAPPED), ("lists", (0, 0, 0, 0), None, 0, UNMAPPED)],
     "the same with classes that are none": [
-        ("classes", (0, 0, 0, 0), None, 0, UNMAPPED), ("noOutlooks", (0, 0, 0, 0), None, 0, UNMAPPED)],
+        ("classes", (0, 0, 0, 0), None, 0, UNMAPPED), ("no_outlooks", (0, 0, 0, 0), None, 0, UNMAPPED)],
     "the same on a card that is not empty": [("all", (0, 0, 0, 0), None, 28, UNMAPPED), ("classes", (0, 0, 0, 0), None, 1, UNMAPPED)],
     "classes that are none": [
         ("classes", (2, 1, 1, 48), 0, 48, FITTING), ("classes", (2, 1, 1, 48), None, 48, FITTING), ("outlooks", (2, 1, 1, 48), 0, 48, FITTING),
@@ -412,7 +410,7 @@ def preparing_line(given):
 
 
 CALLED = {"changes": CHANGES, "others": OTHERS, "works": WORKS, "lists": LISTS, "classes": CLASSES, "outlooks": OUTLOOKS,
-          "noOutlooks": NO_OUTLOOKS, "all": CHANGES + OTHERS}
+          "no_outlooks": NO_OUTLOOKS, "all": CHANGES + OTHERS}
 
 
 def calling_line(given):
@@ -430,20 +428,20 @@ def calling_line(given):
 
 def sizes_line(given):
     right = model.sizes_right(*given)
-    return f"{applied('sizesOk', *given)} ⇒ {str(right).lower()}", "accepted" if right else 4
+    return f"{applied('sizes_ok', *given)} ⇒ {str(right).lower()}", "accepted" if right else 4
 
 
 def lengths_line(given):
     n, m, pairs, bytes_, length, *lengths = given
     right = model.all_lengths_right(lengths, length, n, m, pairs, bytes_)
-    text = f"{applied('question9', n, m, pairs, bytes_, length)} ({applied('areasOf', *lengths)})"
+    text = f"{applied('question9', n, m, pairs, bytes_, length)} ({applied('areas_of', *lengths)})"
     return f"{text} ⇒ {str(right).lower()}", "accepted" if right else 9
 
 
 def range_line(given):
     old, n, m = given
     right = model.in_range(n, m) and model.named(old.data, n, m)
-    text = f"usable {argument(old.text)} ({applied('headerOf', n, m, 0, len(old.data))} Absent)"
+    text = f"usable {argument(old.text)} ({applied('header_of', n, m, 0, len(old.data))} Absent)"
     return f"{text} ⇒ {str(right).lower()}", "accepted" if right else 9
 
 
@@ -464,32 +462,28 @@ def section(name, types, theorem, tested, unfolds, groups, line, due, counts):
     return f"\nabbrev {name} : List (Case {types})\n{name} =\n{table}\n\n{theorem} : Agree {tested} {name}\n{opened}{theorem} = refl\n"
 
 
-CARDS_NOTATION = """Agree Calling Case Preparing Writing _–_–_ _⇒_ answers blank bytes card cardWith headerOf largest lent prepares put refused same
+CARDS_NOTATION = """Agree Calling Case Preparing Writing ◌–◌–◌ ◌⇒◌ answers blank bytes card card_with header_of largest lent prepares put refused same
     unprepared unwritten writes written"""
 CARDS = f"""-- Cards, writings, preparings and lengths, with what the reference model answers and leaves. Made by tools/cases.py.
-use mathlib.Core.Path.{{_≡_, refl}}
-use mathlib.Core.Bool.{{Bool, false, true}}
-use mathlib.Core.List.{{List, [], _++_, _∷_, map}}
-use Prim.Native.Nat.{{ℕ}}
-use lib.ListN.{{replicate, take}}
-{use("Rattle·model.specs.Types", ["Absent", "At", "Read", "Reading", "Refusal", "Unreadable", *REFUSALS])}\
-use Rattle·model.specs.Bytes.{{wordAt}}
-use Rattle·model.specs.Layout.{{bodyAt, named}}
-use Rattle·model.specs.Card.{{Written, cardRefusal, readCard, sizesOk}}
-use Rattle·model.specs.Areas.{{areasOf}}
-use Rattle·model.specs.State.{{Step, question9, usable}}
-use Rattle·model.specs.Calls.{{Call, aimCall, estimateCall, goCall, previewCall, setCall, stopsCall}}
+use Rattle.std.specs.Prelude.{{◌≡◌, refl, Bool, false, true, List, [], ◌++◌, ◌∷◌, map, ℕ, replicate, take}}
+{use("Rattle.model.specs.Types", ["Absent", "At", "Read", "Reading", "Refusal", "Unreadable", *REFUSALS])}\
+use Rattle.model.specs.Bytes.{{word_at}}
+use Rattle.model.specs.Layout.{{body_at, named}}
+use Rattle.model.specs.Card.{{Written, card_refusal, read_card, sizes_ok}}
+use Rattle.model.specs.Areas.{{areas_of}}
+use Rattle.model.specs.State.{{Step, question9, usable}}
+use Rattle.model.specs.Calls.{{Call, aim_call, estimate_call, go_call, preview_call, set_call, stops_call}}
 {use(NOTATION, CARDS_NOTATION.split())}
 -- document 01's number of each refusal
 numbers :
-    map (λ (q : Refusal). q .question)
+    map (λ (q : Refusal). q.question)
     ({within(listed(applied(name, 0) if number in PLACED else name for number, name in enumerate(REFUSALS, 1)))})
     ≡ {row(range(1, 19))}
 numbers = refl
 
 -- the lowest byte first
-bytes-of : bytes (10000000 ∷ []) ≡ 128 ∷ 150 ∷ 152 ∷ 0 ∷ []
-bytes-of = refl
+bytes_of : bytes (10000000 ∷ []) ≡ 128 ∷ 150 ∷ 152 ∷ 0 ∷ []
+bytes_of = refl
 
 -- 48 bytes: one road, two junctions
 abbrev small : List ℕ
@@ -527,20 +521,20 @@ classes =
 abbrev outlooks : List Call
 outlooks = {listed(map(call_text, OUTLOOKS))}
 
-abbrev noOutlooks : List Call
-noOutlooks = {listed(map(call_text, NO_OUTLOOKS))}
+abbrev no_outlooks : List Call
+no_outlooks = {listed(map(call_text, NO_OUTLOOKS))}
 """
 
 
 def cards_text(counts):
     return CARDS + "".join(section(*parts, counts) for parts in (
-        ("readings", "(List ℕ) Reading", "reading", "readCard", "wordAt bodyAt cardRefusal", READINGS, reading_line, ["accepted", *range(1, 7)]),
+        ("readings", "(List ℕ) Reading", "reading", "read_card", "word_at body_at card_refusal", READINGS, reading_line, ["accepted", *range(1, 7)]),
         ("writings", "Writing Written", "writing", "writes", "writes", WRITINGS, writing_line, ["accepted", *range(4, 8)]),
         ("preparings", "Preparing Step", "preparing", "prepares", "prepares", PREPARINGS, preparing_line, range(1, 9)),
         ("callings", "Calling (List Step)", "calling", "answers", "answers", CALLINGS, calling_line, [9, 10, 12, 16, 18]),
-        ("sizes", "Bool Bool", "sized", "same", "sizesOk", SIZES, sizes_line, ["accepted", 4]),
+        ("sizes", "Bool Bool", "sized", "same", "sizes_ok", SIZES, sizes_line, ["accepted", 4]),
         ("lengths", "Bool Bool", "fitting", "same", "question9", LENGTHS, lengths_line, ["accepted", 9]),
-        ("ranges", "Bool Bool", "ranged", "same", "named wordAt bodyAt", RANGES, range_line, ["accepted", 9])))
+        ("ranges", "Bool Bool", "ranged", "same", "named word_at body_at", RANGES, range_line, ["accepted", 9])))
 
 
 # ---- the files

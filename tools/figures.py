@@ -23,7 +23,7 @@ def size(files):
 
 def crates():
     """The crates in the order of crates.txt."""
-    return re.findall(r'^(\w+):', read('crates.txt'), re.M)
+    return re.findall(r'^(\w+)[^:#\n]*:', read('crates.txt'), re.M)
 
 
 def functions(source):
@@ -86,7 +86,8 @@ def shapes():
     lines, tall = max((clauses, name) for name, _, clauses, *_ in all_functions)
     width, broad = max((longest, name) for name, _, _, longest, _ in all_functions)
     proofs = [line for file in glob.glob('crates/*/proofs/**/*.antt', recursive=True) for line in read(file).split('\n')]
-    every = [line for file in glob.glob('crates/**/*.antt', recursive=True) + glob.glob('crates/**/*.rt', recursive=True) for line in read(file).split('\n')]
+    every = [line for part in ('src/**/*.rt', 'specs/**/*.antt', 'proofs/**/*.antt') for file in glob.glob('crates/*/' + part, recursive=True)
+             for line in read(file).split('\n')]
     yield f'- Functions of more than 12 parameters: {len(wide)}' + (': ' + ', '.join(wide) if wide else '') + '.'
     yield f'- Functions of more than 40 lines: {len(high)}' + (': ' + ', '.join(high) if high else '') + '.'
     yield f'- Longest contract: {lines} lines, in {tall}; longest line of one: {width} characters, in {broad}.'

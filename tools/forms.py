@@ -16,7 +16,7 @@ import sys
 
 ROOT = os.path.dirname(os.path.dirname(os.path.abspath(__file__)))
 
-Function = collections.namedtuple('Function', 'crate owner name public parameters result contract')
+Function = collections.namedtuple('Function', 'crate owner name public generic parameters result contract')
 
 BUILT = 'card ranks pairs times leaving groups'
 
@@ -74,7 +74,7 @@ MOST_WRITTEN = 12
 
 # file, name, type: what the plain machine is fed
 TYPES = [
-    ('crates/model/specs/Calls.antt', 'machineStep', 'CardMap → Machine → Plain → Told',
+    ('crates/model/specs/Calls.antt', 'machine_step', 'CardMap → Machine → Plain → Told',
      "01: the plain machine is fed the map, each call's arguments and lengths, and nothing from the unit's areas, header or answers"),
 ]
 
@@ -98,8 +98,8 @@ def closing(text, at):
 def parts(text):
     """The parts between commas outside of brackets."""
     found, depth = [''], 0
-    for letter in text:
-        depth += {'(': 1, '[': 1, ')': -1, ']': -1}.get(letter, 0)
+    for before, letter in zip(' ' + text, text):
+        depth += {'(': 1, '[': 1, '<': 1, ')': -1, ']': -1, '>': -1 if before != '-' else 0}.get(letter, 0)
         if letter == ',' and depth == 0:
             found.append('')
         else:
@@ -107,26 +107,43 @@ def parts(text):
     return [part.strip() for part in found if part.strip()]
 
 
+# what opens a clause of a contract: `ensures {`, `requires low {`, `ensures* {`
+CLAUSE = r'\b(?:ghost|requires|ensures)\b'
+
+
 def body_at(code, at):
     """Where a function's body opens whose parameter list ends there: past its result and its clauses."""
     while True:
         brace = code.index('{', at)
-        if not re.search(r'\b(?:requires|ensures)\s*$', code[at:brace]):
+        if not re.search(CLAUSE + r'\*?(?: \w+)?\s*$', code[at:brace]):
             return brace
         at = closing(code, brace) + 1
+
+
+def parameters_at(code, at):
+    """Where the parameter list opens of a function whose name ends there: past its type parameters."""
+    depth = 0
+    for place in range(at, len(code)):
+        depth += {'<': 1, '>': -1 if code[place - 1] != '-' else 0}.get(code[place], 0)
+        if depth == 0 and code[place] == '(':
+            return place
+    raise ValueError('a function has no parameters')
 
 
 def functions(crate, source):
     """The functions of a crate: parameters by name, each with its type, result, and the clauses of the contract."""
     code = re.sub(r'//.*', '', source)
-    blocks = [(found.start(), closing(code, found.end() - 1), found.group(1)) for found in re.finditer(r'^impl (\w+) \{', code, re.M)]
-    for found in re.finditer(r'^ *(pub )?(?:extern "C" )?fn (\w+)(?:<[^>]*>)?\(', code, re.M):
-        end = closing(code, found.end() - 1)
-        parameters = [part.partition(':')[::2] for part in parts(code[found.end():end])]
+    impls = re.finditer(r'^impl(?:<[^{]*?>)? (?:[^{]* for )?(\w+)(?:<[^{]*>)? \{', code, re.M)
+    blocks = [(found.start(), closing(code, found.end() - 1), found.group(1)) for found in impls]
+    for found in re.finditer(r'^ *(pub )?(?:extern "C" )?fn (\w+)\b', code, re.M):
+        begin = parameters_at(code, found.end())
+        end = closing(code, begin)
+        parameters = [part.partition(':')[::2] for part in parts(code[begin + 1:end])]
         told = code[end + 1:body_at(code, end + 1)]
-        result, contract = re.match(r'\s*(?:->\s*(.*?))?\s*((?:requires|ensures)\b.*)?$', told, re.S).groups()
+        result, contract = re.match(r'\s*(?:->\s*(.*?))?\s*(' + CLAUSE + r'.*)?$', told, re.S).groups()
         owner = [name for start, stop, name in blocks if start < found.start() < stop]
-        yield Function(crate, owner[0] if owner else '', found.group(2), bool(found.group(1)),
+        generic = re.findall(r'[<,]\s*(\w+)\s*[:,>]', code[found.end():begin])
+        yield Function(crate, owner[0] if owner else '', found.group(2), bool(found.group(1)), generic,
                        {name.strip(): kind.strip() for name, kind in parameters}, result or '', contract or '')
 
 
@@ -142,7 +159,7 @@ def path(f):
 def of_mode(f, mode):
     """The parameters that are lent to be written, lent to be read, or given by value."""
     def mode_of(kind):
-        return 'written' if kind.startswith('&mut ') else 'read' if kind.startswith('&') else 'given'
+        return 'written' if re.match(r"&(?:'\w+ )?mut ", kind) else 'read' if kind.startswith('&') else 'given'
     return [name for name, kind in f.parameters.items() if mode_of(kind) == mode]
 
 
@@ -221,8 +238,9 @@ def converted(all_functions):
 
 
 def narrow(all_functions):
+    """What is lent under a type parameter, as the program's input and output, is no slice."""
     for f in all_functions:
-        number = len(of_mode(f, 'written'))
+        number = sum(re.sub(r"^&(?:'\w+ )?mut ", '', f.parameters[name]) not in f.generic for name in of_mode(f, 'written'))
         if number > MOST_WRITTEN:
             yield f'{path(f)} is lent {number} slices to be written; at most {MOST_WRITTEN}'
 
@@ -235,9 +253,10 @@ def typed():
 
 
 def safe():
+    """No line is unsafe; the mark of an export, `#[unsafe(no_mangle)]`, makes no code so."""
     for file in sorted(glob.glob('crates/*/src/*.rt')):
         for number, line in enumerate(read(file).split('\n'), 1):
-            if re.search(r'\bunsafe\b', re.sub(r'//.*', '', line)):
+            if re.search(r'\bunsafe\b', re.sub(r'//.*|^#\[unsafe\(no_mangle\)\]$', '', line)):
                 yield f'{file}:{number}: unsafe'
 
 

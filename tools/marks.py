@@ -25,7 +25,7 @@ ALLOWED = {
     # the largest word of a card, as a junction, a time or a number of sections that no card has
     'crates/model_cases/specs/Notation.antt': ['largest = 4294967295'],
     # a junction or a road that is out of range, which stands for every larger number of a line
-    'crates/line_console/specs/Lines.antt': ['outOfRange = 4294967295'],
+    'crates/line_console/specs/Lines.antt': ['out_of_range = 4294967295'],
     # lines with such numbers: a time that 11 refuses, and junctions
     'crates/line_console/specs/Examples.antt': ['line = "set 0 4294967295"; says = Call (Set 0 (record { 0 = 4294967295 }))', 'line = "aim 4294967294"; says',
                                                 'line = "aim 4294967295"; says', 'line = "set 0 4294967295"; refused = some NotAllowed'],

@@ -4,10 +4,10 @@
   width     a line of a .rt or .antt file has more than 140 characters
   places    two `.before` stand in a row: a place is named by its type, `let PLACE : tie.PLACE = search in`, and nothing is counted. In the
             crates that still count (COUNTED), more than two, where no place is named by `let PLACE = .. in` or an accessor, `place c = ..`
-  parts     more than two numbered parts in a row (`.1 .1 .0`): a fact is taken by its name
+  parts     more than two numbered parts in a row (`.1.1.0`): a fact is taken by its name
   blanks    more than three `_` in a row: what can be inferred is an implicit argument
   opening   a file of proofs or specs does not begin with a comment that says in a sentence what it is for (a Lib.antt that only lists
-            modules needs none)
+            modules needs none; of a function's Invariants.antt and Answers.antt one has it)
 
 With --count the broken places are counted by rule, and the status is 0."""
 import glob
@@ -22,12 +22,15 @@ COUNTED = re.compile(r'crates/(search_junctions|search_labels|unit_(answers|c|sc
 COUNTED_CHAIN = 2
 
 END = r'(?![^\s)\]},;])'
-BEFORE = r'(?:\.before' + END + r'\s*){%d,}'
+# a projection is written tight, so another may follow at once
+PART_END = r'(?![^\s)\]},;.])'
+BEFORE = r'(?:\.before' + PART_END + r'\s*){%d,}'
 CHAINS, COUNTED_CHAINS = re.compile(BEFORE % (CHAIN + 1)), re.compile(BEFORE % (COUNTED_CHAIN + 1))
 # what stands before the chain where a place is named, and what after it
-LET = re.compile(r'\blet [^\s=]+ = (?:[^\s()=]+ )?[^\s()=]+\s+$')
-ACCESSOR = re.compile(r'^[^\s=]+ [^\s=]+ =\s+(?:[^\s()=]+ )?[^\s()=]+\s+$')
-NUMBERED = re.compile(r'(?:\.\d+' + END + r'\s*){%d,}' % (PARTS + 1))
+OWNER = r'(?:[^\s()=]+|\([^\s()=]+ [^\s()=]+\))$'
+LET = re.compile(r'\blet [^\s=]+ = ' + OWNER)
+ACCESSOR = re.compile(r'^[^\s=]+ [^\s=]+ =\s+' + OWNER)
+NUMBERED = re.compile(r'(?:\.\d+' + PART_END + r'\s*){%d,}' % (PARTS + 1))
 BLANK = re.compile(r'(?<![^\s(])(?:_' + END + r'\s*){%d,}' % (BLANKS + 1))
 
 
@@ -69,8 +72,24 @@ def breaches(file):
             yield rule, line_of(text, found.start())
 
 
+def sources():
+    """The files of src, specs and proofs, and none of what rt keeps in out/."""
+    found = [file for part in ('src/**/*.rt', 'specs/**/*.antt', 'proofs/**/*.antt') for file in glob.glob('crates/*/' + part, recursive=True)]
+    return sorted(found)
+
+
+# the two files of what a function's proof is written in
+BESIDE = {'Invariants.antt': 'Answers.antt', 'Answers.antt': 'Invariants.antt'}
+
+
 def opening(file):
     """Does the file begin with a sentence, if it needs one?"""
+    folder, name = os.path.split(file)
+    beside = os.path.join(folder, BESIDE.get(name, ''))
+    return begins_with_a_sentence(file) or (name in BESIDE and os.path.isfile(beside) and begins_with_a_sentence(beside))
+
+
+def begins_with_a_sentence(file):
     with open(file, encoding='utf-8') as source:
         lines = source.read().split('\n')
     if os.path.basename(file) == 'Lib.antt' and all(re.match(r'(?:pub )?(?:mod|use) |$', line) for line in lines):
@@ -87,7 +106,7 @@ def opening(file):
 def main(argv):
     os.chdir(ROOT)
     counts, broken = {}, 0
-    for file in sorted(glob.glob('crates/**/*.rt', recursive=True) + glob.glob('crates/**/*.antt', recursive=True)):
+    for file in sources():
         found = list(breaches(file))
         if file.endswith('.antt') and not opening(file):
             found.append(('opening', 1))

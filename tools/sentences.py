@@ -3,9 +3,9 @@
 tells what was, so only its links are looked at; docs/BENCHMARK.md is written by the benchmark, and of it links and paths are.
 
   sentences   docs/SENTENCES.md is a list: a sentence, an arrow, and what holds it. Each name after the arrow stands in the
-              place named before it. A place is `crate/File` (crates/crate/specs/File.antt), `crate/src`, `crate/must-fail`
-              (wrong programs of the gate), `crate/tried` (those outside of it), `program_scenarios/data`, or a file of rust/ or
-              crates/ by its path. Names in brackets are fields, declared somewhere in the tree. A sentence that a request of
+              place named before it. A place is `crate/File` (crates/crate/specs/File.antt, and proofs/File.antt, where its theorems
+              stand), `crate/src`, `crate/must-fail` (wrong programs of the gate), `crate/tried` (those outside of it),
+              `program_scenarios/data`, or a file of rust/ or crates/ by its path. Names in brackets are fields, declared somewhere in the tree. A sentence that a request of
               document 02 has changed (CHANGED) says since when.
   names       A name in backquotes is declared somewhere in the tree, `crate::name` in that crate's code, `Type::name` in some
               crate's, `File.name` or `Record.field` in that file or one that declares the record. In a table whose last column
@@ -41,8 +41,9 @@ CHANGED = (r'base time in seconds', r'\b1,000,000\b', r'4,095,000,000', r'4,294,
            r'at most (?:the number of|those) junctions', r'on equal keys the smaller', r'live time isn.t closed', r'16,000 words', r'a signed number of seconds')
 
 # words of Rattle, of antt, of the kit and of the commands: no name of ours
-FOREIGN = set('''eqb ltb leb not cond none some replicate getD take drop length min abbrev unfoldable unfolding use data record
-    requires ensures rt cc tried repeats'''.split())
+FOREIGN = set('''eqb ltb leb not cond none some replicate get_or take drop length min abbrev unfoldable unfolding use data record
+    requires ensures result rt cc tried'''.split())
+NAME = r"[\w'-]*[^\W\d][\w'-]*"
 TOP = ('c', 'crates', 'docs', 'examples', 'rust', 'target', 'tools')
 KIT = ('bytes', 'io', 'libc', 'os', 'std')
 
@@ -111,12 +112,17 @@ def place_files(place):
         return files_of(f'crates/{crate}/src/*.rt')
     if part in ('must-fail', 'tried', 'data'):
         return files_of(f'crates/{crate}/{part}/*')
-    return [f'crates/{crate}/specs/{part}.antt']
+    return of_name(crate, part)
+
+
+def of_name(crate, name):
+    """The file of that name in specs, and the one in proofs, as far as they are there."""
+    return files_of(f'crates/{crate}/specs/{name}.antt', f'crates/{crate}/proofs/{name}.antt')
 
 
 def where(name):
     """The files that have the name."""
-    every = files_of('crates/*/must-fail/*', 'crates/*/tried/*', 'crates/*/specs/*.antt', 'crates/*/src/*.rt', 'rust/tests/*.rs')
+    every = files_of('crates/*/must-fail/*', 'crates/*/tried/*', 'crates/*/specs/*.antt', 'crates/*/proofs/*.antt', 'crates/*/src/*.rt', 'rust/tests/*.rs')
     return [file for file in every if declared(name, file)]
 
 
@@ -129,7 +135,7 @@ def sentence(block):
     for words in CHANGED:
         if re.search(words, said):
             yield None if re.search(r'\bsince A\d', held) else f'document 02 has changed "{re.search(words, said).group(0)}": since when is not said'
-    for word in re.findall(r'`([\w·-]+)`', ' '.join(re.findall(r'\(`[^)]*\)', held))):
+    for word in re.findall(r"`([\w'-]+)`", ' '.join(re.findall(r'\(`[^)]*\)', held))):
         yield None if word in FOREIGN or anywhere(word) else f'{word} is declared nowhere'
     held = re.sub(r'\(`[^)]*\)', '', held)
     place = None
@@ -138,7 +144,7 @@ def sentence(block):
             place = word
             if not all(map(os.path.exists, place_files(place) or ['-'])):
                 yield 'no such place: ' + place
-        elif place is not None and re.fullmatch(r'[\w·-]+', word) and word not in FOREIGN:
+        elif place is not None and re.fullmatch(r"[\w'-]+", word) and word not in FOREIGN:
             if any(declared(word, file) for file in place_files(place) if os.path.isfile(file)):
                 yield None
             else:
@@ -161,14 +167,16 @@ def sentences(text):
 # ---- names of the other documents
 
 def named_files(cell):
-    """The files of a File column: [Card](..) or Card, of model; graph/Map; Map after graph/ in the same cell."""
-    found, crate = [], 'model'
+    """The files of a File column: [Card](..) or Card, of model; graph/Map; Map after graph/ in the same cell. Of specs and of proofs."""
+    found = []
     for link, word in re.findall(r'\[[^\]]*\]\(\.\./([^)]*)\)|((?:\w+/)?[A-Z]\w+)', cell):
-        if link:
+        place = re.fullmatch(r'crates/(\w+)/(?:specs|proofs)/(\w+)\.antt', link)
+        if link and not (place and os.path.isfile(link)):
             found.append(link)
         else:
             crate, _, file = word.rpartition('/') if '/' in word else ('model', '', word)
-            found.append(f'crates/{crate}/specs/{file}.antt')
+            crate, file = place.groups() if place else (crate, file)
+            found += of_name(crate, file) or [f'crates/{crate}/specs/{file}.antt']
     return found
 
 
@@ -181,14 +189,16 @@ def of_code(owner, name):
         if name == '*':
             return any('pub fn' in read(file) for file in sources)
         return any(re.search(rf'(?:fn|const|struct|enum) {name}\b', read(file)) for file in sources)
-    blocks = [block for file in files_of('crates/*/src/*.rt') for block in re.findall(rf'^impl {owner} \{{.*?^\}}', read(file), re.M | re.S)]
+    blocks = [block for file in files_of('crates/*/src/*.rt')
+              for block in re.findall(rf'^impl(?:<[^{{]*?>)? (?:[^{{]* for )?{owner}(?:<[^{{]*>)? \{{.*?^\}}', read(file), re.M | re.S)]
     return any(re.search(rf'(?:fn|const) {name}\b', block) for block in blocks)
 
 
 @functools.lru_cache(maxsize=None)
 def anywhere(name):
     """Is the name declared in the tree, or is it that of a crate, a file or an edit?"""
-    if os.path.isdir(f'crates/{name}') or files_of(f'crates/*/*/{name}.*', f'tools/{name}', f'tools/{name}.*', f'rust/**/{name}.rs'):
+    inside = [f'crates/*/{part}/{name}.*' for part in ('src', 'specs', 'proofs', 'must-fail', 'tried', 'data')]
+    if os.path.isdir(f'crates/{name}') or files_of(*inside, f'tools/{name}', f'tools/{name}.*', f'rust/**/{name}.rs'):
         return True
     every = files_of('crates/*/specs/*.antt', 'crates/*/proofs/**/*.antt', 'crates/*/src/*.rt', 'rust/**/*.rs')
     return any(declared(name, file) for file in every)
@@ -197,7 +207,8 @@ def anywhere(name):
 def is_place(place):
     """Is it a place, as SENTENCES has them, a folder of a crate, or `crate/edit`?"""
     crate, part = place.split('/')
-    return bool(files_of(f'crates/{crate}/{part}', f'crates/{crate}/specs/{part}.antt', f'crates/{crate}/must-fail/{part}.edit', f'crates/{crate}/tried/{part}.edit'))
+    return bool(files_of(f'crates/{crate}/{part}', f'crates/{crate}/specs/{part}.antt', f'crates/{crate}/proofs/{part}.antt',
+                         f'crates/{crate}/must-fail/{part}.edit', f'crates/{crate}/tried/{part}.edit'))
 
 
 def qualified(owner, name):
@@ -225,7 +236,7 @@ def names(text):
                 if place.endswith('.rt'):
                     yield number, None if declared(word, place) else f'{word} is not in {place}'
         plain = re.sub(r'\(`[^)]*\)', '', cells[1]) if places else line
-        for word in re.findall(r'`([\w·′-]*[^\W\d][\w·′-]*)`', ' '.join(re.findall(r'\(`[^)]*\)', cells[1])) if places else ''):
+        for word in re.findall(rf'`({NAME})`', ' '.join(re.findall(r'\(`[^)]*\)', cells[1])) if places else ''):
             yield number, None if word in FOREIGN or anywhere(word) else f'{word} is declared nowhere'
         for word in re.findall(r'`([^`]+)`', plain):
             if re.fullmatch(r'\w+/\w[\w-]*', word) and word.split('/')[0] not in TOP:
@@ -236,7 +247,7 @@ def names(text):
                 yield number, None if of_code(*word.split('::')) else f'{word} is in no code'
             elif re.fullmatch(r'[A-Z]\w*\.[\w-]+', word):
                 yield number, None if qualified(*word.split('.')) else f'{word} is declared nowhere'
-            elif re.fullmatch(r'[\w·′-]*[^\W\d][\w·′-]*', word) and word not in FOREIGN:
+            elif re.fullmatch(NAME, word) and word not in FOREIGN:
                 if places:
                     code = files_of(*(os.path.dirname(os.path.dirname(place)) + '/src/*.rt' for place in places))
                     good = any(declared(word, place) for place in [*places, *code] if os.path.isfile(place))
@@ -315,16 +326,16 @@ def links(file, text):
 
 
 def paths(text):
-    """Of each path of the repository: what is wrong with it, None if it is there."""
+    """Of each path of the repository: what is wrong with it, None if it is there. What rt makes in a crate's out/ may not be there yet."""
     for found in re.finditer(r'(?<![\w./(-])((?:crates|docs|tools|rust|c|examples|\.ci)/[\w./-]*\w)', text):
-        path = found.group(1)
+        path = re.sub(r'^(crates/\w+)/out(/.*)?$', r'\1', found.group(1))
         if not PLACEHOLDER.search(path):
             yield text.count('\n', 0, found.start()) + 1, None if os.path.exists(path) else f'no such file: {path}'
 
 
 def commands(text):
     """Of each crate that a command is given: what is wrong with it, None if there is one."""
-    for found in re.finditer(r'\b(?:rt (?:dev|check|prove|must-fail|goals|mir|try|staticlib)|tools/(?:tried|mutate))((?: [a-z]\w*)+)', text):
+    for found in re.finditer(r'\b(?:rt (?:check|verdict|lib|run|test|try|ci|must-fail|plant|tidy|expand)|tools/(?:tried|mutate))((?: [a-z]\w*)+)', text):
         before = text[:found.start()]
         if before.count('`') % 2 or before.split('\n')[-1].startswith('    '):
             for crate in found.group(1).split():
@@ -365,24 +376,12 @@ def calls():
 
 
 def areas():
-    return len(re.search(r'^abbrev pub areasOf : .*?\((.*?) : A\)', read('crates/model/specs/Areas.antt'), re.M).group(1).split())
+    return len(re.search(r'^abbrev pub areas_of : .*?\((.*?) : A\)', read('crates/model/specs/Areas.antt'), re.M).group(1).split())
 
 
-def answers(form):
-    """How many answers of a form the proof has that docs/PROOFS.md walks through, in the list at its end."""
-    return len(re.findall(form, read('crates/pairs_descents/proofs/down_totals/Proof.antt').split('tie.spec')[-1]))
-
-
-def plain_answers():
-    return answers(r'search needs')
-
-
-def own_answers():
-    return answers(r'\b(?:loop-holds|loop-again|returns)\b')
-
-
-def all_answers():
-    return plain_answers() + own_answers()
+def answers():
+    """How many goals are answered in the proof that docs/PROOFS.md walks through."""
+    return how_many(r'^pub \S+ : goal\.', 'crates/pairs_descents/proofs/down_totals/Answers.antt')
 
 
 # document, what it says, the number in brackets, and what that is
@@ -395,9 +394,7 @@ COUNTS = (
     ('docs/DECISIONS.md', r'`Calls` lists the (\w+)', calls),
     ('README.md', r'the (\w+) calls, a list of calls, and what C', calls),
     ('docs/SENTENCES.md', r'since A7 (\w+) areas', areas),
-    ('docs/PROOFS.md', r'(\w+) of the \w+ follow from what is known', plain_answers),
-    ('docs/PROOFS.md', r'of the (\w+) follow from what is known', all_answers),
-    ('docs/PROOFS.md', r'(\w+) say why the function is right', own_answers),
+    ('docs/PROOFS.md', r'(\w+) say why the function is right', answers),
 )
 
 
@@ -430,15 +427,27 @@ def counts():
 TOKEN = re.compile(r'[^\s(){};,"]+')
 
 
+def words_of(text):
+    """The words of a text, each once: a projection is written tight, so of `goes.total` also `goes`."""
+    found = dict.fromkeys(TOKEN.findall(text))
+    return [*found, *dict.fromkeys(word.partition('.')[0] for word in found if '.' in word)]
+
+
+def bare(name):
+    """A name without the holes of an operator."""
+    return name.strip('◌') or name
+
+
 @functools.lru_cache(maxsize=None)
 def imported(file):
     """Of each name that a file takes from specs of ours, the file and the name there; and the files that it names as a whole."""
     found, whole = {}, {}
-    for crate, there, listed, alias in re.findall(r'^(?:ghost |pub )*use Rattle·(\w+?)(?:·specs)?\.specs\.([\w-]+)(?:\.\{(.*)\}| as ([\w-]+));?$', read(file), re.M):
+    for crate, there, listed, alias in re.findall(r'^(?:ghost |pub )*use Rattle\.(\w+)\.specs\.([\w-]+)(?:\.\{([^}]*)\}| as ([\w-]+));?$', read(file), re.M):
         if alias:
             whole[alias] = spec(crate, there)
-        for name in filter(None, listed.split(', ')):
-            found[name.strip('_') or name] = (spec(crate, there), name.strip('_') or name)
+        for item in filter(None, map(str.split, listed.split(','))):
+            # `name`, or `name as another`
+            found[bare(item[-1])] = (spec(crate, there), bare(item[0]))
     return found, whole
 
 
@@ -449,7 +458,7 @@ def definitions(file):
     for block in re.split(r'\n\s*\n', read(file)):
         if re.search(r'^(?:abbrev|unfoldable|pub record|pub data|record|data) ', block, re.M):
             text = re.sub(r'^ *--.*$', '', block, flags=re.M)
-            found.append((frozenset(name.strip('_') or name for name in re.findall(
+            found.append((frozenset(bare(name) for name in re.findall(
                 r'^ *(?:abbrev |unfoldable )?(?:pub )?(?:record |data )?([^\s:({]+)(?= )', text, re.M)), text))
     return found
 
@@ -457,12 +466,12 @@ def definitions(file):
 def cited(text, file):
     """What a text of the file cites: files with names."""
     found, whole = imported(file)
-    for word in TOKEN.findall(text):
+    for word in words_of(text):
         owner, _, name = word.partition('.')
         if word in found:
             yield found[word]
         elif name and owner in whole:
-            yield whole[owner], name
+            yield whole[owner], name.partition('.')[0]
 
 
 def contracts():
@@ -481,7 +490,7 @@ def believed():
             if name in own and text not in found.setdefault(file, set()):
                 found[file].add(text)
                 left += cited(text, file)
-                left += [(file, word) for word in set(TOKEN.findall(text)) - own for others, _ in definitions(file) if word in others]
+                left += [(file, word) for word in set(words_of(text)) - own for others, _ in definitions(file) if word in others]
     return found
 
 
@@ -513,7 +522,7 @@ def beliefs(theorems):
         yield None if file in ours | code else f'part 5 does not list {file}, which public contracts cite'
     for file in sorted(code - set(found)):
         yield f'part 5 lists {file}, which no public contract cites'
-    for file in files_of(spec('model', '*')):
+    for file in files_of(spec('model', '*'), 'crates/model/proofs/*.antt'):
         name = os.path.basename(file).split('.')[0]
         yield None if name == 'Lib' or re.search(rf'\b{name}\b', part) else f'part 5 does not name {name} of model'
     reading = theorems.split('## 1.')[1].split('\n## ')[0]
@@ -584,7 +593,7 @@ def figures(theorems, theory, readme):
         sums.append(value)
         yield None if value == int(sentence_of.group(1).replace(',', '')) else f'{kind}: {sentence_of.group(1)} lines are told, there are {value}'
     yield told(readme, r'\(([\d,]+) lines, \[listed\]', sum(sums), 'lines to believe (README)')
-    graph = files_of('crates/graph/specs/*.antt')
+    graph = files_of('crates/graph/specs/*.antt', 'crates/graph/proofs/*.antt')
     every = sum(not re.match(r' *(?:--|use |pub use |$)', line) for file in graph for line in read(file).split('\n'))
     yield told(theory, r'It is ([\d,]+) lines without', every, 'lines of the theory')
     yield told(theory, r'of which ([\d,]+) are definitions', lines(*graph), 'lines of its definitions')

@@ -1,6 +1,6 @@
 //! The proved unit beside independent implementations of documents 01 and 02 in plain Rust.
 //!
-//! `unit` calls the archive that `rt staticlib unit_c` builds. `card`, `hierarchy`, `by_tail`, `search`,
+//! `unit` calls the archive that `rt lib` in crates/unit_c builds. `card`, `hierarchy`, `by_tail`, `search`,
 //! `dijkstra`, `brute`, `literal` and `machine` are written from the documents alone; `router` puts them together
 //! to the unit as one would write it in plain Rust, `both` has the two side by side, and `areas` has some steps
 //! in plain Rust over the unit's own areas. `maps`, `order`, `traffic` and `damage` make what they are tried on,

@@ -65,6 +65,8 @@ fn exports() -> Vec<String> {
     let network = read("crates/network/src/lib.rt");
     let (width, _) = between(&network, "pub type TimeWord = ", ";").unwrap();
     let code = read("crates/unit_c/src/lib.rt").replace("TimeWord", width);
+    let attributes = |line: &&str| !line.starts_with("#[derive(");
+    let code = code.lines().filter(attributes).collect::<Vec<_>>().join("\n");
     let mut declarations = Vec::new();
     let mut rest = &code[..];
     while let Some((structure, after)) = between(rest, "#[repr(C)]\npub struct ", "\n}") {
@@ -158,7 +160,8 @@ fn run(name: &str, program: &str) -> Output {
     fs::write(&source, program).unwrap();
     let mut compile = Command::new("cc");
     compile.args(["-std=c99", "-O2"]).args(WARNINGS).arg("-I").arg(root().join("c"));
-    compile.arg(source).arg(root().join("target/staticlib/libunit_c.a")).arg("-o").arg(&binary);
+    let archive = root().join("crates/unit_c/out/libunit_c.a");
+    compile.arg(source).arg(archive).arg("-o").arg(&binary);
     let compiled = compile.output().unwrap();
     assert!(compiled.status.success(), "{}", told(&compiled.stderr));
     let output = Command::new(binary).output().unwrap();

@@ -23,12 +23,13 @@ fn run(name: &str, card: Option<&[u8]>, input: &[&[u8]]) -> (String, Vec<Vec<u8>
         assert_eq!(ours.send(bytes).unwrap(), bytes.len());
     }
     let left = theirs.try_clone().unwrap();
-    let mut program = Command::new(root.canonicalize().unwrap().join("target/bin/route_unit"))
+    let program = root.canonicalize().unwrap().join("crates/route_unit/out/route_unit");
+    let mut program = Command::new(program)
         .current_dir(&folder)
         .stdin(Stdio::from(OwnedFd::from(theirs)))
         .stdout(Stdio::piped())
         .spawn()
-        .expect("target/bin/route_unit, which `rt check` leaves");
+        .expect("crates/route_unit/out/route_unit, which `rt run` and `rt ci` leave");
     let begun = Instant::now();
     while program.try_wait().unwrap().is_none() {
         if begun.elapsed() > Duration::from_secs(20) {

@@ -22,12 +22,13 @@ fn session_on_map_p() {
     let folder = env::temp_dir().join(format!("readme-{}", process::id()));
     fs::create_dir_all(&folder).unwrap();
     fs::write(folder.join("unit.card"), maps::map_p().card().unwrap()).unwrap();
-    let mut program = Command::new(root.canonicalize().unwrap().join("target/bin/route_unit"))
+    let program = root.canonicalize().unwrap().join("crates/route_unit/out/route_unit");
+    let mut program = Command::new(program)
         .current_dir(&folder)
         .stdin(Stdio::piped())
         .stdout(Stdio::piped())
         .spawn()
-        .expect("target/bin/route_unit, which `rt check` leaves");
+        .expect("crates/route_unit/out/route_unit, which `rt run` and `rt ci` leave");
     let lines: String = session.iter().map(|(line, _)| format!("{line}\n")).collect();
     program.stdin.take().unwrap().write_all(lines.as_bytes()).unwrap();
     let output = program.wait_with_output().unwrap();

@@ -639,7 +639,7 @@ orders. Times of roads are 64-bit words in all of these programs alike (A7); the
 others add. What is told are µs a call; a ratio is the unit's time divided by the one before it, both of this run: the functions are called in
 turn, and of each case the least of many runs counts. Made by
 
-    rt check && rt staticlib unit_c && cargo run --release --offline --manifest-path rust/Cargo.toml --target-dir target/cargo --bin bench -- --write
+    (cd crates/unit_c && rt lib) && cargo run --release --offline --manifest-path rust/Cargo.toml --target-dir target/cargo --bin bench -- --write
 
 A map file that is named behind it, text as make-card reads it, is measured after the towns, in the order that it gives or, if it gives
 none, in a least-degree one, and has a table of its own at the end, under its name.
