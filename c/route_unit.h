@@ -1,7 +1,7 @@
 /*
  * The route unit for C and C++: reading and writing a card, preparing it, the six calls, and a script of calls.
  *
- * Link with libunit_c.a (`rt staticlib unit_c` leaves it in target/staticlib). Words as "none" and "question 9" are
+ * Link with libunit_c.a (`rt lib` in crates/unit_c leaves it in crates/unit_c/out). Words as "none" and "question 9" are
  * those of document 01, the areas leaving and groups, the calls preview and stops, the vehicle classes and times of 64 bits those of
  * document 02, A1 to A3, A6 and A7; the contract of each function, for every input, stands at its namesake in crates/unit_c.
  *
