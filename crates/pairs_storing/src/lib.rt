@@ -30,10 +30,10 @@ pub fn append_row(
     pairs: &mut [u32],
     times: &mut [TimeWord],
 ) -> Stored
-    requires { AppendAsked n r.0 count (rows_of ups downs touched) pairs.old times.old }
-    ensures { let t = rows ups downs touched in
-        (w : Weights) → RowTimesIn w n r.0 count t.entry pairs.old times.old
-        → RowAppendedIn w n r.0 t.exit pairs.new times.new result }
+    requires { AppendAsked n r.0 count (record { ups = ups.old; downs = downs.old; touched = touched.now }) pairs.old times.old }
+    ensures { (w : Weights)
+        → RowTimesIn w n r.0 count (record { ups = ups.old; downs = downs.old; touched = touched.now }) pairs.old times.old
+        → RowAppendedIn w n r.0 (record { ups = ups.new; downs = downs.new; touched = touched.now }) pairs.new times.new result }
 {
     let mut k = count;
     let mut h = r.0 + 1;
