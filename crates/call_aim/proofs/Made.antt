@@ -48,11 +48,11 @@ pub aim-made : {card : List ℕ} {h : Held} {a : Areas} {k : Lent} {l : Each ℕ
     → Descended order pairs times h.sizes.pairs d j.0 → e ≡ replicate (length estimates) unasked
     → {r : Handed} → r ≡ record { header = record { sizes = h.sizes; target = targets.At j }; answer = answers.Accepted }
     → CallContract card (before (header_in h) a) (calling (Aim j.0) k) (after (answered_in r) (with_aimed a d e) k)
-aim-made {card} {h} {a} {k} {j} lengths-are p {d = d} {e} pairs_are times_are aimed-is order_is descended Filled-is handed =
+aim-made {card} {h} {a} {k} {j} lengths-are p {d = d} {e} pairs_are times_are aimed-is order_is descended filled-is handed =
     let here = passed_of a lengths-are p in
     let left = ap (λ (s : Handed). after (answered_in s) (with_aimed a d e) k) handed in
     let unasked-are : e ≡ replicate (length a.aimed.estimates) unasked =
-    Filled-is ∙ ap (λ (b : Aimed (List ℕ)). replicate (length b.estimates) unasked) (sym aimed-is) in
+    filled-is ∙ ap (λ (b : Aimed (List ℕ)). replicate (length b.estimates) unasked) (sym aimed-is) in
     made_by here.fits p.asked
     (λ g. left ∙ ap₂ (aimed_with (header_in h) a j.0 k) (downs g)
     (unasked-are ∙ ap (λ (b : ℕ). replicate b unasked) (here.sizes.lengths.estimates ∙ g.n-is)))

@@ -3,7 +3,7 @@ use Rattle.std.specs.Prelude.{◌≡◌, List, ℕ, length}
 use Rattle.model.specs.Areas.{Areas, Each, lengths}
 use Rattle.model.specs.Calls.{Aim}
 use Rattle.network.specs.Lending.{Slice}
-use Rattle.calls.specs.Shape.{Handed, Held, held}
+use Rattle.calls.specs.Shape.{Held, held}
 use Rattle.calls.specs.Meets.{CalledAlone, with_aimed}
 use Rattle.call_aim.specs.declared.Aimed.{Aimed}
 

@@ -5,7 +5,7 @@ ghost use Rattle.std.specs.Prelude.{◌≡◌, ℕ};
 ghost use Rattle.graph.specs.Total.{Total};
 ghost use Rattle.model.specs.Calls.{Aim};
 ghost use Rattle.network.specs.Refusals.{verdict_in};
-ghost use Rattle.unit_questions.specs.Lending.{lengths_in};
+ghost use Rattle.unit_questions.specs.Lending.{lengths_in, mut};
 ghost use Rattle.calls.specs.declared.Target.{Target};
 ghost use Rattle.calls.specs.Shape.{header_in, held};
 ghost use Rattle.calls.specs.Meets.{asks};
@@ -47,7 +47,7 @@ pub fn aim(
     j: Junction,
 ) -> Aimed
     requires { AimLengths (lengths_in l) pairs.now times.now down.old }
-    ensures { AimPart card.now (held sizes target) (lengths_in l) pairs times down estimates j.0 result }
+    ensures { AimPart card.now (held sizes target) (lengths_in l) pairs times (mut down) (mut estimates) j.0 result }
 {
     match aim_asked(sizes, card, l, j) {
         Verdict::Failed(q) => Aimed {

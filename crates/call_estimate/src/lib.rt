@@ -5,7 +5,7 @@ ghost use Rattle.std.specs.Prelude.{◌≡◌, ℕ};
 ghost use Rattle.graph.specs.Total.{Total};
 ghost use Rattle.model.specs.Calls.{Estimate};
 ghost use Rattle.network.specs.Refusals.{verdict_in};
-ghost use Rattle.unit_questions.specs.Lending.{lengths_in};
+ghost use Rattle.unit_questions.specs.Lending.{lengths_in, mut};
 ghost use Rattle.calls.specs.Shape.{header_in, held};
 ghost use Rattle.calls.specs.Meets.{asks};
 ghost use Rattle.call_estimate.specs.Part.{EstimateLengths, EstimatePart};
@@ -42,7 +42,7 @@ pub fn estimate(
     j: Junction,
 ) -> Answer
     requires { EstimateLengths (lengths_in l) ranks.now pairs.now times.now down.now estimates.old }
-    ensures { EstimatePart card.now (held sizes target) (lengths_in l) ranks pairs times down estimates j.0 result }
+    ensures { EstimatePart card.now (held sizes target) (lengths_in l) ranks pairs times down (mut estimates) j.0 result }
 {
     match estimate_asked(sizes, target, card, l, j) {
         Verdict::Failed(q) => Answer::Refused(q),

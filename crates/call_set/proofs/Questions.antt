@@ -31,9 +31,9 @@ module _ (card : List ℕ) (h : Header) (i t : ℕ) where
   pub time_11 : {x : Option Refusal} {allowed : Bool} {roads : List ℕ} {b : ℕ} → i < h.m → x ≡ ask allowed NotAllowed none
       → roads ≡ roads_in card → b ≡ word_at roads (12 * i + 8) → allowed ≡ settable (some b) (of_word t) → x ≡ time-asks
   unfolding set_refusal
-  time_11 k Asked-is roads_are base-is allowed-is =
+  time_11 k asked-is roads_are base-is allowed-is =
       let read = base-is ∙ ap (λ (x : List ℕ). word_at x (base_at i)) roads_are in
-      Asked-is ∙ rw (lt-ltb i h.m k, allowed-is, read)
+      asked-is ∙ rw (lt-ltb i h.m k, allowed-is, read)
 
 -- ---- 9 before them
 
@@ -46,4 +46,4 @@ module _ (card : List ℕ) (h : Header) (l : Each ℕ) (i t : ℕ) {fits : Bool}
   set_9 f = rw (sym told ∙ f)
 
   pub set_past : {x : Option Refusal} → fits ≡ true → x ≡ time-asks card h i t → x ≡ set-asks
-  set_past f Asked-is = Asked-is ∙ rw (sym told ∙ f)
+  set_past f asked-is = asked-is ∙ rw (sym told ∙ f)

@@ -7,7 +7,7 @@ ghost use Rattle.model.specs.Set.{set_refusal};
 ghost use Rattle.model.specs.Calls.{Set, known_of};
 ghost use Rattle.model.specs.Promises.{base_on};
 ghost use Rattle.network.specs.Refusals.{verdict_in};
-ghost use Rattle.unit_questions.specs.Lending.{lengths_in};
+ghost use Rattle.unit_questions.specs.Lending.{lengths_in, mut};
 ghost use Rattle.calls.specs.declared.Target.{Target};
 ghost use Rattle.calls.specs.Shape.{header_in, held};
 ghost use Rattle.calls.specs.Meets.{asks};
@@ -55,7 +55,7 @@ pub fn set(
     time: Time,
 ) -> Answer
     requires { l.live ≡ length live.old }
-    ensures { (t : Target) → SetPart card.now (held sizes t) (lengths_in l) live road time.0 result }
+    ensures { (t : Target) → SetPart card.now (held sizes t) (lengths_in l) (mut live) road time.0 result }
 {
     match set_asked(sizes, card, l, road, time) {
         Verdict::Failed(q) => Answer::Refused(q),

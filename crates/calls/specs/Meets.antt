@@ -1,17 +1,16 @@
 -- What a call promises, by the header's parts and the areas at entry and at exit; its questions. Definitions only.
-use Rattle.std.specs.Prelude.{◌≡◌, List, ℕ, ltb, length}
+use Rattle.std.specs.Prelude.{List, ℕ, ltb, length}
 use Rattle.std.proofs.Math.Option.{Option, none}
 use denote.Triple.Both.{Both}
 use Rattle.graph.specs.Total.{Total}
 use Rattle.model.specs.Types as model
 use Rattle.model.specs.Card.{and_then, ask}
-use Rattle.model.specs.Areas.{Areas, Each, lengths}
+use Rattle.model.specs.Areas.{Areas, Each}
 use Rattle.model.specs.State.{Lent}
 use Rattle.model.specs.Machine.{is_at, target_of}
 use Rattle.model.specs.Preview.{WorkLeft}
-use Rattle.model.specs.Calls.{Aim, Asked, Estimate, Preview, Set, calling, known_of, refusal_of}
+use Rattle.model.specs.Calls.{Asked, Preview, calling, known_of, refusal_of}
 use Rattle.model.specs.Promises.{CallContract, after, before}
-use Rattle.network.specs.Lending.{Slice}
 use Rattle.unit_answers.specs.Shape.{answer_in}
 use Rattle.unit_questions.specs.Lending.{fits_by, untouched}
 use Rattle.calls.specs.Shape.{Handed, Held, answered_in, header_in}

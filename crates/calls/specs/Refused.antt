@@ -1,6 +1,6 @@
 -- A call that a question refuses, and one that none refuses, meet their contract. Assumes nothing.
 use Rattle.std.proofs.Common.{◌∙◌, inl, inr, le-ltb, arith}
-use Rattle.std.specs.Prelude.{◌≡◌, false, List, ◌+◌, ◌<◌, ℕ, eqb, length}
+use Rattle.std.specs.Prelude.{◌≡◌, false, List, ◌+◌, ◌<◌, ℕ, eqb}
 use Rattle.std.proofs.Math.Path.{ap, refl, subst, sym}
 use Rattle.std.proofs.Math.Bool.{true}
 use Rattle.std.proofs.Math.Option.{Option, none, some}
