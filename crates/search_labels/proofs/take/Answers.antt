@@ -1,5 +1,6 @@
 -- The label is read, improved and written back; where its time has changed the queue has its new key (`taken-put`), else the key stays as
 -- it is (`taken-kept`).
+use native.Mathlib.Omega.{arith}
 use lib.ListN.{length-set}
 use Rattle.search_labels.specs.Labelling.{Fits}
 use Rattle.search_labels.proofs.Improves.{changed, taken-kept, taken-put}
@@ -18,7 +19,7 @@ put-requires c =
     let fits : let new = c.improved-new.result in Fits new.time new.key new.via = let (_, f) = c.improved-new.ensures in f in
     let (inside, _, room) = c.requires in (
       record { inside = inside; n-high = room.n-high; words = simp length-set room.words },
-      fits.key-low,
+      omega arith,
       changed inside _ room _,
     )
 

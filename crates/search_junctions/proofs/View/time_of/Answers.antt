@@ -1,10 +1,12 @@
 -- The live time is read, and it is the time in force unless another one is set in its place (`seen-live`, `seen-set`, `seen_other`).
+use native.Mathlib.Omega.{arith}
 use Rattle.search_junctions.proofs.Seeing.{seen_in, seen-live, seen_other, seen-set}
 use Rattle.search_junctions.proofs.View.time_of.Goals as goal
 
 pub bounds-live-k : goal.bounds-live-k
 bounds-live-k c =
-    seen_in c.args.live.now c.args.i c.args.self c.requires
+    let inside = seen_in c.args.live.now c.args.i c.args.self c.requires in
+    omega arith
 
 pub returns-in-Live : goal.returns-in-Live
 returns-in-Live c =
