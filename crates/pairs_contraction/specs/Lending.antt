@@ -4,9 +4,8 @@ use denote.Triple.Both.{Both}
 use Rattle.graph.specs.Path.{Weights}
 use Rattle.graph.specs.Network.{direct}
 use Rattle.model.specs.Limits.{most_junctions}
-use Rattle.network.specs.Lending.{Held, Slice}
 use Rattle.pairs_rows.specs.Links.{Grouped, net_in}
-use Rattle.pairs_rows.specs.Lending.{Links}
+use Rattle.pairs_rows.specs.Lending.{HeldMut, Links, SliceMut}
 use Rattle.pairs_contraction.specs.declared.Contracted.{Contracted}
 use Rattle.pairs_contraction.specs.declared.RowStart.{RowStart}
 use Rattle.pairs_contraction.specs.Contraction.{Ready, RowDone}
@@ -22,7 +21,7 @@ pub record Lent : Type 0 where
   pub ups : List ℕ
   pub downs : List ℕ
 
-abbrev pub lent_of : (pairs times cursor ahead ends soon ups downs : Held) → Lent
+abbrev pub lent_of : (pairs times cursor ahead ends soon ups downs : HeldMut) → Lent
 lent_of p q c a e s u d = record {
   pairs = p.now;
   times = q.now;
@@ -34,7 +33,7 @@ lent_of p q c a e s u d = record {
   downs = d.now;
 }
 
-abbrev pub lent : (pairs times cursor ahead ends soon ups downs : Slice) → Both Lent Lent
+abbrev pub lent : (pairs times cursor ahead ends soon ups downs : SliceMut) → Both Lent Lent
 lent p q c a e s u d = record {
   entry = lent_of p.entry q.entry c.entry a.entry e.entry s.entry u.entry d.entry;
   exit = lent_of p.exit q.exit c.exit a.exit e.exit s.exit u.exit d.exit;
