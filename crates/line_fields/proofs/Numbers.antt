@@ -48,7 +48,8 @@ too_large : (s : List ℕ) → none_word < value_from 0 s → NotOne ≡ number_
 unfolding number_of is_number
 too_large s h = simp (lt-leb (value_from 0 s) none_word h, and_false)
 
-number_is : (s : List ℕ) → 1 ≤ length s → length s ≤ 20 → all_digits s ≡ true → value_from 0 s ≤ none_word → Value (value_from 0 s) ≡ number_of s
+number_is : (s : List ℕ) → 1 ≤ length s → length s ≤ 20 → all_digits s ≡ true → value_from 0 s ≤ none_word
+    → Value (value_from 0 s) ≡ number_of s
 unfolding number_of is_number
 number_is s a b d v = simp (le-leb 1 (length s) a, le-leb (length s) 20 b, d, le-leb (value_from 0 s) none_word v)
 

@@ -1,6 +1,7 @@
 -- How the cases are written. Of the definitions under test it cites the types, and functions only in `writes`, `prepares`, `answers`,
 -- `figures` and `played`. Definitions only.
-use Rattle.std.specs.Prelude.{◌≡◌, Bool, cond, List, [], ◌++◌, ◌∷◌, map, ◌%◌, ◌*◌, ◌+◌, ◌-◌, ◌/◌, suc, zero, ℕ, eqb, neg_ℤ, pos, ℤ, drop, get_or, length, replicate, take}
+use Rattle.std.specs.Prelude.{◌≡◌, Bool, cond, List, [], ◌++◌, ◌∷◌, map, ◌%◌, ◌*◌, ◌+◌, ◌-◌, ◌/◌, suc, zero, ℕ, eqb, neg_ℤ, pos, ℤ, drop}
+use Rattle.std.specs.Prelude.{get_or, length, replicate, take}
 use Rattle.std.proofs.Math.Option.{Option, some}
 use Rattle.graph.specs.Total.{Total, is_number, no_more}
 use Rattle.graph.specs.Least.{measured}
@@ -151,7 +152,12 @@ abbrev pub unprepared : Refusal → (w : ℕ) → (card : List ℕ) (ranks pairs
     → Case Preparing Step
 unprepared why w c r p q l d e t g h =
     record { card = c; areas = full 7 r p q l d e t g h }
-    ⇒ record { answer = Refused why; state = record { header = header_of 0 0 0 0 Absent; areas = full w r p q l d e t g h }; lent = nothing }
+    ⇒ record {
+      answer = Refused why;
+      state = record { header = header_of 0 0 0 0 Absent; areas = full w r p q l d e t g h };
+      lent =
+          nothing;
+    }
 
 -- ---- calls
 
@@ -344,7 +350,8 @@ figures_of C s (t ∷ l) = figure_after C s t.call.asked t.answer ∷ figures_of
 
 -- what the definitions answer and leave: preparing, then each call
 unfoldable pub played : Script → List Step
-unfolding word_at body_at prepare step admits measured up_total offer_via offered below_or before better consider best_below next has_goal push
+unfolding word_at body_at prepare step admits measured up_total offer_via offered below_or before better consider best_below next has_goal
+    push
     extend run is first_via back_step back total_in way_in up down
 played c =
     let k = card_with c.roads c.order c.access in
