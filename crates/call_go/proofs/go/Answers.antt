@@ -44,8 +44,9 @@ passed c passes = trip-passed go-trips passes (said c)
 
 pub returns-in-Failed : goal.returns-in-Failed
 returns-in-Failed c =
+    let at = (goal.at.returns-in-Failed c).After-go_asked in
     let u = held c.args.sizes c.args.target in
-    trip-refused {u = u} go-trips {r = handed u _} c.in-Failed.is (said (goal.at.returns-in-Failed c).After-go_asked) refl
+    trip-refused {u = u} {a = areas at} go-trips {r = handed u _} c.in-Failed.is (said at) refl
 
 pub search-found-requires : goal.search-found-requires
 search-found-requires c =
