@@ -1,9 +1,8 @@
 -- The turns of a list of stops: what holds after some legs (`AtLeg`), at first (`turn-start`) and after one more leg that has a path
 -- (`turn-again`); where a leg has none, and at the last stop, it gives what is promised (`turn-lost`, `turn_end`). Assumes nothing.
 use mathlib.Core.Path.{◌∙◌, ◌≡◌, ap, refl, subst, sym}
-use mathlib.Core.Logic.{inl, inr}
 use mathlib.Core.Option.{none}
-use mathlib.Core.List.{List, [], ◌++◌, ◌∷◌, append-nil}
+use mathlib.Core.List.{List, [], ◌++◌, append-nil}
 use Prim.Native.Nat.{◌+◌, ◌-◌, ◌<◌, ◌≤◌, min, suc, ℕ}
 use lib.ListN.{get_or-eq_default, drop, drop_of_length-le, get_or, get_or-replicate, length, length-append, length-drop, length-replicate}
 use lib.ListN.{length-set, replicate, set, take}
@@ -12,8 +11,6 @@ use native.Mathlib.Decide.{dec_lt}
 use native.Mathlib.Numerals.{add-one}
 use native.Mathlib.Omega.{arith}
 use denote.Triple.Both.{Both}
-use denote.Enum.Declared.{tag_of}
-use types.Run.{OneOf}
 use Rattle.model.specs.Types as model
 use Rattle.model.specs.Limits.{most_legs, most_stops}
 use Rattle.model.specs.Card.{map_on}
@@ -30,7 +27,6 @@ use Rattle.network.specs.declared.Refusal.{Refusal}
 use Rattle.unit_answers.specs.Shape.{answer_in}
 use Rattle.unit_answers.specs.declared.Answer.{Answer}
 use Rattle.unit_answers.specs.declared.Answer.TheVariants.{Accepted, Estimated, Gone, Previewed, Refused}
-use Rattle.unit_answers.specs.contracts.Answer.{the_type}
 use Rattle.unit_questions.specs.Lending.{lent_of}
 use Rattle.calls.specs.Shape.{Handed, Held, answered_in, header_in}
 use Rattle.calls.specs.Refused.{passed-there}
@@ -118,18 +114,12 @@ back-length at x y h e =
 
 -- ---- answers that are no route
 
-lost-answer : (x : Answer) → OneOf (0 ∷ 1 ∷ 2 ∷ 4 ∷ []) (tag_of the_type x) → gone_total (answer_in x) ≡ none
+lost-answer : (x : Answer) → ((t count k : ℕ) → x ≡ Gone t count k → ⊥) → gone_total (answer_in x) ≡ none
 lost-answer (Refused q) h = refl
 lost-answer Accepted h = refl
 lost-answer (Estimated t) h = refl
 lost-answer (Previewed a b c) h = refl
-lost-answer (Gone t c k) h = let z : ⊥ = other h in absurd z
-  where
-    other : OneOf (0 ∷ 1 ∷ 2 ∷ 4 ∷ []) 3 → ⊥
-    other (inl e) = omega (arith, e)
-    other (inr (inl e)) = omega (arith, e)
-    other (inr (inr (inl e))) = omega (arith, e)
-    other (inr (inr (inr e))) = omega (arith, e)
+lost-answer (Gone t count k) h = absurd (h t count k refl)
 
 -- ---- one turn: a leg from stop i
 
@@ -173,7 +163,7 @@ module _ {card : List ℕ} {c : ℕ} {stops : List ℕ} {s₀ : State} {l₀ : L
         (route-room g asked more same way) (log-room g asked more same way)
 
   -- it has no path: 17
-  pub turn-lost : OneOf (0 ∷ 1 ∷ 2 ∷ 4 ∷ []) (tag_of the_type x.answer) → {q : Refusal} → refusal_in q ≡ model.NoLeg i → {r : Visited}
+  pub turn-lost : ((t count k : ℕ) → x.answer ≡ Gone t count k → ⊥) → {q : Refusal} → refusal_in q ≡ model.NoLeg i → {r : Visited}
       → r ≡ record { target = x.header.target; answer = stopping.Refused q; legs = no_legs }
       → Journeys card x.header.sizes s₀.header (record { entry = s₀.areas; exit = a.exit })
       (record { entry = l₀; exit = lent_of (back at route y) log' }) c stops r
