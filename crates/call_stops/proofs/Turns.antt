@@ -126,8 +126,8 @@ lost-answer (Gone t count k) h = absurd (h t count k refl)
 module _ {card : List ℕ} {c : ℕ} {stops : List ℕ} {s₀ : State} {l₀ : Lent} {h : model.Header} {a : Both Areas Areas}
     {route log y log' totals roads : List ℕ} {whole at i : ℕ} (x : Handed) (test : i < length stops - 1)
     (inv : AtLeg card c stops (length stops - 1) s₀ l₀ (before h a.entry) (lent_of route log) totals roads whole at i)
-    (leg : LegMade card h a (record { entry = lent_of (part at route) log; exit = lent_of y log' }) c (get_or stops i 0) (get_or stops (i + 1) 0)
-    (answered_in x)) where
+    (leg : LegMade card h a (record { entry = lent_of (part at route) log; exit = lent_of y log' }) c
+    (get_or stops i 0) (get_or stops (i + 1) 0) (answered_in x)) where
   more : suc i < length stops
   more = omega (arith, test)
 
