@@ -12,7 +12,8 @@ use Rattle.model.specs.Word.{none_word, unasked, word}
 use Rattle.model.specs.Bytes.{listed}
 use Rattle.model.specs.Layout.{order_in, place_size, road_size, roads_in}
 use Rattle.model.specs.Card.{card_refusal, map_on}
-use Rattle.model.specs.Areas.{Areas, Each, areas_of, fresh_areas, groups_of, leaving_of, lengths, lengths_fit, record_size, records_in, times_in}
+use Rattle.model.specs.Areas.{Areas, Each, areas_of, fresh_areas, groups_of, leaving_of, lengths, lengths_fit, record_size}
+use Rattle.model.specs.Areas.{records_in, times_in}
 use Rattle.model.specs.State.{answering, areas_refusal, none_lent, prepare, room_refusal, unprepared}
 use Rattle.model.specs.Promises.{PrepareContract, before}
 use Rattle.model.proofs.Laws.{and_then-none, ask-none}

@@ -1,0 +1,6 @@
+-- The header that C's words stand for meets the contract of estimate; C is told the words of what that hands back (`alone-told`).
+use Rattle.unit_c.proofs.Told.{alone-told}
+use Rattle.unit_c.proofs.unit_estimate.Goals as goal
+
+pub returns : goal.returns
+returns c = alone-told c.estimate.result c.header_of-h.ensures c.answer_of.ensures c.estimate.ensures
