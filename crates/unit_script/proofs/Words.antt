@@ -106,8 +106,8 @@ ends-within script at h e =
 pub call_fits : (script : List ℕ) (at : ℕ) (l : Lending) {p : Plain} → p ≡ call_at script at l → (p.route ≤ l.route) × (p.log ≤ l.log)
 call_fits script at l e =
     subst (λ (q : Plain). (q.route ≤ l.route) × (q.log ≤ l.log)) (sym e)
-    (spelled-fits (get_or script at 0) (get_or script (at + 1) 0) (get_or script (at + 2) 0) (get_or script (at + 3) 0) (get_or script (at + 4) 0)
-    (get_or script (at + 5) 0) (stops_at script at) l)
+    (spelled-fits (get_or script at 0) (get_or script (at + 1) 0) (get_or script (at + 2) 0) (get_or script (at + 3) 0)
+    (get_or script (at + 4) 0) (get_or script (at + 5) 0) (stops_at script at) l)
 
 call_of : {kind one two three four five kind' one' two' three' four' five' : ℕ} → kind ≡ kind' → one ≡ one' → two ≡ two'
     → three ≡ three' → four ≡ four' → five ≡ five' → (stops : List ℕ) (l : Lending) {p : Plain}

@@ -1,5 +1,6 @@
 -- A script of calls as words, and the answers' words. Definitions only.
-use Rattle.std.specs.Prelude.{Bool, cond, List, [], ◌++◌, ◌∷◌, ◌*◌, ◌+◌, ◌-◌, ◌/◌, min, suc, zero, ℕ, leb, ltb, negsuc, pos, ℤ, drop, get_or, length, replicate, take}
+use Rattle.std.specs.Prelude.{Bool, cond, List, [], ◌++◌, ◌∷◌, ◌*◌, ◌+◌, ◌-◌, ◌/◌, min, suc, zero, ℕ, leb, ltb}
+use Rattle.std.specs.Prelude.{negsuc, pos, ℤ, drop, get_or, length, replicate, take}
 use Rattle.std.proofs.Math.Option.{Option, none, some}
 use Rattle.model.specs.Types.{Accepted, Answer, Estimated, Gone, Leg, Previewed, Refused, Stopped}
 use Rattle.model.specs.Word.{word}

@@ -1,5 +1,5 @@
 -- By the cases of the change: a number that fits is held as itself, and where there is none the flag is 0 (`no_change_told`).
-use Rattle.unit_c.proofs.Told.{by-told, no_change_told}
+use Rattle.unit_c.proofs.Told.{no_change_told}
 use Rattle.unit_c.proofs.previewed.Goals as goal
 
 pub returns-in-Absent : goal.returns-in-Absent
