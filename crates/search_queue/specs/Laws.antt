@@ -1,6 +1,6 @@
 -- A word's numbers, the room in which nobody is a candidate (`fresh-room`), and a tournament that stays (`tournament_kept`). Assumes
 -- nothing.
-use Rattle.std.specs.Prelude.{◌≡◌, refl, List, ◌%◌, ◌*◌, ◌+◌, ◌/◌, ◌<◌, ◌≤◌, ℕ, get_or}
+use Rattle.std.specs.Prelude.{◌≡◌, refl, List, ◌%◌, ◌*◌, ◌/◌, ◌<◌, ◌≤◌, ℕ, get_or}
 use Rattle.std.proofs.Common.{arith}
 use Rattle.search_queue.specs.Order.{Alike, Before, Chosen, Order, Waiting, blank_word, first-is, key_unit, most_nodes, none_left}
 use Rattle.search_queue.specs.Order.{settled_key}

@@ -1,6 +1,6 @@
 -- The sums that are kept of a search (document 02, A4: "each kept sum is proved to be its candidate's key at every choice"). Definitions
 -- only.
-use Rattle.std.specs.Prelude.{◌≡◌, List, ◌*◌, ◌<◌, ◌≤◌, ℕ}
+use Rattle.std.specs.Prelude.{◌≡◌, List, ◌<◌, ◌≤◌, ℕ}
 use Rattle.std.proofs.Math.Option.{none, some}
 use Rattle.graph.specs.Search.{Entry, Problem}
 use Rattle.graph.specs.Choice.{Candidate, NextIs}

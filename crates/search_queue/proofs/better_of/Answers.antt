@@ -24,7 +24,7 @@ returns-else-x-y c =
 pub returns-then-key_in-ge-SETTLED : goal.returns-then-key_in-ge-SETTLED
 returns-then-key_in-ge-SETTLED c =
     let same : let args = c.args in args.x / most_nodes ≡ args.y / most_nodes =
-        let (x-is, _) = c.upper_of.ensures in
+    let (x-is, _) = c.upper_of.ensures in
     let (y-is, _) = c.upper_of-2.ensures in
     sym x-is ∙ c.if-upper_of.false ∙ y-is in
     let (key-is, _) = c.key_in.ensures in
@@ -33,7 +33,7 @@ returns-then-key_in-ge-SETTLED c =
 pub better_tied-requires : goal.better_tied-requires
 better_tied-requires c =
     let same : let args = c.args in args.x / most_nodes ≡ args.y / most_nodes =
-        let (x-is, _) = c.upper_of.ensures in
+    let (x-is, _) = c.upper_of.ensures in
     let (y-is, _) = c.upper_of-2.ensures in
     sym x-is ∙ c.if-upper_of.false ∙ y-is in
     let (tells-x, tells-y, words) = c.requires in
@@ -45,7 +45,7 @@ better_tied-requires c =
 pub returns : goal.returns
 returns c =
     let same : let args = c.args in args.x / most_nodes ≡ args.y / most_nodes =
-        let (x-is, _) = c.upper_of.ensures in
+    let (x-is, _) = c.upper_of.ensures in
     let (y-is, _) = c.upper_of-2.ensures in
     sym x-is ∙ c.if-upper_of.false ∙ y-is in
     let (key-is, _) = c.key_in.ensures in
