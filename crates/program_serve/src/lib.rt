@@ -40,7 +40,7 @@ fn text_of(out: &[u8], k: usize) -> &[u8]
     out
 }
 
-// Hands a text to the output, whole, and answers its length. An output that fails is written to no less.
+// Hands a text to the output, whole, and answers its length; a write that fails is passed over.
 fn say<W: Write>(text: &[u8], output: &mut W) -> usize
     ensures { result ≡ length text.now }
 {
@@ -105,7 +105,15 @@ fn answer_lines<R: Read, W: Write>(
     let mut line = [0u8; line_input::LINE_ROOM];
     let first = from.header;
     let said = from.said;
-    let mut l = turn(from, first, text_of(out, said), &mut chunk, &mut line, input, output);
+    let mut l = turn(
+        from,
+        first,
+        text_of(out, said),
+        &mut chunk,
+        &mut line,
+        input,
+        output,
+    );
     while l.reader.ready {
         let reply = program_shell::answer_line(
             heard(l, &line),
@@ -126,7 +134,15 @@ fn answer_lines<R: Read, W: Write>(
         );
         let header = reply.header;
         let length = reply.length;
-        l = turn(l, header, text_of(out, length), &mut chunk, &mut line, input, output);
+        l = turn(
+            l,
+            header,
+            text_of(out, length),
+            &mut chunk,
+            &mut line,
+            input,
+            output,
+        );
     }
     l
 }
