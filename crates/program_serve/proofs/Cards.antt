@@ -34,8 +34,8 @@ still from (at-end g e f) q h = absurd (false≢true q)
 still from (after-end f g) q h = let z = ap length g in (refl, omega (arith, h, z))
 still from (out_of_turns g e f) q h = absurd (false≢true q)
 
-ended-still : {card chunk input : List ℕ} {turns : List Turn} {h z : Held} {from end : Reader} → Serving card h from chunk input turns z end
-    → from.ended ≡ true → (z ≡ h) × (end.turns ≡ from.turns)
+ended-still : {card : List ℕ} {from end : Reader} {chunk input : List ℕ} {turns : List Turn} {h z : Held}
+    → Serving card h from chunk input turns z end → from.ended ≡ true → (z ≡ h) × (end.turns ≡ from.turns)
 ended-still {from = from} (answered n r a w) q = absurd (false≢true (sym (still from.turns n.ends q n.turns).0 ∙ r))
 ended-still {from = from} (over n r) q = (refl, (still from.turns n.ends q n.turns).1)
 
