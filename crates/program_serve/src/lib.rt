@@ -6,7 +6,7 @@ ghost use Rattle.line_input.specs.Counts.{IsPrefixLen};
 ghost use Rattle.line_input.specs.Holds.{Holds};
 ghost use Rattle.line_console.specs.Lines.{line_of};
 ghost use Rattle.network.specs.Lending.{areas};
-ghost use Rattle.unit_questions.specs.Lending.{lent};
+ghost use Rattle.unit_questions.specs.Lending.{lent, mut};
 ghost use Rattle.program_serve.specs.Serving.{AnswersLines, Begun, Serves, Starts, Turns};
 
 use line_input::Reader;
@@ -98,8 +98,8 @@ fn answer_lines<R: Read, W: Write>(
     input: &mut R,
     output: &mut W,
 ) -> Talk
-    ensures { AnswersLines file.now from (areas ranks pairs times live down estimates elapsed leaving groups)
-        (lent route log) out result }
+    ensures { AnswersLines file.now from (areas ranks pairs times (mut live) (mut down) (mut estimates) (mut elapsed) leaving groups)
+        (lent (mut route) (mut log)) (mut out) result }
 {
     let mut chunk = [0u8; line_input::CHUNK_ROOM];
     let mut line = [0u8; line_input::LINE_ROOM];
@@ -179,8 +179,9 @@ fn serve<R: Read, W: Write>(
     input: &mut R,
     output: &mut W,
 ) -> Talk
-    ensures { Serves file.now (areas ranks pairs times live down estimates elapsed leaving groups) (lent route log)
-        out.new result }
+    ensures { Serves file.now
+        (areas (mut ranks) (mut pairs) (mut times) (mut live) (mut down) (mut estimates) (mut elapsed) (mut leaving) (mut groups))
+        (lent (mut route) (mut log)) out.new result }
 {
     let opened = program_shell::open_card(
         file, ranks, pairs, times, live, down, estimates, elapsed, leaving, groups, out,
