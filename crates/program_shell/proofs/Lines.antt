@@ -1,5 +1,5 @@
 -- What a line is answered by: `no 0` if it is unreadable, else what its call answers. Assumes nothing.
-use mathlib.Core.Path.{◌∙◌, ◌≡◌, ap, refl, subst, sym}
+use mathlib.Core.Path.{◌∙◌, ◌≡◌, ap, subst, sym}
 use mathlib.Core.List.{List}
 use Prim.Native.Nat.{◌≤◌, ℕ}
 use lib.ListN.{length, length-take, take}
