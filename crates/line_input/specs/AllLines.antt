@@ -1,6 +1,6 @@
 -- All lines of the input: those that calls of `next_line` take, one after the other, are document 01's. Assumes nothing.
 use Rattle.std.proofs.Common.{◌∙◌, ap, ap₂, sym, inl, inr, append_assoc, append-nil, lt-ltb, ne_eqb, arith}
-use Rattle.std.specs.Prelude.{◌≡◌, refl, ◌⊎◌, Bool, false, true, List, [], ◌++◌, ◌∷◌, map, ◌<◌, ℕ, eqb, ltb, length}
+use Rattle.std.specs.Prelude.{◌≡◌, refl, ◌⊎◌, Bool, false, true, List, [], ◌++◌, ◌∷◌, map, ℕ, eqb, ltb, length}
 use Rattle.std.proofs.lemmas.Bool.{false≢true}
 use Rattle.line_input.specs.Input.{AtStart, Ends, NextLine, Plain, in_order, newline, unread}
 use Rattle.line_input.specs.Input.{after-end, at-end, at-newline, out_of_turns}

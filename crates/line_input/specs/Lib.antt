@@ -1,3 +1,4 @@
 pub mod AllLines
+pub mod Counts
 pub mod Holds
 pub mod Input

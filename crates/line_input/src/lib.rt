@@ -1,10 +1,13 @@
-// Lines of the input: a line is taken byte by byte, out of chunks that are read from a descriptor.
+// Lines of the input: a line is taken byte by byte, out of chunks that are read from it.
 #![tactic(auto)]
 
 ghost use Rattle.std.specs.Prelude.{◌≡◌, List, [], ◌++◌, ◌∷◌, ◌<◌, ◌≤◌, ℕ, length};
-ghost use Rattle.io.specs.Counts.{clamp_len};
+ghost use Rattle.line_input.specs.Counts.{count_of};
 ghost use Rattle.line_input.specs.Holds.{Holds};
 ghost use Rattle.line_input.specs.Input.{AtStart, NextLine, Refilled, Stepped, Took, waiting};
+
+use std::io;
+use std::io::Read;
 
 // The longest readable line has 45 bytes: `set` and two numbers of 20 digits.
 pub const LINE_ROOM: usize = 46;
@@ -13,7 +16,7 @@ pub const LINE_ROOM: usize = 46;
 pub const CHUNK_ROOM: usize = 4096;
 
 // The line as far as it was read: the number of its bytes that stand first in a lent area, and whether there are more than that area has.
-#[derive(Drop)]
+#[derive(Clone, Copy)]
 pub struct Part {
     pub kept: usize,
     pub long: bool,
@@ -41,7 +44,7 @@ pub fn take_byte(p: Part, b: u8, area: &mut [u8]) -> Part
 
 // The input: the bytes of a chunk from `at` to `end` are not taken yet. `ready` says that the line's end has come, `ended` that a read gave
 // nothing. `turns` is how many more steps may be made: bytes taken, and reads.
-#[derive(Drop)]
+#[derive(Clone, Copy)]
 pub struct Reader {
     pub at: usize,
     pub end: usize,
@@ -99,14 +102,25 @@ fn take_one(r: Reader, b: u8, left: u64, line: &mut [u8]) -> Reader
     }
 }
 
+// How many bytes a read gave: none where it failed.
+fn count(got: io::Result<usize>, chunk: &[u8]) -> usize
+    ensures in_bounds { result ≤ length chunk.now }
+    ensures value { result ≡ count_of got (length chunk.now) }
+{
+    match got {
+        Ok(n) => n.min(chunk.len()),
+        Err(_) => 0,
+    }
+}
+
 // What a read answered. "A line ends at a newline or at the end of the input; after a last newline no further line follows": where the
 // input ends, a line that has bytes is ready.
-fn take_read(r: Reader, got: isize, left: u64, chunk: &[u8]) -> Reader
+fn take_read(r: Reader, got: io::Result<usize>, left: u64, chunk: &[u8]) -> Reader
     ensures end_in_bounds { result.end ≤ length chunk.now }
-    ensures refilled { Refilled (clamp_len got (length chunk.now)) left r result }
+    ensures refilled { Refilled (count_of got (length chunk.now)) left r result }
 {
     let part = r.part;
-    let n = io::count(got, chunk);
+    let n = count(got, chunk);
     if n == 0 {
         return Reader {
             at: 0,
@@ -128,15 +142,15 @@ fn take_read(r: Reader, got: isize, left: u64, chunk: &[u8]) -> Reader
 }
 
 // Reads the next chunk.
-fn refill(input: i32, r: Reader, left: u64, chunk: &mut [u8]) -> Reader
+fn refill<I: Read>(input: &mut I, r: Reader, left: u64, chunk: &mut [u8]) -> Reader
     ensures { (result.end ≤ length chunk.new) × Refilled result.end left r result }
 {
-    let got = libc::read(input, chunk);
+    let got = input.read(chunk);
     take_read(r, got, left, chunk)
 }
 
 // Takes a byte, or reads the next chunk where none is left.
-fn step(input: i32, r: Reader, chunk: &mut [u8], line: &mut [u8]) -> Reader
+fn step<I: Read>(input: &mut I, r: Reader, chunk: &mut [u8], line: &mut [u8]) -> Reader
     requires { 0 < r.turns }
     ensures { Stepped r chunk.old line.old result chunk.new line.new }
 {
@@ -164,7 +178,7 @@ fn waits(r: Reader) -> bool
 }
 
 // Reads to the end of the next line. After the input's end it takes no step.
-fn read_line(input: i32, from: Reader, chunk: &mut [u8], line: &mut [u8]) -> Reader
+fn read_line<I: Read>(input: &mut I, from: Reader, chunk: &mut [u8], line: &mut [u8]) -> Reader
     requires { 0 < length line.old }
     ensures { NextLine from chunk.old result chunk.new line.new }
 {
@@ -186,8 +200,8 @@ fn read_line(input: i32, from: Reader, chunk: &mut [u8], line: &mut [u8]) -> Rea
 }
 
 // The next line of the input, if there is one. What is left of the chunk is for the line after it.
-pub fn next_line(
-    input: i32,
+pub fn next_line<I: Read>(
+    input: &mut I,
     from: Reader,
     chunk: &mut [u8; CHUNK_ROOM],
     line: &mut [u8; LINE_ROOM],

@@ -2,7 +2,12 @@
 // it was.
 #![tactic(auto)]
 
-ghost use Rattle.std.specs.Prelude.{◌-◌, ◌<◌, ◌≤◌};
+ghost use Rattle.std.specs.Prelude.{◌-◌, ◌<◌, ◌≤◌, length};
+
+use std::env::FillError;
+use std::fs;
+use std::io::{Read, Write};
+use std::rt::{Env, Files};
 
 // What is compared at a time.
 const ROOM: usize = 4096;
@@ -28,22 +33,22 @@ fn same(a: &[u8; ROOM], b: &[u8; ROOM], n: usize) -> bool {
 }
 
 // How a comparison stands: whether the files are the same so far, and how many more turns it may take.
-#[derive(Drop)]
+#[derive(Clone, Copy)]
 struct Compared {
     alike: bool,
     turns: u64,
 }
 
 // Compares a part of two files.
-fn compare_some(a: i32, b: i32, turns: u64) -> Compared
+fn compare_some<A: Read, B: Read>(a: &mut A, b: &mut B, turns: u64) -> Compared
     requires { 0 < turns }
     ensures { result.turns ≤ turns - 1 }
 {
     let left = turns - 1;
     let mut one = [0u8; ROOM];
     let mut two = [0u8; ROOM];
-    let n = io::read_full(a, &mut one);
-    let m = io::read_full(b, &mut two);
+    let n = program_serve::read_full(a, &mut one);
+    let m = program_serve::read_full(b, &mut two);
     if n != m {
         return Compared {
             alike: false,
@@ -69,7 +74,7 @@ fn compare_some(a: i32, b: i32, turns: u64) -> Compared
 }
 
 // Whether two files are the same from where they stand.
-fn compare(a: i32, b: i32) -> bool {
+fn compare<A: Read, B: Read>(a: &mut A, b: &mut B) -> bool {
     let mut c = Compared {
         alike: false,
         turns: u64::MAX,
@@ -81,57 +86,83 @@ fn compare(a: i32, b: i32) -> bool {
 }
 
 // Whether a run prints what a file has. What it prints goes to a file of its own.
-fn passes(card: &[u8], lines: &[u8], due: &[u8]) -> bool {
-    let input = os::open_read(lines);
-    let wanted = os::open_read(due);
-    let output = os::open_overwrite(b"printed");
-    if input < 0 || wanted < 0 || output < 0 {
+fn passes<F: Files>(files: &F, card: &[u8], lines: &[u8], due: &[u8]) -> bool {
+    let Some(mut input) = program_serve::open(files, lines) else {
         return false;
-    }
-    program_serve::run(card, input, output);
-    libc::close(input);
-    libc::close(output);
-    let printed = os::open_read(b"printed");
-    let alike = compare(printed, wanted);
-    libc::close(printed);
-    libc::close(wanted);
-    alike
+    };
+    let Some(mut wanted) = program_serve::open(files, due) else {
+        return false;
+    };
+    let Ok(mut output) = fs::create(files, "printed") else {
+        return false;
+    };
+    program_serve::run(files, card, &mut input, &mut output);
+    let Some(mut printed) = program_serve::open(files, b"printed") else {
+        return false;
+    };
+    compare(&mut printed, &mut wanted)
 }
 
-fn print_name(name: &[u8]) {
-    io::write_all(1, b" ");
-    io::write_all(1, name);
+// Writes a text, whole.
+fn print<W: Write>(text: &[u8], output: &mut W) {
+    let _ = output.write_all(text);
+}
+
+fn print_name<W: Write>(name: &[u8], output: &mut W) {
+    print(b" ", output);
+    print(name, output);
+}
+
+// Puts an argument at the start of an area and answers its length; 0 where there is none, or where it is longer than the area.
+fn argument<E: Env>(env: &E, i: usize, area: &mut [u8]) -> usize
+    ensures { result ≤ length area.new }
+{
+    env.arg(i, area).unwrap_or(0)
+}
+
+// How many arguments there are, the program's name among them; of more than can be taken, one more than can be.
+fn count_arguments<E: Env>(env: &E) -> usize
+    ensures { result ≤ 3001 }
+{
+    let mut name = [0u8; NAME_ROOM];
+    for i in 0..MOST + 1 {
+        if let Err(FillError::NotPresent) = env.arg(i, &mut name) {
+            return i;
+        }
+    }
+    MOST + 1
 }
 
 // The run whose arguments begin at i.
-fn run_one(i: usize)
+fn run_one<R: Env + Files, W: Write>(rt: &R, i: usize, output: &mut W)
     requires { i ≤ 3000 }
 {
     let mut card = [0u8; NAME_ROOM];
     let mut lines = [0u8; NAME_ROOM];
     let mut due = [0u8; NAME_ROOM];
-    let n = os::arg(i, &mut card);
-    let m = os::arg(i + 1, &mut lines);
-    let k = os::arg(i + 2, &mut due);
-    if passes(&card[..n], &lines[..m], &due[..k]) {
-        io::write_all(1, b"passed");
+    let n = argument(rt, i, &mut card);
+    let m = argument(rt, i + 1, &mut lines);
+    let k = argument(rt, i + 2, &mut due);
+    if passes(rt, &card[..n], &lines[..m], &due[..k]) {
+        print(b"passed", output);
     } else {
-        io::write_all(1, b"failed");
+        print(b"failed", output);
     }
-    print_name(&card[..n]);
-    print_name(&lines[..m]);
-    print_name(&due[..k]);
-    io::write_all(1, b"\n");
+    print_name(&card[..n], output);
+    print_name(&lines[..m], output);
+    print_name(&due[..k], output);
+    print(b"\n", output);
 }
 
-fn main() {
-    let count = os::arg_count();
+fn main(rt: HostRuntime) {
+    let mut output = rt.stdout();
+    let count = count_arguments(&rt);
     if MOST < count {
         return;
     }
     let mut i = 1;
     while i + 2 < count {
-        run_one(i);
+        run_one(&rt, i, &mut output);
         i += 3;
     }
 }

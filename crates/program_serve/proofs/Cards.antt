@@ -2,7 +2,7 @@
 -- lines are answered (`attends`). Assumes nothing.
 use mathlib.Core.Path.{◌∙◌, ◌≡◌, ap, ap₂, refl, subst, sym}
 use mathlib.Core.Bool.{Bool, cond, false, false≢true, not, true}
-use mathlib.Core.List.{List, [], ◌++◌}
+use mathlib.Core.List.{List, []}
 use Prim.Native.Nat.{◌+◌, ℕ}
 use lib.ListN.{length, take}
 use native.Mathlib.Omega.{arith}
@@ -13,8 +13,8 @@ use Rattle.model.specs.Machine.{started}
 use Rattle.model.specs.Promises.{before}
 use Rattle.unit.specs.Shape.{header_in}
 use Rattle.unit.specs.declared.Header.{Header}
-use Rattle.line_input.specs.Input.{AtStart, Ends, NextLine, after-end, at-end, at-newline, in_order, out_of_turns, unread}
-use Rattle.line_input.specs.AllLines.{Lines, lines-right, lines-stop}
+use Rattle.line_input.specs.Input.{AtStart, Ends, after-end, at-end, at-newline, out_of_turns}
+use Rattle.line_input.specs.AllLines.{lines-right, lines-stop}
 use Rattle.line_input.specs.declared.Reader.{Reader}
 use Rattle.program_shell.specs.Opening as shell
 use Rattle.program_shell.specs.Answering.{Held, held_of}
@@ -34,8 +34,8 @@ still from (at-end g e f) q h = absurd (false≢true q)
 still from (after-end f g) q h = let z = ap length g in (refl, omega (arith, h, z))
 still from (out_of_turns g e f) q h = absurd (false≢true q)
 
-ended-still : {card chunk input : List ℕ} {turns : List Turn} {h z : Held} {from end : Reader} → Serving card h from chunk input turns z end
-    → from.ended ≡ true → (z ≡ h) × (end.turns ≡ from.turns)
+ended-still : {card : List ℕ} {from end : Reader} {chunk input : List ℕ} {turns : List Turn} {h z : Held}
+    → Serving card h from chunk input turns z end → from.ended ≡ true → (z ≡ h) × (end.turns ≡ from.turns)
 ended-still {from = from} (answered n r a w) q = absurd (false≢true (sym (still from.turns n.ends q n.turns).0 ∙ r))
 ended-still {from = from} (over n r) q = (refl, (still from.turns n.ends q n.turns).1)
 

@@ -9,7 +9,7 @@ use lib.ListN.{length, length-append, take}
 use lib.Seq.{append_snoc, take_all}
 use native.Mathlib.Omega.{arith}
 use Rattle.line_input.specs.Holds.{Holds}
-use Rattle.line_input.specs.Input.{Ends, NextLine, after-end, at-end, at-newline, in_order, newline, out_of_turns, unread}
+use Rattle.line_input.specs.Input.{Ends, NextLine, after-end, at-end, at-newline, in_order, newline, out_of_turns}
 use Rattle.line_input.specs.declared.Reader.{Reader}
 use Rattle.line_console.specs.Lines.{line_of}
 use Rattle.line_console.specs.declared.Line.{Line}

@@ -2,16 +2,19 @@
 #![tactic(auto)]
 
 ghost use Rattle.std.specs.Prelude.{◌≡◌, List, ℕ, length, take};
-ghost use Rattle.io.specs.Counts.{IsPrefixLen};
+ghost use Rattle.line_input.specs.Counts.{IsPrefixLen};
 ghost use Rattle.line_input.specs.Holds.{Holds};
 ghost use Rattle.line_console.specs.Lines.{line_of};
 ghost use Rattle.network.specs.Lending.{areas};
-ghost use Rattle.unit_questions.specs.Lending.{lent};
+ghost use Rattle.unit_questions.specs.Lending.{lent, mut};
 ghost use Rattle.program_serve.specs.Serving.{AnswersLines, Begun, Serves, Starts, Turns};
 
 use line_input::Reader;
 use network::TimeWord;
 use program_shell::Opened;
+use std::fs;
+use std::io::{Read, Write};
+use std::rt::Files;
 use unit::Header;
 
 // The longest card that is read, and one byte more, which shows that a file is longer.
@@ -19,15 +22,12 @@ const FILE_ROOM: usize = program_shell::CARD_SIZE + 1;
 
 // ---- a line
 
-// What travels from line to line: the input as far as it is read, the unit's header, how many bytes were printed last, and the descriptors
-// of input and output.
-#[derive(Drop)]
+// What travels from line to line: the input as far as it is read, the unit's header, and how many bytes were printed last.
+#[derive(Clone, Copy)]
 struct Talk {
     reader: Reader,
     header: Header,
     said: usize,
-    input: i32,
-    output: i32,
 }
 
 // The first k bytes of an area.
@@ -40,35 +40,33 @@ fn text_of(out: &[u8], k: usize) -> &[u8]
     out
 }
 
-// Hands a text to the operating system, whole, and answers its length.
-fn say(output: i32, text: &[u8]) -> usize
+// Hands a text to the output, whole, and answers its length; a write that fails is passed over.
+fn say<W: Write>(text: &[u8], output: &mut W) -> usize
     ensures { result ≡ length text.now }
 {
-    io::write_all(output, text);
+    let _ = output.write_all(text);
     text.len()
 }
 
 // Says a text, then reads the next line, if there is one.
-fn turn(
+fn turn<R: Read, W: Write>(
     from: Talk,
     header: Header,
     text: &[u8],
     chunk: &mut [u8; line_input::CHUNK_ROOM],
     line: &mut [u8; line_input::LINE_ROOM],
+    input: &mut R,
+    output: &mut W,
 ) -> Talk
     ensures { Turns from header text.now chunk.old result chunk.new line.new }
 {
     let before = from.reader;
-    let input = from.input;
-    let output = from.output;
-    let said = say(output, text);
+    let said = say(text, output);
     let reader = line_input::next_line(input, before, chunk, line);
     Talk {
         reader: reader,
         header: header,
         said: said,
-        input: input,
-        output: output,
     }
 }
 
@@ -82,7 +80,7 @@ fn heard(l: Talk, line: &[u8; line_input::LINE_ROOM]) -> &[u8]
 }
 
 // Says what is to be said first, then answers lines until there is none.
-fn answer_lines(
+fn answer_lines<R: Read, W: Write>(
     from: Talk,
     file: &[u8],
     ranks: &[u32],
@@ -97,15 +95,25 @@ fn answer_lines(
     route: &mut [u32; program_shell::JUNCTIONS],
     log: &mut [u32; program_shell::JUNCTIONS],
     out: &mut [u8; program_shell::OUT_ROOM],
+    input: &mut R,
+    output: &mut W,
 ) -> Talk
-    ensures { AnswersLines file.now from (areas ranks pairs times live down estimates elapsed leaving groups)
-        (lent route log) out result }
+    ensures { AnswersLines file.now from (areas ranks pairs times (mut live) (mut down) (mut estimates) (mut elapsed) leaving groups)
+        (lent (mut route) (mut log)) (mut out) result }
 {
     let mut chunk = [0u8; line_input::CHUNK_ROOM];
     let mut line = [0u8; line_input::LINE_ROOM];
     let first = from.header;
     let said = from.said;
-    let mut l = turn(from, first, text_of(out, said), &mut chunk, &mut line);
+    let mut l = turn(
+        from,
+        first,
+        text_of(out, said),
+        &mut chunk,
+        &mut line,
+        input,
+        output,
+    );
     while l.reader.ready {
         let reply = program_shell::answer_line(
             heard(l, &line),
@@ -126,7 +134,15 @@ fn answer_lines(
         );
         let header = reply.header;
         let length = reply.length;
-        l = turn(l, header, text_of(out, length), &mut chunk, &mut line);
+        l = turn(
+            l,
+            header,
+            text_of(out, length),
+            &mut chunk,
+            &mut line,
+            input,
+            output,
+        );
     }
     l
 }
@@ -134,7 +150,7 @@ fn answer_lines(
 // ---- the card
 
 // Before the first line. A card that does not open has a line to be said, and none is read.
-fn begin(opened: Opened, input: i32, output: i32) -> Talk
+fn begin(opened: Opened) -> Talk
     ensures { Begun opened result }
 {
     let header = opened.header;
@@ -142,13 +158,11 @@ fn begin(opened: Opened, input: i32, output: i32) -> Talk
         reader: line_input::at_start(opened.prepared),
         header: header,
         said: opened.length,
-        input: input,
-        output: output,
     }
 }
 
 // Opens the card in lent areas; a prepared unit answers each line.
-fn serve(
+fn serve<R: Read, W: Write>(
     file: &[u8],
     ranks: &mut [u32],
     pairs: &mut [u32; program_shell::PAIRS_ROOM],
@@ -162,17 +176,18 @@ fn serve(
     route: &mut [u32; program_shell::JUNCTIONS],
     log: &mut [u32; program_shell::JUNCTIONS],
     out: &mut [u8; program_shell::OUT_ROOM],
-    input: i32,
-    output: i32,
+    input: &mut R,
+    output: &mut W,
 ) -> Talk
-    ensures { Serves file.now (areas ranks pairs times live down estimates elapsed leaving groups) (lent route log)
-        out.new result }
+    ensures { Serves file.now
+        (areas (mut ranks) (mut pairs) (mut times) (mut live) (mut down) (mut estimates) (mut elapsed) (mut leaving) (mut groups))
+        (lent (mut route) (mut log)) out.new result }
 {
     let opened = program_shell::open_card(
         file, ranks, pairs, times, live, down, estimates, elapsed, leaving, groups, out,
     );
     answer_lines(
-        begin(opened, input, output),
+        begin(opened),
         file,
         ranks,
         pairs,
@@ -186,11 +201,13 @@ fn serve(
         route,
         log,
         out,
+        input,
+        output,
     )
 }
 
 // Lends the areas of the card's map, to 200 junctions and 800 roads, with room for 4,000 pairs.
-fn start(file: &[u8], input: i32, output: i32) -> Talk
+fn start<R: Read, W: Write>(file: &[u8], input: &mut R, output: &mut W) -> Talk
     ensures { Starts file.now result }
 {
     let size = program_shell::room_for(file);
@@ -227,27 +244,51 @@ fn start(file: &[u8], input: i32, output: i32) -> Talk
     )
 }
 
+// ---- files
+
+// Opens a file to be read, where there is one. A path that is no text has none.
+pub fn open<F: Files>(files: &F, path: &[u8]) -> Option<F::File> {
+    let Ok(name) = str::from_utf8(path) else {
+        return None;
+    };
+    fs::open(files, name).ok()
+}
+
+// Reads until the area is full, the input ends or a read fails, and answers how many bytes it put at the start of the area.
+pub fn read_full<R: Read>(from: &mut R, area: &mut [u8]) -> usize
+    ensures { IsPrefixLen result area.new }
+{
+    let mut done = 0;
+    while done < area.len() {
+        let Ok(n) = from.read(&mut area[done..]) else {
+            break;
+        };
+        if n == 0 {
+            break;
+        }
+        done += n;
+    }
+    done
+}
+
 // Puts the file at the start of `file` and answers its length; 0 where there is none, or where it cannot be read.
-fn load(path: &[u8], file: &mut [u8]) -> usize
+fn load<F: Files>(files: &F, path: &[u8], file: &mut [u8]) -> usize
     ensures { IsPrefixLen result file.new }
 {
-    let from = os::open_read(path);
-    if from < 0 {
+    let Some(mut from) = open(files, path) else {
         return 0;
-    }
-    let n = io::read_full(from, file);
+    };
+    let n = read_full(&mut from, file);
     let mut more = [0u8; 1];
-    let rest = libc::read(from, &mut more);
-    libc::close(from);
-    if rest < 0 {
+    if from.read(&mut more).is_err() {
         return 0;
     }
     n
 }
 
-// Reads the card at a path, then lines from a descriptor; writes to another.
-pub fn run(path: &[u8], input: i32, output: i32) {
+// Reads the card at a path, then lines from an input; writes to an output.
+pub fn run<F: Files, R: Read, W: Write>(files: &F, path: &[u8], input: &mut R, output: &mut W) {
     let mut file = [0u8; FILE_ROOM];
-    let n = load(path, &mut file);
+    let n = load(files, path, &mut file);
     start(&file[..n], input, output);
 }

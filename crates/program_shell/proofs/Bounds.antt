@@ -1,10 +1,9 @@
 -- Each text fits in the area that it is written to, so it stands there whole. Assumes nothing.
-use mathlib.Core.Path.{◌∙◌, ◌≡◌, ap, refl}
+use mathlib.Core.Path.{◌∙◌, ◌≡◌, ap}
 use mathlib.Core.Logic.{inl, inr}
-use mathlib.Core.Bool.{cond, false, true}
 use mathlib.Core.Option.{none, some}
-use mathlib.Core.List.{List, [], ◌++◌, ◌∷◌}
-use Prim.Native.Nat.{◌%◌, ◌*◌, ◌+◌, ◌/◌, ◌≤◌, min, suc, zero, ℕ}
+use mathlib.Core.List.{List, [], ◌∷◌}
+use Prim.Native.Nat.{◌%◌, ◌*◌, ◌+◌, ◌/◌, ◌≤◌, suc, zero, ℕ}
 use lib.Dec.{eqb, ltb}
 use lib.ListN.{drop, length, length-append, length-take, take}
 use lib.Seq.{take_all, take_at}
@@ -14,7 +13,7 @@ use Rattle.graph.proofs.Total.{decide}
 use Rattle.model.specs.Types.{Accepted, Answer, Estimated, Gone, Previewed, Refusal, Refused, Stopped}
 use Rattle.model.specs.Word.{of_word}
 use Rattle.line_texts.specs.Areas.{Written, decimal, digits_in, shown, spaced}
-use Rattle.line_answers.specs.Texts.{places_of, refusal_text, total_text, worded}
+use Rattle.line_answers.specs.Texts.{places_of, total_text, worded}
 use Rattle.line_console.specs.Texts.{answer_text, newline, unreadable_text}
 use Rattle.program_shell.specs.Limits.{junction_limit, out_room}
 

@@ -2,19 +2,19 @@
 -- preparing is asked of the program's limits, so preparing decides as document 01 says (`prepared-opens`). Assumes nothing.
 use mathlib.Core.Path.{◌∙◌, ◌≡◌, ap, ap₂, refl, subst, sym}
 use mathlib.Core.Logic.{◌⊎◌, ◌≢◌, inl, inr}
-use mathlib.Core.Bool.{Bool, ◌||◌, cond, false, true}
+use mathlib.Core.Bool.{Bool, cond, false, true}
 use mathlib.Core.Option.{Option, none, some}
 use mathlib.Core.List.{List, []}
-use Prim.Native.Nat.{◌%◌, ◌*◌, ◌+◌, ◌/◌, ◌<◌, ◌≤◌, min, ℕ}
-use borrow.Author.Tests.{eq-eqb, le-leb, le-ltb, lt-ltb, ltb-false, ltb-true, ne_eqb}
-use lib.Dec.{eqb, leb, ltb}
+use Prim.Native.Nat.{◌*◌, ◌/◌, ◌<◌, ◌≤◌, min, ℕ}
+use borrow.Author.Tests.{eq-eqb, le-ltb, lt-ltb, ltb-false, ltb-true, ne_eqb}
+use lib.Dec.{leb, ltb}
 use lib.ListN.{length, take}
 use native.Mathlib.Decide.{ℕ_discrete}
 use native.Mathlib.Omega.{arith}
 use Rattle.graph.specs.Total.{Tested, Total}
-use Rattle.graph.proofs.Total.{decide, none-some, some-some, true_false}
+use Rattle.graph.proofs.Total.{decide, none-some, some-some}
 use Rattle.graph.specs.Map.{Map, pairs_of}
-use Rattle.model.specs.Types.{Accepted, Answer, Answered, AreaLengths, Header, Kinds, Place, Refusal, Refused, Road, Room, Short, Sizes}
+use Rattle.model.specs.Types.{Accepted, Answered, AreaLengths, Kinds, Place, Refusal, Refused, Road, Room, Short, Sizes}
 use Rattle.model.specs.Types.{Starts}
 use Rattle.model.specs.Layout.{access_fits, count_size, order_in, road_size, roads_in, roads_kind, sections, sections_from, table_size}
 use Rattle.model.specs.Card.{and_then, ask, ask_each, card_refusal, count_ok, failing_place, failing_road, kinds_ok, map_on, rows_of, rows_refusal}

@@ -1,10 +1,10 @@
 -- What a line is answered by: `no 0` if it is unreadable, else what its call answers. Assumes nothing.
-use mathlib.Core.Path.{◌∙◌, ◌≡◌, ap, refl, subst, sym}
+use mathlib.Core.Path.{◌∙◌, ◌≡◌, ap, subst, sym}
 use mathlib.Core.List.{List}
 use Prim.Native.Nat.{◌≤◌, ℕ}
 use lib.ListN.{length, length-take, take}
 use native.Mathlib.Omega.{arith}
-use Rattle.io.specs.Counts.{IsPrefixLen}
+use Rattle.line_input.specs.Counts.{IsPrefixLen}
 use Rattle.model.specs.Types.{Answer}
 use Rattle.model.specs.State.{Lent, State, answering}
 use Rattle.model.specs.Calls.{calling}

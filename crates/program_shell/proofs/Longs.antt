@@ -6,7 +6,7 @@ use Prim.Native.Nat.{◌-◌, ◌<◌, ℕ}
 use lib.ListN.{length, take}
 use native.Mathlib.Omega.{arith}
 use Rattle.line_console.specs.Lines.{line_of}
-use Rattle.line_console.specs.Grammar.{long-unreadable}
+use Rattle.line_console.proofs.Grammar.{long-unreadable}
 use Rattle.line_input.specs.Holds.{Holds}
 use Rattle.line_input.specs.declared.Part.{Part}
 

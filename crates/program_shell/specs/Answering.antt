@@ -1,7 +1,7 @@
 -- What the program answers to a line. Definitions only.
 use Rattle.std.specs.Prelude.{◌≡◌, List, ℕ, length, take}
 use denote.Triple.Both.{Both}
-use Rattle.io.specs.Counts.{IsPrefixLen}
+use Rattle.line_input.specs.Counts.{IsPrefixLen}
 use Rattle.model.specs.Types as model
 use Rattle.model.specs.Areas.{Areas}
 use Rattle.model.specs.State.{Lent, State, answering}

@@ -27,7 +27,7 @@ use Rattle.line_console.specs.Texts.{answer_text, newline, unreadable_text}
 use Rattle.line_console.specs.declared.Line.{Line}
 use Rattle.line_console.specs.declared.Line.TheVariants.{Call, Unreadable}
 use Rattle.program_shell.specs.Limits.{junction_limit}
-use Rattle.program_shell.specs.Answering.{Answers, Held, Roomy, holding}
+use Rattle.program_shell.specs.Answering.{Answers, Held, Roomy}
 
 -- ---- definitions
 

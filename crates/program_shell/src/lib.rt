@@ -5,7 +5,7 @@ ghost use Rattle.std.specs.Prelude.{◌≡◌, true, List, ◌<◌, ◌≤◌, �
 ghost use Rattle.model.specs.Areas.{Areas};
 ghost use Rattle.network.specs.Refusals.{refusal_in};
 ghost use Rattle.network.specs.Lending.{areas};
-ghost use Rattle.unit_questions.specs.Lending.{lent};
+ghost use Rattle.unit_questions.specs.Lending.{lent, mut};
 ghost use Rattle.unit_answers.specs.Shape.{answer_in};
 ghost use Rattle.unit.specs.Shape.{header_in};
 ghost use Rattle.line_console.specs.Lines.{line_of};
@@ -149,7 +149,8 @@ pub fn open_card(
     groups: &mut [u32],
     out: &mut [u8; OUT_ROOM],
 ) -> Opened
-    ensures { OpensCard file.now (areas ranks pairs times live down estimates elapsed leaving groups)
+    ensures { OpensCard file.now
+        (areas (mut ranks) (mut pairs) (mut times) (mut live) (mut down) (mut estimates) (mut elapsed) (mut leaving) (mut groups))
         out.new result }
 {
     let prepared = unit_switch_on::prepare(
@@ -200,7 +201,8 @@ pub fn answer_line(
     out: &mut [u8; OUT_ROOM],
 ) -> Reply
     ensures { AnswersLine card.now line.now header
-        (areas ranks pairs times live down estimates elapsed leaving groups) (lent route log) out.new result }
+        (areas ranks pairs times (mut live) (mut down) (mut estimates) (mut elapsed) leaving groups) (lent (mut route) (mut log))
+        out.new result }
 {
     match line_console::read_line(line) {
         Line::Unreadable => Reply {
