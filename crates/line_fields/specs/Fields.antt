@@ -35,11 +35,12 @@ same [] (b ∷ t) = false
 same (a ∷ s) [] = false
 same (a ∷ s) (b ∷ t) = eqb a b && same s t
 
--- where the byte b stands first; the length where it stands nowhere
+-- one place further on, but where the byte before is the one that is looked for
 unfoldable pub index_after : Bool → ℕ → ℕ
 index_after true i = 0
 index_after false i = suc i
 
+-- where the byte b stands first; the length where it stands nowhere
 unfoldable pub index_of : (b : ℕ) → List ℕ → ℕ
 index_of b [] = 0
 index_of b (c ∷ s) = index_after (eqb c b) (index_of b s)

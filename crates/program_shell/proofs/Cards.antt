@@ -17,7 +17,8 @@ use Rattle.graph.specs.Map.{Map, pairs_of}
 use Rattle.model.specs.Types.{Accepted, Answered, AreaLengths, Kinds, Place, Refusal, Refused, Road, Room, Short, Sizes}
 use Rattle.model.specs.Types.{Starts}
 use Rattle.model.specs.Layout.{access_fits, count_size, order_in, road_size, roads_in, roads_kind, sections, sections_from, table_size}
-use Rattle.model.specs.Card.{and_then, ask, ask_each, card_refusal, count_ok, failing_place, failing_road, kinds_ok, map_on, rows_of, rows_refusal}
+use Rattle.model.specs.Card.{and_then, ask, ask_each, card_refusal, count_ok, failing_place, failing_road, kinds_ok, map_on, rows_of}
+use Rattle.model.specs.Card.{rows_refusal}
 use Rattle.model.specs.Card.{sizes_ok, starts_ok}
 use Rattle.model.proofs.Accept.{card-facts}
 use Rattle.model.specs.Areas.{Areas, Each, lengths, lengths_fit, record_size, zeroed}
@@ -121,7 +122,8 @@ opens-opens : {x : Opening} {s t : State} → x ≡ Opens s → x ≡ Opens t �
 opens-opens p q = cc
 
 -- a preparing that comes to a state was accepted
-accepted : (x y : Option Refusal) (b c s t : State) → let u = unless x b none_lent (unless y c none_lent (answering Accepted s none_lent)) in
+accepted : (x y : Option Refusal) (b c s t : State)
+    → let u = unless x b none_lent (unless y c none_lent (answering Accepted s none_lent)) in
     judged_step u ≡ Opens t → (u.answer ≡ Accepted) × (u.state ≡ t)
 accepted none none b c s t e = (refl, opens-opens refl e)
 accepted none (some q) b c s t e = absurd (ends-opens refl e)

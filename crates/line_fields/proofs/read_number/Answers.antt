@@ -1,5 +1,6 @@
 -- The digits that the loop has passed make v (`Passed`): a byte that is no digit, or a value that is too large, decides at once that s is
 -- no number (`below-digits`, `above-digits`, `overflow`), and at the end v is the number (`passed-all`).
+use native.Mathlib.Omega.{arith}
 use Rattle.line_fields.proofs.Numbers.{Next, passed-all, passed-more}
 use Rattle.line_fields.proofs.Numbers.{above-digits, below-digits, long, overflow, short}
 use Rattle.line_fields.proofs.read_number.Goals as goal
@@ -25,7 +26,7 @@ pub returns-then-b-gt57 : goal.returns-then-b-gt57
 returns-then-b-gt57 c = above-digits (byte-read (goal.at.returns-then-b-gt57 c).After-wide-b) c.if-b-gt57.true
 
 pub returns-then-d-v : goal.returns-then-d-v
-returns-then-d-v c = overflow (byte-read (goal.at.returns-then-d-v c).After-wide-b) c.if-d-v.true
+returns-then-d-v c = overflow (byte-read (goal.at.returns-then-d-v c).After-wide-b) (omega (arith, c.if-d-v.true))
 
 pub loop-i-preserved : goal.loop-i-preserved
 loop-i-preserved c =

@@ -1,4 +1,5 @@
--- Each step goes on with the line or ends it (`Turned`, `turned`), and leaves fewer steps. Where no step more is to be made, the line is the
+-- Each step goes on with the line or ends it (`Turned`, `turned`), and leaves fewer steps. Where no step more is to be made, the line is
+-- the
 -- next one (`turned-end`).
 use Rattle.std.proofs.Common.{◌∙◌, ◌<◌, arith, length, sym}
 use Rattle.line_input.proofs.Turns.{anew, turned, turned-end, turned-start}

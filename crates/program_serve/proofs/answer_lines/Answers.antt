@@ -1,4 +1,5 @@
--- Each turn answers the line that was read last, from what the turn before left, and reads the next (`loop_turn`). Each leaves fewer steps to
+-- Each turn answers the line that was read last, from what the turn before left, and reads the next (`loop_turn`). Each leaves fewer steps
+-- to
 -- read with (`steps-fall`).
 use Rattle.program_serve.proofs.Talks.{loop_end, loop_turn, said-length, steps-fall, underway_start}
 use Rattle.program_serve.proofs.answer_lines.Goals as goal

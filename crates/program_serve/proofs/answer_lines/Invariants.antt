@@ -1,4 +1,5 @@
--- The turns have led from what was at hand first, when the first line was read, to what is at hand now (`Underway`). Each leaves fewer steps
+-- The turns have led from what was at hand first, when the first line was read, to what is at hand now (`Underway`). Each leaves fewer
+-- steps
 -- to read with.
 use Rattle.std.proofs.Common.{◌≡◌, List, length, ℕ}
 use Rattle.model.specs.Areas.{areas_of}

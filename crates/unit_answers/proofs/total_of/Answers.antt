@@ -6,7 +6,7 @@ use Rattle.unit_answers.proofs.total_of.Goals as goal
 
 pub returns-then-t-ge-SIGNED_END : goal.returns-then-t-ge-SIGNED_END
 returns-then-t-ge-SIGNED_END c =
-    (total-none c.args.t.0 (omega arith) c.if-t-ge-SIGNED_END.true, none-fits refl)
+    (total-none c.args.t.0 (omega arith) (omega (arith, c.if-t-ge-SIGNED_END.true)), none-fits refl)
 
 pub returns : goal.returns
 returns c =
