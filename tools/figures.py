@@ -30,7 +30,8 @@ def functions(source):
     """Name, number of parameters, lines of contract, the longest of these, and lines of body of each function of a file."""
     code = re.sub(r'//.*', '', source)
     for found in re.finditer(r'^( *)(?:pub )?(?:extern "C" )?fn (\w+)(.*?)^ *\{', code, re.M | re.S):
-        head = found.group(3)
+        # past the type parameters
+        head = re.sub(r'^<(?:[^<>]|<[^<>]*>)*>', '', found.group(3))
         body = code[found.end():].split(f'\n{found.group(1)}}}', 1)[0]
         depth, inside, at = 0, '', 0
         for at, letter in enumerate(head):

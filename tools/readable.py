@@ -2,7 +2,7 @@
 """Holds what makes the code and the proofs readable. The status is 1, with a line for each place, where one of these is broken:
 
   width     a line of a .rt or .antt file has more than 140 characters
-  places    two `.before` stand in a row: a place is named by its type, `let PLACE : tie.PLACE = search in`, and nothing is counted. In the
+  places    two `.before` stand in a row: a step is named after the source, and nothing is counted. In the
             crates that still count (COUNTED), more than two, where no place is named by `let PLACE = .. in` or an accessor, `place c = ..`
   parts     more than two numbered parts in a row (`.1.1.0`): a fact is taken by its name
   blanks    more than three `_` in a row: what can be inferred is an implicit argument
