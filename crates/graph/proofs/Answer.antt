@@ -1,6 +1,5 @@
--- Proves what the complete search of a well_formed problem gives: least times (`times-least`), the least
--- total, none exactly if no walk leads to a goal (`total-least`), a route of that total (`route-total`)
--- by document 01's rule (`route-smallest`). Assumes nothing.
+-- Proves what the complete search of a well_formed problem gives: least times (`times-least`), the least total, none exactly if no walk
+-- leads to a goal (`total-least`), a route of that total (`route-total`) by document 01's rule (`route-smallest`). Assumes nothing.
 use Rattle.std.proofs.Common.{◌∙◌, ap, inl, inr, arith}
 use Rattle.std.specs.Prelude.{◌≡◌, cond, ℕ, length}
 use Rattle.std.proofs.Math.Path.{refl, sym}

@@ -1,5 +1,5 @@
--- Defines when a list of arcs is a route to a vertex (`RouteTo`), and document 01's rule for each arc of it (`SmallestInto`). Proves that
--- the way back through a history is such a route of the logged time (`back-route`), by that rule (`back-smallest`). Assumes nothing.
+-- Proves that the way back through a history is such a route of the logged time (`back-route`), by that rule (`back-smallest`). Assumes
+-- nothing.
 use Rattle.std.proofs.Common.{◌∙◌, ap, subst, sym, inl, inr, eq-eqb, eqb-true, ne_eqb, length-append, arith}
 use Rattle.std.specs.Prelude.{◌≡◌, ◌⊎◌, false, true, ◌+◌, ◌<◌, ℕ, length}
 use Rattle.std.proofs.Math.Path.{refl}

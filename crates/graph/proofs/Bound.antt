@@ -1,5 +1,6 @@
 -- Proves that among n vertices, where every arc costs at most C, each least total is at most (n - 1) * C: a least path visits no vertex
--- twice. `dist-bound` is of all paths, `up-bound`, `down-bound`, `down_total-bound`, `estimate-bound` of the hierarchy. Assumes nothing.
+-- twice. `dist-bound` is of all paths, `up-bound`, `down-bound`, `down_total-bound`, `estimate-bound` of the hierarchy. Assumes
+-- nothing.
 use Rattle.std.proofs.Common.{◌∙◌, sym, inl, inr, zero-le, add-zero, arith}
 use Rattle.std.specs.Prelude.{◌≡◌, refl, ◌⊎◌, ◌*◌, ◌+◌, ◌-◌, ◌<◌, ◌≤◌, suc, zero, ℕ, length}
 use Rattle.std.proofs.Math.Option.{some}

@@ -1,5 +1,5 @@
--- Defines candidates and the order of choice as relations. Proves that the search logs the candidate that comes before every other
--- (`next-is`), and that there is no second (`next_unique`). Assumes nothing.
+-- Proves that the search logs the candidate that comes before every other (`next-is`), and that there is no second (`next_unique`).
+-- Assumes nothing.
 use Rattle.std.proofs.Common.{◌∙◌, ap, sym, inl, inr}
 use Rattle.std.specs.Prelude.{◌≡◌, ◌⊎◌, Bool, cond, false, true, List, eqb, ltb}
 use Rattle.std.proofs.Math.Path.{refl}

@@ -1,6 +1,5 @@
--- Defines when a history is complete. Proves that `size` steps suffice (`history-complete`), that no
--- vertex is logged twice (`distinct_vertices`), that a logged goal has the least time of all walks to
--- goals (`goal-least`), and that without one there is no such walk (`no_goal_no_walk`). Assumes nothing.
+-- Proves that `size` steps suffice (`history-complete`), that no vertex is logged twice (`distinct_vertices`), that a logged goal has
+-- the least time of all walks to goals (`goal-least`), and that without one there is no such walk (`no_goal_no_walk`). Assumes nothing.
 use Rattle.std.proofs.Common.{◌∙◌, sym, arith}
 use Rattle.std.specs.Prelude.{◌≡◌, ◌⊎◌}
 use Rattle.std.proofs.Math.Path.{ap, refl}

@@ -1,6 +1,6 @@
--- How far one arc can move a least total (document 02, A8). Defines when a problem is another one with the arcs into one vertex slower by
--- at most d (`Delayed`). Proves that no least total grows by more than d then (`total-delays`), and that none shrinks where no arc gets
--- faster (`total-grows`); and both of a go, one of whose arcs changes its live cost (`go-delays`, `go-grows`). Assumes nothing.
+-- How far one arc can move a least total (document 02, A8). Proves that no least total grows by more than d then (`total-delays`), and
+-- that none shrinks where no arc gets faster (`total-grows`); and both of a go, one of whose arcs changes its live cost (`go-delays`,
+-- `go-grows`). Assumes nothing.
 use Rattle.std.proofs.Common.{◌∙◌, sym, arith}
 use Rattle.std.specs.Prelude.{◌≡◌, refl, ◌⊎◌, ◌+◌, ◌<◌, ◌≤◌, ℕ}
 use Rattle.std.proofs.Math.Path.{ap, subst}

@@ -1,6 +1,5 @@
--- The search effort of a go as an exact figure (document 02, A5). Defines what the request says of a go (`Effort`). Proves it for every
--- valid map whose arcs cost something, all live costs that are not below the base costs, every start and every target, where equal keys go
--- by time (`go-effort`). Assumes nothing.
+-- The search effort of a go as an exact figure (document 02, A5). Proves it for every valid map whose arcs cost something, all live
+-- costs that are not below the base costs, every start and every target, where equal keys go by time (`go-effort`). Assumes nothing.
 use Rattle.std.proofs.Common.{◌∙◌, arith}
 use Rattle.std.specs.Prelude.{◌≡◌, refl, Bool, ◌&&◌, ◌<◌, ℕ, length}
 use Rattle.std.proofs.Math.Path.{ap, sym}

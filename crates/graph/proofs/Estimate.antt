@@ -1,6 +1,6 @@
--- Defines down totals and estimates. Proves that a down total is the least total over paths of down times (`down_total-least`), and of all
--- paths that stay below their first rank (`down_total_inner`); and that an estimate is the least total of all paths (`estimate-via`,
--- `estimate-dist`): some least path climbs by up times and then falls by down times. Assumes nothing.
+-- Proves that a down total is the least total over paths of down times (`down_total-least`), and of all paths that stay below their
+-- first rank (`down_total_inner`); and that an estimate is the least total of all paths (`estimate-via`, `estimate-dist`): some least
+-- path climbs by up times and then falls by down times. Assumes nothing.
 use Rattle.std.proofs.Common.{◌∙◌, inl, inr, zero-le, eq-eqb, eqb-true, add_assoc, add-zero, le_of_suc-le-suc, le_refl, lt_irrefl}
 use Rattle.std.proofs.Common.{lt_of_lt_of_le, not-suc-le-zero, arith}
 use Rattle.std.specs.Prelude.{◌≡◌, ◌⊎◌, Bool, ◌+◌, ◌-◌, ◌<◌, ◌≤◌, suc, zero, ℕ, eqb}

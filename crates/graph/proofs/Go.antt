@@ -1,6 +1,5 @@
--- Defines one go on a map, from the start s to the target z at live costs, and what is demanded of it (`Demand`).
--- Proves it for every valid map, all live costs that are not below the base costs, every rule of ties, every
--- start and every target (`go_meets`, with `go-none`); and that its sums fit (`go-fits`). Assumes nothing.
+-- Proves it for every valid map, all live costs that are not below the base costs, every rule of ties, every start and every target
+-- (`go_meets`, with `go-none`); and that its sums fit (`go-fits`). Assumes nothing.
 use Rattle.std.proofs.Common.{◌∙◌, sym, arith}
 use Rattle.std.specs.Prelude.{◌≡◌, ◌*◌, ◌+◌, ◌-◌, ◌<◌, ◌≤◌, ℕ, length}
 use Rattle.std.proofs.Math.Path.{ap, refl, subst, subst₂}

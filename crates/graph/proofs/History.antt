@@ -1,6 +1,6 @@
--- Defines the histories that a search goes through (`Reached`). Proves of each, for a well_formed problem, that logged times are least
--- (`logged-least`), that an entry's key is its time plus its potential (`keyed`), and that keys never fall (`keys-rise`). The reason is
--- `frontier`: every walk meets a candidate in time. Assumes nothing.
+-- Proves of each, for a well_formed problem, that logged times are least (`logged-least`), that an entry's key is its time plus its
+-- potential (`keyed`), and that keys never fall (`keys-rise`). The reason is `frontier`: every walk meets a candidate in time. Assumes
+-- nothing.
 use Rattle.std.proofs.Common.{◌∙◌, ap, inl, inr, arith}
 use Rattle.std.specs.Prelude.{◌≡◌, ◌⊎◌, ◌+◌, ◌<◌, ◌≤◌, ℕ}
 use Rattle.std.proofs.Math.Path.{refl}

@@ -1,5 +1,5 @@
--- Proves of a map's terms what document 01 says of them, junction by junction: the down total is the least over chains of down times, an
--- estimate fills what up times reach, and estimates obey the rule of algorithm 3. Assumes nothing.
+-- Proves of a map's terms what document 01 says of them, junction by junction: the down total is the least over chains of down times,
+-- an estimate fills what up times reach, and estimates obey the rule of algorithm 3. Assumes nothing.
 use Rattle.std.proofs.Common.{◌∙◌, ap, sym, arith}
 use Rattle.std.specs.Prelude.{◌≡◌, refl, true, ◌<◌, ℕ}
 use Rattle.std.proofs.Math.Option.{some}

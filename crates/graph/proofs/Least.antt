@@ -1,6 +1,4 @@
--- Defines what it is to be the least of a set of totals, the minimum over the numbers below n, the
--- first of them that passes a test, and recursion over a measure. Proves how the least of a set
--- comes from the least of its parts: union, sums, cases, the same set or a subset. Assumes nothing.
+-- Proves how the least of a set comes from the least of its parts: union, sums, cases, the same set or a subset. Assumes nothing.
 use Rattle.std.proofs.Common.{◌∙◌, ap, subst, inl, inr, le_refl, not-suc-le-zero, arith}
 use Rattle.std.specs.Prelude.{◌≡◌, refl, ◌⊎◌, Bool, cond, false, true, ◌<◌, ◌≤◌, suc, zero, ℕ}
 use Rattle.std.proofs.Math.Option.{none, some}

@@ -1,6 +1,5 @@
--- Defines `level`, by taking the vertices in one after the other (Floyd and Warshall), and `dist`.
--- Proves that the first is the least total of a path of at least one arc whose inner vertices are
--- below k (`level-least`), and the second that of all paths (`dist-least`). Assumes nothing.
+-- Proves that the first is the least total of a path of at least one arc whose inner vertices are below k (`level-least`), and the
+-- second that of all paths (`dist-least`). Assumes nothing.
 use Rattle.std.specs.Prelude.{◌≡◌, ◌⊎◌, eqb}
 use Rattle.std.proofs.Math.Path.{refl}
 use Rattle.std.proofs.Math.Logic.{inl, inr}

@@ -1,6 +1,5 @@
--- Defines lists without repetition, ordered lists, the numbers below n, and how many of them pass a test.
--- Proves that a list without repetition is no longer than one that contains it (`distinct_length`, `counted`, `pigeonhole`).
--- Assumes nothing.
+-- Proves that a list without repetition is no longer than one that contains it (`distinct_length`, `counted`, `pigeonhole`). Assumes
+-- nothing.
 use Rattle.std.proofs.Common.{◌∙◌, inl, inr, eqb-true, zero-lt-suc}
 use Rattle.std.specs.Prelude.{◌≡◌, ◌⊎◌, Bool, false, eqb, length}
 use Rattle.std.proofs.Math.Path.{ap, refl, sym}

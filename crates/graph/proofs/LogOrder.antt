@@ -1,5 +1,4 @@
--- Defines the order of the log (document 02, A5: key, time, number), and the list of all vertices that pass a test in this order. Proves
--- that no other list has just these vertices, each once, in this order (`in_order-all`, `in_order-one`), and how long it is
+-- Proves that no other list has just these vertices, each once, in this order (`in_order-all`, `in_order-one`), and how long it is
 -- (`in_order-length`). Assumes nothing.
 use Rattle.std.proofs.Common.{◌∙◌, sym, inl, inr, arith}
 use Rattle.std.specs.Prelude.{◌≡◌, Bool, ◌<◌, ℕ, leb, length}

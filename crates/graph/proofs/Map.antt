@@ -1,6 +1,5 @@
--- Defines maps and the terms of document 01 on their junctions: rank, pairs, down totals,
--- estimates, least times. Proves of each what least total it is, and how large at most; and that
--- estimates are a consistent potential for live costs (`estimate_of-consistent`). Assumes nothing.
+-- Proves of each what least total it is, and how large at most; and that estimates are a consistent potential for live costs
+-- (`estimate_of-consistent`). Assumes nothing.
 use Rattle.std.specs.Prelude.{◌≡◌, ◌*◌, ◌-◌, ◌<◌, ◌≤◌, ℕ}
 use Rattle.std.proofs.Math.Option.{some}
 use Rattle.std.proofs.Common.{zero-le}

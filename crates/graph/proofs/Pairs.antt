@@ -1,5 +1,5 @@
--- Defines the up time and the down time of two ranks. Proves that they are least totals (`up_least`, `down-least`), and how those of a rank
--- come from the lower ranks (`up_law`, `down_law`), which is contraction without a witness test. Assumes nothing.
+-- Proves that they are least totals (`up_least`, `down-least`), and how those of a rank come from the lower ranks (`up_law`,
+-- `down_law`), which is contraction without a witness test. Assumes nothing.
 use Rattle.std.proofs.Common.{◌∙◌, ap, sym, le-ltb, lt-ltb, arith}
 use Rattle.std.specs.Prelude.{◌≡◌, refl, ◌<◌, ◌≤◌, suc, zero, ℕ}
 use Rattle.std.proofs.Math.Option.{none, some}

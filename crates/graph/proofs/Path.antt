@@ -1,6 +1,4 @@
--- Defines graphs, as families of arcs, and paths in them, also those whose inner vertices rank low.
--- Proves how paths are joined.
--- Assumes nothing.
+-- Proves how paths are joined. Assumes nothing.
 use Rattle.std.specs.Prelude.{refl, ◌+◌, ◌<◌, ◌≤◌, ℕ}
 use Rattle.std.proofs.Common.{subst, inl, inr, add_assoc, add-zero, zero-add, arith}
 use Rattle.graph.specs.Path.{Arcs, Path, empty, link, arc, step, Inner, EndsBelow, Via}

@@ -1,4 +1,3 @@
--- Defines consistent potentials, and live costs: each at least the base cost, or closed.
 -- Proves that least base totals are consistent for them (`base-consistent`). Assumes nothing.
 use Rattle.std.specs.Prelude.{◌≡◌, refl, ◌+◌, ◌<◌, ◌≤◌, ℕ}
 use Rattle.std.proofs.Math.Option.{some}

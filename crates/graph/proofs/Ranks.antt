@@ -1,6 +1,5 @@
--- Defines orders of n vertices, the rank of a vertex in one, and the network with its vertices renamed,
--- say by their ranks. Proves that rank and order undo each other, and that the totals of paths, so pairs
--- and estimates too, do not depend on the names (`inner_least`, `estimate-least`). Assumes nothing.
+-- Proves that rank and order undo each other, and that the totals of paths, so pairs and estimates too, do not depend on the names
+-- (`inner_least`, `estimate-least`). Assumes nothing.
 use Rattle.std.proofs.Common.{◌∙◌, ap, sym, eqb-true, not-suc-le-zero, arith}
 use Rattle.std.specs.Prelude.{◌≡◌, refl, Bool, false, true, ◌<◌, suc, zero, ℕ, eqb}
 use Rattle.std.proofs.lemmas.Bool.{eqb-false}

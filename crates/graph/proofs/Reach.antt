@@ -1,5 +1,4 @@
--- Defines what is reached through up times, and at what total. Proves that it is reached
--- exactly by the paths of up times (`reaches-path`, `path-reaches`). Assumes nothing.
+-- Proves that it is reached exactly by the paths of up times (`reaches-path`, `path-reaches`). Assumes nothing.
 use Rattle.std.specs.Prelude.{◌≡◌, refl, cond, false, true, ◌+◌, ◌-◌, ◌<◌, suc, zero, ℕ, eqb}
 use Rattle.std.proofs.Math.Path.{ap}
 use Rattle.std.proofs.Math.Option.{some}

@@ -1,5 +1,4 @@
--- Defines paths written out as lists of arc numbers, and their totals. Proves that these are the paths (`path-listed`, `listed-path`).
--- Assumes nothing.
+-- Proves that these are the paths (`path-listed`, `listed-path`). Assumes nothing.
 use Rattle.std.proofs.Common.{◌∙◌, ap, sym}
 use Rattle.std.specs.Prelude.{◌≡◌, refl, List, [], ◌++◌, ◌∷◌, ℕ}
 use Rattle.std.proofs.Math.Option.{none, some}

@@ -1,6 +1,5 @@
--- Defines sorting by a test (`sorted`), and what the sorted list of all is that have a property (`SortedOf`). Proves that there is only one
--- such list (`sorted-one`), that sorting makes it (`sorted_all`), and that a list in the reverse order is one backwards (`sorted-reverse`).
--- Assumes nothing.
+-- Proves that there is only one such list (`sorted-one`), that sorting makes it (`sorted_all`), and that a list in the reverse order is
+-- one backwards (`sorted-reverse`). Assumes nothing.
 use Rattle.std.proofs.Common.{◌∙◌, ap₂, sym}
 use Rattle.std.specs.Prelude.{◌≡◌, refl, ◌⊎◌, Bool, cond, false}
 use Rattle.std.proofs.Math.Logic.{inl, inr}

@@ -1,6 +1,6 @@
--- Proves, for programs that run the search, that a choice over the offers in any order is the definition's
--- (`best-next`), that offered times may be kept and relaxed (`offered-relaxed`), that the loop ends with
--- the history (`complete-history`), and that newer entries leave older ones as they were. Assumes nothing.
+-- Proves, for programs that run the search, that a choice over the offers in any order is the definition's (`best-next`), that offered
+-- times may be kept and relaxed (`offered-relaxed`), that the loop ends with the history (`complete-history`), and that newer entries
+-- leave older ones as they were. Assumes nothing.
 use Rattle.std.proofs.Common.{◌∙◌, inl, inr, add_comm, add-one, arith}
 use Rattle.std.specs.Prelude.{◌≡◌, ◌⊎◌, cond, false, ◌+◌, suc, ℕ, eqb, length}
 use Rattle.std.proofs.Math.Path.{ap, refl, sym}

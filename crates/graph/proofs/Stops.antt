@@ -1,6 +1,5 @@
--- A list of stops (document 02, A3). Defines when a path meets the stops in their order, and the whole total of its legs. Proves that the
--- whole of least legs is at most the total of every path that meets the stops (`whole-at_most`).
--- Assumes nothing.
+-- A list of stops (document 02, A3). Proves that the whole of least legs is at most the total of every path that meets the stops
+-- (`whole-at_most`). Assumes nothing.
 use Rattle.std.proofs.Common.{◌∙◌, ap₂, subst, sym, zero-le, arith}
 use Rattle.std.specs.Prelude.{◌≡◌, refl, ◌+◌, ◌<◌, ℕ}
 use Rattle.std.proofs.Math.Option.{some}

@@ -1,5 +1,4 @@
--- Defines totals, numbers or none, with their order, minimum and sum, and tests of
--- them. Proves their laws, and the cases of an option and of a test. Assumes nothing.
+-- Proves their laws, and the cases of an option and of a test. Assumes nothing.
 use Rattle.std.specs.Prelude.{◌≡◌, refl, ◌⊎◌, Bool, ◌&&◌, cond, false, true, ◌+◌, ◌≤◌, ℕ}
 use Rattle.std.proofs.Common.{ap, inl, inr, le-leb, leb-false, leb-true, add_assoc, add_comm, zero-add, arith}
 use Rattle.std.proofs.Math.Option.{Option, none, some}

@@ -1,6 +1,5 @@
--- Defines walks, which are paths from a start, what is asked of a problem (`WellFormed`), and offers, the
--- times that starts and logged vertices give. Proves that walks from one start are paths (`path_of_walk`,
--- `walk_of-path`), and that the offered time is the least offer (`offered-least`). Assumes nothing.
+-- Proves that walks from one start are paths (`path_of_walk`, `walk_of-path`), and that the offered time is the least offer
+-- (`offered-least`). Assumes nothing.
 use Rattle.std.proofs.Common.{◌∙◌, ap, sym, inl, inr, eq-eqb, eqb-true, ne_eqb, add_assoc, add-zero, arith}
 use Rattle.std.specs.Prelude.{◌≡◌, refl, ◌⊎◌, List, ◌∷◌, ◌+◌, ℕ, eqb}
 use Rattle.std.proofs.Math.Option.{none, some}

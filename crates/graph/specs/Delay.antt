@@ -1,6 +1,5 @@
--- How far one arc can move a least total (document 02, A8). Defines when a problem is another one with the arcs into one vertex slower by
--- at most d (`Delayed`). Proves that no least total grows by more than d then (`total-delays`), and that none shrinks where no arc gets
--- faster (`total-grows`); and both of a go, one of whose arcs changes its live cost (`go-delays`, `go-grows`). Assumes nothing.
+-- How far one arc can move a least total (document 02, A8). Defines when a problem is another one with the arcs into one vertex slower
+-- by at most d (`Delayed`). Definitions; what is proved of them stands in proofs/Delay.antt.
 use Rattle.std.specs.Prelude.{◌≡◌, ◌⊎◌, true, ◌+◌, ◌≤◌, ℕ}
 use Rattle.std.proofs.Math.Option.{none, some}
 use Rattle.graph.specs.Total.{Total}

@@ -1,7 +1,5 @@
--- The log as an exact list (document 02, A5), over an abstract problem whose arcs cost something and whose equal keys go by time. Proves
--- that it is in the order of key, time and number; that of a search which finds its one goal it is all vertices whose key is within the
--- total, if only the goal has the potential 0 (`log-found`); and that of one which finds none it is all vertices that a walk reaches and
--- that have a potential (`log-lost`). Assumes nothing.
+-- The log as an exact list (document 02, A5): a problem whose arcs cost something. Definitions; what is proved of them stands in
+-- proofs/Exact.antt.
 use Rattle.std.specs.Prelude.{◌<◌, ℕ}
 use Rattle.graph.specs.Path.{Arcs}
 

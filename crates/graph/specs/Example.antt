@@ -1,6 +1,6 @@
 -- Two small maps, computed through the definitions. One has parallel arcs, a dead end, keys that tie, up times that a path over higher
--- ranks would undercut, and a target that is a candidate long before it is logged; the other has vertices whose keys and times tie. Every
--- fact here is proved by computing. Assumes nothing.
+-- ranks would undercut, and a target that is a candidate long before it is logged; the other has vertices whose keys and times tie.
+-- Definitions; what is proved of them stands in proofs/Example.antt.
 use Rattle.std.specs.Prelude.{List, ℕ}
 use Rattle.graph.specs.Total.{Total}
 

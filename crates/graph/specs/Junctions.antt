@@ -1,5 +1,4 @@
--- Proves of a map's terms what document 01 says of them, junction by junction: the down total is the least over chains of down times, an
--- estimate fills what up times reach, and estimates obey the rule of algorithm 3. Assumes nothing.
+-- A map's down times and up times as arcs between junctions. Definitions; what is proved of them stands in proofs/Junctions.antt.
 use Rattle.std.specs.Prelude.{◌≡◌, ◌<◌}
 use Rattle.std.proofs.Math.Option.{some}
 use Rattle.graph.specs.Path.{Arcs}

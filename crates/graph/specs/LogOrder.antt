@@ -1,6 +1,5 @@
--- Defines the order of the log (document 02, A5: key, time, number), and the list of all vertices that pass a test in this order. Proves
--- that no other list has just these vertices, each once, in this order (`in_order-all`, `in_order-one`), and how long it is
--- (`in_order-length`). Assumes nothing.
+-- Defines the order of the log (document 02, A5: key, time, number), and the list of all vertices that pass a test in this order.
+-- Definitions; what is proved of them stands in proofs/LogOrder.antt.
 use Rattle.std.specs.Prelude.{◌≡◌, Bool, ◌<◌, ◌≤◌, ℕ, leb}
 use Rattle.std.proofs.Math.Bool.{cond, false, true}
 use mathlib.Core.List.{List}

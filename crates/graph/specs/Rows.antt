@@ -1,5 +1,5 @@
--- The kept pairs in their order: the pairs of one lower rank stand together, and
--- each pair with a time stands among them. Bounds of a map's times. Assumes nothing.
+-- The kept pairs in their order: the pairs of one lower rank stand together. Definitions; what is proved of them stands in
+-- proofs/Rows.antt.
 use Rattle.std.specs.Prelude.{◌≡◌, ◌⊎◌, ◌<◌, ◌≤◌, ℕ}
 use Rattle.std.proofs.Math.Option.{some}
 use mathlib.Core.List.{List, Memᴰ}

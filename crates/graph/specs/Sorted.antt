@@ -1,6 +1,5 @@
--- Defines sorting by a test (`sorted`), and what the sorted list of all is that have a property (`SortedOf`). Proves that there is only one
--- such list (`sorted-one`), that sorting makes it (`sorted_all`), and that a list in the reverse order is one backwards (`sorted-reverse`).
--- Assumes nothing.
+-- Defines sorting by a test (`sorted`), and what the sorted list of all is that have a property (`SortedOf`). Definitions; what is
+-- proved of them stands in proofs/Sorted.antt.
 use Rattle.std.specs.Prelude.{◌≡◌, Bool, cond, true}
 use mathlib.Core.List.{List, Memᴰ}
 use mathlib.Core.List.{[], ◌∷◌}

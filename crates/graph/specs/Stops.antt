@@ -1,6 +1,5 @@
--- A list of stops (document 02, A3). Defines when a path meets the stops in their order, and the whole total of its legs. Proves that the
--- whole of least legs is at most the total of every path that meets the stops (`whole-at_most`).
--- Assumes nothing.
+-- A list of stops (document 02, A3). Defines when a path meets the stops in their order, and the whole total of its legs. Definitions;
+-- what is proved of them stands in proofs/Stops.antt.
 use Rattle.std.specs.Prelude.{◌≡◌, ◌<◌, ℕ}
 use Rattle.std.proofs.Math.Option.{some}
 use mathlib.Core.List.{List, Memᴰ, [], ◌∷◌}

@@ -1,5 +1,4 @@
--- Demand 3 in plain sentences: what it says of the call at any place of a list, for whoever reads the answers; each sentence of demand 3,
--- and of A2, A3, A5 and A6, from the one statement alone. Assumes nothing.
+-- The machine after the calls of a list before a place. Definitions; what is proved of them stands in proofs/Demand3Use.antt.
 use mathlib.Core.List.{List, [], ◌∷◌}
 use Rattle.model.specs.Card.{CardMap}
 use Rattle.model.specs.Machine.{Machine}

@@ -1,5 +1,5 @@
--- One go from a good state: its answer, its route and its log are right (`go_right`), the plain machine tells the same (`go-told`), and the
--- two lent areas keep their lengths (`go-lengths`). Assumes nothing.
+-- The plain machine that a state stands for, and lent areas of the same lengths. Definitions; what is proved of them stands in
+-- proofs/GoProof.antt.
 use Rattle.std.specs.Prelude.{◌≡◌, length}
 use Rattle.model.specs.State.{Lent, State}
 use Rattle.model.specs.Machine.{Machine}

@@ -1,4 +1,4 @@
--- A8 on map P: reports of several kinds, with what the unit answers, each shown to obey the theorem by citing it. Assumes nothing.
+-- A8 on map P: what the unit answers to the four calls of a report. Definitions; what is proved of them stands in proofs/ReportP.antt.
 use Rattle.std.specs.Prelude.{List, map, ℕ}
 use Rattle.graph.specs.Least.{measured}
 use Rattle.graph.specs.Pairs.{down, up}

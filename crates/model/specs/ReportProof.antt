@@ -1,6 +1,5 @@
--- A8 holds of every state that a list of calls from an accepted preparing left: one report moves a trip by at most what it says
--- (`report_moves`), a closed road makes no total smaller (`report_closes`), an opened one none larger (`report_opens`). A report on a road
--- that is barred to the class moves nothing (`report_barred`), and none moves an estimate (`report_estimate`). Assumes nothing.
+-- What A8 speaks of in a state: its goes, previews and totals at the times in force. Definitions; what is proved of them stands in
+-- proofs/ReportProof.antt.
 use Rattle.std.specs.Prelude.{List, ℕ, length}
 use Rattle.graph.specs.Total.{Total}
 use Rattle.graph.specs.Search.{Problem, count_of, route_of, total_of}

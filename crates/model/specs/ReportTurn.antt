@@ -1,6 +1,5 @@
--- The states and calls that A8 speaks of are those of a unit that meets its contracts: it keeps reaching such states, and makes the four
--- calls of a report in turn (`in_turn`), or each in one state (`aside`). What `step` says meets the contracts, too (`turned`).
--- Assumes nothing.
+-- The calls of a report, in turn or each in one state, as A8 speaks of them. Definitions; what is proved of them stands in
+-- proofs/ReportTurn.antt.
 use Rattle.std.specs.Prelude.{◌≡◌, List, [], ◌∷◌, ℕ}
 use Rattle.std.proofs.Math.Option.{none}
 use Rattle.model.specs.Types.{Header}

@@ -1,5 +1,5 @@
--- A8 in plain sentences: what `Reported` says of a go before a report, a go after it and a preview of it, each as a rule for whoever reads
--- their answers; and what several reports can do. With `ReportProof` they hold of the unit in every state that calls left. Assumes nothing.
+-- A8 in plain sentences: what is seen where a total can only grow, or only shrink. Definitions; what is proved of them stands in
+-- proofs/ReportUse.antt.
 use Rattle.std.specs.Prelude.{◌≡◌, ◌+◌, ◌-◌, ◌≤◌, ℕ, neg_ℤ, pos}
 use Rattle.std.proofs.Math.Option.{some}
 use Rattle.model.specs.Types.{Answer, Previewed}

@@ -1,6 +1,5 @@
--- A list of stops from a good state, by induction over the stops: each leg is a go whose laws GoProof has. The plain machine makes the same
--- legs (`stops-told`), they are right and so is the whole (`stops-right`), and the two lent areas keep their lengths (`stops-lengths`).
--- Assumes nothing.
+-- What two journeys over the same stops agree in, and how a leg ended. Definitions; what is proved of them stands in
+-- proofs/StopsProof.antt.
 use Rattle.std.specs.Prelude.{◌≡◌, false, true, List, ◌∷◌, suc, ℕ, length, take}
 use Rattle.std.proofs.Math.Option.{some}
 use Rattle.graph.specs.Total.{Total}
