@@ -87,18 +87,23 @@ fn compare<A: Read, B: Read>(a: &mut A, b: &mut B) -> bool {
 
 // Whether a run prints what a file has. What it prints goes to a file of its own.
 fn passes<F: Files>(files: &F, card: &[u8], lines: &[u8], due: &[u8]) -> bool {
-    let Some(mut input) = program_serve::open(files, lines) else {
+    let opened_lines = program_serve::open(files, lines);
+    let opened_due = program_serve::open(files, due);
+    let created = fs::create(files, "printed");
+    let Some(mut input) = opened_lines else {
         return false;
     };
-    let Some(mut wanted) = program_serve::open(files, due) else {
+    let Some(mut wanted) = opened_due else {
         return false;
     };
-    let Ok(mut output) = fs::create(files, "printed") else {
+    let Ok(mut output) = created else {
         return false;
     };
     program_serve::run(files, card, &mut input, &mut output);
+    // nothing is read of a file that is not there
     let Some(mut printed) = program_serve::open(files, b"printed") else {
-        return false;
+        let mut nothing: &[u8] = &[];
+        return compare(&mut nothing, &mut wanted);
     };
     compare(&mut printed, &mut wanted)
 }
