@@ -5,15 +5,15 @@ tells what was, so only its links are looked at; docs/BENCHMARK.md is written by
   sentences   docs/SENTENCES.md is a list: a sentence, an arrow, and what holds it. Each name after the arrow stands in the
               place named before it. A place is `crate/File` (crates/crate/specs/File.antt, and proofs/File.antt, where its theorems
               stand), `crate/src`, `crate/must-fail` (wrong programs of the gate), `crate/tried` (those outside of it),
-              `program_scenarios/data`, or a file of rust/ or crates/ by its path. Names in brackets are fields, declared somewhere in the tree. A sentence that a request of
-              document 02 has changed (CHANGED) says since when.
+              `program_scenarios/data`, or a file of rust/ or crates/ by its path. Names in brackets are fields, declared somewhere
+              in the tree. A sentence that a request of document 02 has changed (CHANGED) says since when.
   names       A name in backquotes is declared somewhere in the tree, `crate::name` in that crate's code, `Type::name` in some
               crate's, `File.name` or `Record.field` in that file or one that declares the record. In a table whose last column
               is File, it is declared in one of the files that its row names. Of docs/PROOFS.md from its part 5 on.
   edits       A wrong program stands in the folder that is said: must-fail, or tried. It begins with a sentence. An edit that
               survives, in docs/MUTANTS.md, changes a line of the code as it stands.
   paths       Links lead to a file and to a heading of it; paths of the repository exist, also those of commands.
-  commands    What rt, tools/tried and tools/mutate are given is a crate.
+  commands    rt has the command that is told, and what rt, tools/tried and tools/mutate are given is a crate.
   counts      Numbers in words and in digits: those of COUNTS, and how many calls and areas there are.
   believed    THEOREMS, part 5, lists every file of definitions that a public contract cites, or that these cite in turn; of the
               crates of code no other; every file of model; and the lines of definitions are those of the tree. Part 1 says how to
@@ -46,6 +46,8 @@ FOREIGN = set('''eqb ltb leb not cond none some replicate get_or take drop lengt
 NAME = r"[\w'-]*[^\W\d][\w'-]*"
 TOP = ('c', 'crates', 'docs', 'examples', 'rust', 'target', 'tools')
 KIT = ('bytes', 'io', 'libc', 'os', 'std')
+# what rt has today; LANDINGS and PORT alone tell of commands that are gone
+COMMANDS = set('all check ci doc expand fmt help lemma lib must-fail new plant run seed selftest test tidy try verdict version'.split())
 
 
 @functools.lru_cache(maxsize=None)
@@ -334,7 +336,11 @@ def paths(text):
 
 
 def commands(text):
-    """Of each crate that a command is given: what is wrong with it, None if there is one."""
+    """Of each command of rt, and of each crate that a command is given: what is wrong with it, None if there is one."""
+    for found in re.finditer(r'(?<![\w-])rt ([a-z][\w-]*)', text):
+        before = text[:found.start()]
+        if before.count('`') % 2 or re.search(r'^    (?:.*(?:&&|[;|(]) ?)?$', before.split('\n')[-1]):
+            yield before.count('\n') + 1, None if found.group(1) in COMMANDS else f'rt has no command {found.group(1)}'
     for found in re.finditer(r'\b(?:rt (?:check|verdict|lib|run|test|try|ci|must-fail|plant|tidy|expand)|tools/(?:tried|mutate))((?: [a-z]\w*)+)', text):
         before = text[:found.start()]
         if before.count('`') % 2 or before.split('\n')[-1].startswith('    '):
