@@ -29,6 +29,8 @@ def crates():
 def functions(source):
     """Name, number of parameters, lines of contract, the longest of these, and lines of body of each function of a file."""
     code = re.sub(r'//.*', '', source)
+    # a trait's functions have no body
+    code = re.sub(r'^(?:pub )?trait .*?^\}', lambda trait: re.sub(r'(\n    fn .*?);\n', r'\1\n    {\n    }\n', trait.group(0), flags=re.S), code, flags=re.M | re.S)
     for found in re.finditer(r'^( *)(?:pub )?(?:extern "C" )?fn (\w+)(.*?)^ *\{', code, re.M | re.S):
         # past the type parameters
         head = re.sub(r'^<(?:[^<>]|<[^<>]*>)*>', '', found.group(3))

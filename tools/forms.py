@@ -1,6 +1,6 @@
 #!/usr/bin/env python3
 """Holds the sentences of documents 01 and 02 that no contract says and that a function's parameter list keeps: what a function is not lent it can
-neither read nor write. The status is 1, with a line for each place, where a list of crates/*/src differs from the tables below, or where a
+neither read nor write. Areas that travel together in a struct count by its fields, wherever it stands. The status is 1, with a line for each place, where a list of crates/*/src differs from the tables below, or where a
 function of theirs is gone.
 
   LENT      what a function is lent to be read (&), lent to be written (&mut) and given by value: these parameters and no other
@@ -26,13 +26,14 @@ LENT = [
      'A1: going on from a logged junction is lent only its group of the roads by tail, and neither area whole'),
     ('search_junctions', 'ask_head', 'roads order ranks pairs times access live down', 'estimates', 'trip i',
      'A1: the same of one road'),
-    ('search_junctions', 'Trip::relax', 'roads access live estimates group', 'room', 'self from',
+    ('search_junctions', 'Trip::relax', 'roads order ranks pairs times access live down estimates group', 'words n', 'self from',
      'A1: going on from a logged junction is lent only its group of the roads by tail, and neither area whole'),
-    ('search_junctions', 'relax_road', 'roads access live estimates', 'room', 'trip i from',
+    ('search_junctions', 'relax_road', 'roads order ranks pairs times access live down estimates', 'words n', 'trip i from',
      'A1: the same of one road'),
-    ('search_queue', 'choose', 'room', '', 'n', 'A4: choosing is lent no estimate'),
-    ('search_queue', 'better_of', 'room', '', 'n x y', 'A4: sums are only compared while choosing'),
-    ('search_queue', 'better_tied', 'room', '', 'n x y', 'A4: sums are only compared while choosing'),
+    ('search_queue', 'choose', 'words', '', '', 'A4: choosing is lent no estimate'),
+    ('search_queue', 'Room::choose', 'words n', '', '', 'A4: choosing is lent no estimate'),
+    ('search_queue', 'Room::better_of', 'words n', '', 'x y', 'A4: sums are only compared while choosing'),
+    ('search_queue', 'Room::better_tied', 'words n', '', 'x y', 'A4: sums are only compared while choosing'),
     ('unit', 'Header::set', f'{BUILT} down estimates elapsed', 'live', 'self road time',
      '01: a call writes only in the areas lent to be written: a set in the live times'),
     ('unit', 'Header::aim', f'{BUILT} live elapsed', 'down estimates', 'self j',
@@ -56,7 +57,7 @@ LENT = [
 
 # crate, its slices, the sentence
 ONLY = [
-    ('search_queue', 'room', 'A4: choosing is lent no estimate'),
+    ('search_queue', 'words n', 'A4: choosing is lent no estimate'),
 ]
 
 # crates, parameters, the sentence
@@ -156,11 +157,44 @@ def path(f):
     return '::'.join(part for part in (f.crate, f.owner, f.name) if part)
 
 
+@functools.lru_cache(maxsize=None)
+def structs():
+    """The fields of each struct of the tree: names, each with its type."""
+    found = {}
+    for file in sorted(glob.glob('crates/*/src/*.rt')):
+        code = re.sub(r'//.*', '', read(file))
+        for struct in re.finditer(r"^(?:pub )?struct (\w+)(?:<[^{(;]*>)? \{", code, re.M):
+            fields = [part.partition(':')[::2] for part in parts(code[struct.end():closing(code, struct.end() - 1)])]
+            found[struct.group(1)] = {re.sub(r'^pub ', '', name.strip()): kind.strip() for name, kind in fields
+                                      if not re.match(r'(?:pub )?ghost\b', name.strip())}
+    return found
+
+
+def bare(kind):
+    """A type without its reference and its lifetimes."""
+    return re.sub(r"<(?:'\w+|_)(?:, '\w+)*>$", '', re.sub(r"^&(?:'\w+ )?(?:mut )?", '', kind))
+
+
+def areas_of(name, kind):
+    """What a parameter lends, name and mode: itself, or, of a struct that holds areas, each of its fields."""
+    written, lent = re.match(r"&(?:'\w+ )?mut ", kind), kind.startswith('&')
+    fields = structs().get(bare(kind))
+    inner = [area for field, of in fields.items() for area in areas_of(field, of)] if fields else []
+    if any(mode != 'given' for _, mode in inner) or (fields and written):
+        # a struct behind a `&` lends nothing to be written; one that is itself lent to be written lends its own arrays so
+        return [(field, 'read' if lent and not written else 'written' if mode == 'given' and written else mode) for field, mode in inner]
+    return [(name, 'written' if written else 'read' if lent and not fields else 'given')]
+
+
 def of_mode(f, mode):
-    """The parameters that are lent to be written, lent to be read, or given by value."""
-    def mode_of(kind):
-        return 'written' if re.match(r"&(?:'\w+ )?mut ", kind) else 'read' if kind.startswith('&') else 'given'
-    return [name for name, kind in f.parameters.items() if mode_of(kind) == mode]
+    """The areas that are lent to be written or to be read, or the parameters given by value."""
+    own = {name: kind for name, kind in f.parameters.items()}
+    for receiver in ('self', '&self', '&mut self'):
+        if receiver in own:
+            own['self'] = receiver[:-4] + f.owner
+            if receiver != 'self':
+                del own[receiver]
+    return [area for name, kind in own.items() for area, has in areas_of(name, kind) if has == mode]
 
 
 def lent(all_functions):
@@ -195,7 +229,8 @@ def never(all_functions):
         if not of_crates:
             yield f'there is no crate {crates}; it holds "{sentence}"'
         for f in of_crates:
-            for name in sorted(set(names.split()) & set(f.parameters)):
+            lent_names = set(f.parameters) | {name for mode in ('read', 'written', 'given') for name in of_mode(f, mode)}
+            for name in sorted(set(names.split()) & lent_names):
                 yield f'{path(f)} has a parameter {name}; {crates} holds "{sentence}"'
 
 
@@ -240,7 +275,7 @@ def converted(all_functions):
 def narrow(all_functions):
     """What is lent under a type parameter, as the program's input and output, is no slice."""
     for f in all_functions:
-        number = sum(re.sub(r"^&(?:'\w+ )?mut ", '', f.parameters[name]) not in f.generic for name in of_mode(f, 'written'))
+        number = sum(bare(f.parameters.get(name, '')) not in f.generic for name in of_mode(f, 'written'))
         if number > MOST_WRITTEN:
             yield f'{path(f)} is lent {number} slices to be written; at most {MOST_WRITTEN}'
 

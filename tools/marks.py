@@ -27,7 +27,7 @@ ALLOWED = {
     # a junction or a road that is out of range, which stands for every larger number of a line
     'crates/line_console/specs/Lines.antt': ['out_of_range = 4294967295'],
     # lines with such numbers: a time that 11 refuses, and junctions
-    'crates/line_console/specs/Examples.antt': ['line = "set 0 4294967295"; says = Call (Set 0 (record { 0 = 4294967295 }))', 'line = "aim 4294967294"; says',
+    'crates/line_console/specs/Examples.antt': ['line = "set 0 4294967295"; says = Some (Set 0 (record { 0 = 4294967295 }))', 'line = "aim 4294967294"; says',
                                                 'line = "aim 4294967295"; says', 'line = "set 0 4294967295"; refused = some NotAllowed'],
     # document 01 word for word
     'docs/SENTENCES.md': ['- "The mark none, 4,294,967,295, is written where no such chain exists."', '  4,294,967,294."', 'closed is 4,294,967,295."'],
@@ -44,8 +44,8 @@ ALLOWED = {
     'tools/cases.py': ['LARGEST = 2 ** 32 - 1  # of the words of a card'],
     # wrong programs: the old mark in 11; as many entries, or junctions, as there can be
     'crates/unit_questions/must-fail/old_mark_closes.edit': ['The mark of 32 bits, 4,294,967,295, closes a road in question 11 still'],
-    'crates/unit_script/tried/whole_areas_lent.edit': ['let roads = at_most(4294967295, route);'],
-    'crates/call_stops/must-fail/junction_found_by_its_leg.edit': ['let below = junctions_fit(counted, 4294967295, stops);'],
+    'crates/unit_script/tried/whole_areas_lent.edit': ['let roads = route.min(4294967295);'],
+    'crates/call_stops/must-fail/junction_found_by_its_leg.edit': ['network::ask(all_below(4294967295, stops), Refusal::NoJunction)?;'],
     # a wrong answer, which the C program is to see
     'rust/tests/c.rs': ['"foretold.then == UNIT_NONE", "foretold.then == UINT32_MAX"'],
     # numbers past the longest time, which 11 refuses

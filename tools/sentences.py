@@ -42,7 +42,7 @@ CHANGED = (r'base time in seconds', r'\b1,000,000\b', r'4,095,000,000', r'4,294,
 
 # words of Rattle, of antt, of the kit and of the commands: no name of ours
 FOREIGN = set('''eqb ltb leb not cond none some replicate get_or take drop length min abbrev unfoldable unfolding use data record
-    requires ensures result rt cc tried'''.split())
+    requires ensures result Some None Ok Err rt cc tried'''.split())
 NAME = r"[\w'-]*[^\W\d][\w'-]*"
 TOP = ('c', 'crates', 'docs', 'examples', 'rust', 'target', 'tools')
 KIT = ('bytes', 'io', 'libc', 'os', 'std')
@@ -64,7 +64,7 @@ def names_of(file):
     forms = {
         '.antt': r'^ *(?:abbrev |unfoldable )?(?:pub )?(?:record |data |mod )?(\S+)(?= )',
         '.rs': r'(?:fn|struct|enum|const) (\w+)',
-        '.rt': r'(?:fn|struct|enum|const) (\w+)|^    (?:pub )?(\w+)[:,(]',
+        '.rt': r'(?:fn|struct|enum|trait|const|type) (\w+)|^    (?:pub )?(\w+)[:,(]',
     }
     form = forms.get(os.path.splitext(file)[1])
     found = re.finditer(form, read(file), re.M) if form and os.path.isfile(file) else ()
@@ -372,8 +372,10 @@ def questions():
     return how_many(r'^abbrev pub \w+ : (?:\((?:place|count|leg) : ℕ\) → )?Refusal$', 'crates/model/specs/Types.antt')
 
 
-def refusal_constants():
-    return how_many(r'^ *pub const \w+: Refusal\b', 'crates/network/src/lib.rt')
+def refusal_cases():
+    """The cases of the code's refusal."""
+    cases = re.search(r'^pub enum Refusal \{\n(.*?)^\}', read('crates/network/src/lib.rt'), re.M | re.S).group(1)
+    return len(re.findall(r'^    \w+(?:\(u32\))?,$', cases, re.M))
 
 
 def calls():
@@ -394,8 +396,8 @@ def answers():
 COUNTS = (
     ('docs/THEOREMS.md', r'the ([\w-]+) from `Short` to `\w+`', questions),
     ('docs/SENTENCES.md', r'`Short` to `\w+` are the ([\w-]+)', questions),
-    ('docs/DECISIONS.md', r'each of the (\w+) questions', questions),
-    ('docs/THEOREMS.md', r'The other (\w+) are constants', refusal_constants),
+    ('docs/DECISIONS.md', r'each of the (\w+) questions', refusal_cases),
+    ('docs/THEOREMS.md', r'`Refusal` has a case for each of the (\w+) questions', refusal_cases),
     ('docs/THEOREMS.md', r'the (\w+), with what each is lent', calls),
     ('docs/DECISIONS.md', r'`Calls` lists the (\w+)', calls),
     ('README.md', r'the (\w+) calls, a list of calls, and what C', calls),

@@ -1,4 +1,5 @@
 -- An aim by what its questions said and what was written (`aim-made`). Assumes nothing.
+use Rattle.std.specs.Prelude.{Ok, Some}
 use mathlib.Core.Path.{◌∙◌, ◌≡◌, ap, ap₂, sym}
 use mathlib.Core.Option.{none}
 use mathlib.Core.List.{List}
@@ -23,7 +24,6 @@ use Rattle.model.specs.Good.{Good}
 use Rattle.network.specs.declared.Junction.{Junction}
 use Rattle.unit_answers.specs.declared.Answer.TheVariants as answers
 use Rattle.pairs_descents.specs.Downs.{Descended}
-use Rattle.calls.specs.declared.Target.TheVariants as targets
 use Rattle.calls.specs.Shape.{Handed, Held, answered_in, header_in}
 use Rattle.calls.specs.Meets.{with_aimed}
 use Rattle.calls.specs.Refused.{made_by}
@@ -46,7 +46,7 @@ pub aim-made : {card : List ℕ} {h : Held} {a : Areas} {k : Lent} {l : Each ℕ
     → CallPassed card h l (Aim j.0) → {pairs times order down estimates d e : List ℕ} → a.built.pairs ≡ pairs → a.built.times ≡ times
     → a.aimed ≡ record { down = down; estimates = estimates } → order ≡ order_in card
     → Descended order pairs times h.sizes.pairs d j.0 → e ≡ replicate (length estimates) unasked
-    → {r : Handed} → r ≡ record { header = record { sizes = h.sizes; target = targets.At j }; answer = answers.Accepted }
+    → {r : Handed} → r ≡ record { header = record { sizes = h.sizes; target = Some j }; answer = Ok answers.Accepted }
     → CallContract card (before (header_in h) a) (calling (Aim j.0) k) (after (answered_in r) (with_aimed a d e) k)
 aim-made {card} {h} {a} {k} {j} lengths-are p {d = d} {e} pairs_are times_are aimed-is order_is descended filled-is handed =
     let here = passed_of a lengths-are p in

@@ -1,4 +1,5 @@
 -- An estimate by what its questions said and what was written (`estimate-made`). Assumes nothing.
+use Rattle.std.specs.Prelude.{Ok}
 use mathlib.Core.Path.{◌∙◌, ◌≡◌, ap, ap₂, refl, subst, sym}
 use mathlib.Core.Bool.{true}
 use mathlib.Core.Option.{none}
@@ -41,7 +42,7 @@ pub estimate-made : {card : List ℕ} {h : Held} {a : Areas} {k : Lent} {l : Eac
     → a.built.ranks ≡ ranks → a.built.pairs ≡ pairs → a.built.times ≡ times
     → a.aimed ≡ record { down = down; estimates = estimates } → order ≡ order_in card
     → estimates-of.Estimated order ranks pairs times h.sizes.pairs down estimates e j v.0
-    → {r : Handed} → r ≡ record { header = h; answer = answers.Estimated v }
+    → {r : Handed} → r ≡ record { header = h; answer = Ok (answers.Estimated v) }
     → CallContract card (before (header_in h) a) (calling (Estimate j) k) (after (answered_in r) (with_aimed a down e) k)
 estimate-made {card} {h} {a} {k} {j} lengths-are p {down = down} {e = e} {v} ranks_are pairs_are times_are aimed-is order_is done {r}
     handed =

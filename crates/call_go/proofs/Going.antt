@@ -6,6 +6,7 @@ use mathlib.Core.List.{List}
 use Prim.Native.Nat.{◌≤◌, ℕ}
 use borrow.Author.Tests.{leb-true, ltb-true}
 use lib.Dec.{leb, ltb}
+use Rattle.std.specs.Prelude.{Result}
 use lib.ListN.{length}
 use Rattle.graph.specs.Total.{Total}
 use Rattle.graph.proofs.Total.{and_true}
@@ -14,7 +15,7 @@ use Rattle.graph.specs.Map.{Map}
 use Rattle.model.specs.Types.{Answer, Header, LentLengths, NoClass, NoJunction, NoTarget}
 use Rattle.model.specs.Limits.{classes}
 use Rattle.model.specs.Layout.{access_in, order_in, roads_in}
-use Rattle.model.specs.Word.{of_word, word}
+use Rattle.model.specs.Word.{word}
 use Rattle.model.specs.Bytes.{listed}
 use Rattle.model.specs.Card.{card_map}
 use Rattle.model.specs.Areas.{Areas}
@@ -27,6 +28,7 @@ use Rattle.model.specs.Promises.{CallContract, after, before}
 use Rattle.model.proofs.Laws.{ask-none, kept_refl}
 use Rattle.model.specs.Good.{Good}
 use Rattle.unit_answers.specs.Shape.{answer_in}
+use Rattle.network.specs.declared.Refusal as code
 use Rattle.unit_answers.specs.declared.Answer as code-answer
 use Rattle.unit_questions.specs.Lending.{lent_of}
 use Rattle.network.specs.Bodies.{map_in}
@@ -35,7 +37,7 @@ use Rattle.search_run.specs.Runs.{Written, written_of}
 use Rattle.search.specs.Searches.{Found, Searches}
 use Rattle.calls.specs.Shape.{Handed, Held, answered_in, header_in, target_in}
 use Rattle.calls.specs.Refused.{made_by}
-use Rattle.calls.specs.Trips.{TripPassed, Trips, as_left, given_in, met_by, on-card, total_read}
+use Rattle.calls.specs.Trips.{TripPassed, Trips, as_left, given_in, met_by, on-card}
 
 -- ---- the questions
 
@@ -108,7 +110,7 @@ module _ (u : Held) (a : Areas) (times : List ℕ) (s : ℕ) (k : Lent) where
   made-is M = refl
 
   -- the search found it on the map of what it was given
-  module _ {roads order : List ℕ} {l : Written} {total count number : ℕ}
+  module _ {roads order : List ℕ} {l : Written} {total : Total} {count number : ℕ}
       (d : Found (given_in u a times roads order) s z (written_in a k) l total count number) where
     abbrev G : Problem
     G = go_given (given_in u a times roads order) s z
@@ -118,21 +120,22 @@ module _ (u : Held) (a : Areas) (times : List ℕ) (s : ℕ) (k : Lent) where
         ap₂ (λ (e : List ℕ) (t : List ℕ). written_of e t l.ways l.log) d.least.estimates_are d.elapsed-is
         ∙ ap₂ (written_of (written_on (map_in roads order)).estimates (written_on (map_in roads order)).elapsed) d.route-is d.log_is
 
-    answer-is : go_answer (of_word total) count number ≡ go_answer (total_of G) (count_of G) (length (route_of G))
+    answer-is : go_answer total count number ≡ go_answer (total_of G) (count_of G) (length (route_of G))
     answer-is =
-        ap (λ (w : Total). go_answer w count number) (total_read (total_of G) d.least.total-is d.least.fits)
+        ap (λ (w : Total). go_answer w count number) d.least.total-is
         ∙ ap₂ (go_answer (total_of G)) d.count-is d.number_is
 
-    found-is : left_by (go_answer (of_word total) count number) l ≡ go_at (map_in roads order) (before h a) times s k
+    found-is : left_by (go_answer total count number) l ≡ go_at (map_in roads order) (before h a) times s k
     found-is = ap₂ left_by answer-is written_is ∙ made-is (map_in roads order)
 
 -- a go of class v whose search answered so
 pub go-handed : {card : List ℕ} {u : Held} {a : Areas} {v s : ℕ} {k : Lent} → TripPassed card u a (Go v s) k s
     → {z : ℕ} → z ≡ target_of (target_in u.target) → {access roads order : List ℕ} → roads ≡ roads_in card → order ≡ order_in card
-    → access ≡ access_in card → {l : Written} {total count number : ℕ}
+    → access ≡ access_in card → {l : Written} {total : Total} {count number : ℕ}
     → Searches (given_in u a (met_by access v a.live) roads order) a.built.leaving a.built.groups s z (written_in a k) l total count
     number
-    → {x : code-answer.Answer} → answer_in x ≡ go_answer (of_word total) count number → {r : Handed} → r ≡ record { header = u; answer = x }
+    → {x : Result code-answer.Answer code.Refusal} → answer_in x ≡ go_answer total count number
+    → {r : Handed} → r ≡ record { header = u; answer = x }
     → CallContract card (before (header_in u) a) (go_call v s k)
     (after (answered_in r) (gone_areas a l.estimates l.elapsed) (lent_of l.ways l.log))
 unfolding left_by
@@ -150,7 +153,7 @@ go-handed {card} {u} {a} {v} {s} {k} p target_is roads_are order_is access-is {l
         Searches (given_in u a (met_by x v a.live) r o) a.built.leaving a.built.groups s z (written_in a k) l total count number
 
     exactly : Good card (before (header_in u) a)
-        → left_by u a met s k (go_answer (of_word total) count number) l ≡ go_made (card_map card) (before (header_in u) a) v s k
+        → left_by u a met s k (go_answer total count number) l ≡ go_made (card_map card) (before (header_in u) a) v s k
     exactly g =
         let searched = on-card card u Searched target_is access-is roads_are order_is d in
         found-is u a met s k (searched.exact (as_left u g v p.starts.aimed))

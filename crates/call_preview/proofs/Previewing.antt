@@ -6,6 +6,7 @@ use mathlib.Core.List.{List}
 use Prim.Native.Nat.{◌≤◌, ℕ}
 use borrow.Author.Tests.{eqb-true, ltb-true}
 use lib.Dec.{eqb, ltb}
+use Rattle.std.specs.Prelude.{Result}
 use lib.ListN.{length, set}
 use native.Mathlib.Omega.{arith}
 use Rattle.graph.specs.Total.{Total}
@@ -15,7 +16,6 @@ use Rattle.model.specs.Types.{Accepted, Answer, Estimated, Gone, Header, Lengths
 use Rattle.model.specs.Types.{Stopped}
 use Rattle.model.specs.Limits.{classes, most_total}
 use Rattle.model.specs.Layout.{access_in, order_in, roads_in}
-use Rattle.model.specs.Word.{of_word, word}
 use Rattle.model.specs.Card.{card_map, map_on}
 use Rattle.model.specs.Areas.{Areas}
 use Rattle.model.specs.State.{Lent, Step, answering}
@@ -31,13 +31,14 @@ use Rattle.model.specs.Good.{Good}
 use Rattle.model.proofs.Good.{met-good, set-good}
 use Rattle.unit_answers.specs.Signed.{held, held-is}
 use Rattle.unit_answers.specs.Shape.{answer_in}
+use Rattle.network.specs.declared.Refusal as code
 use Rattle.unit_answers.specs.declared.Answer as code-answer
 use Rattle.network.specs.Bodies.{map_in}
 use Rattle.search.specs.Searches.{FindsBoth, FoundBoth, Settable}
 use Rattle.calls.specs.Shape.{Handed, Held, answered_in, header_in, target_in}
 use Rattle.calls.specs.Meets.{with_aimed}
 use Rattle.calls.specs.Refused.{made_by, set_same}
-use Rattle.calls.specs.Trips.{TripPassed, Trips, as_left, given_in, met_by, on-card, total_read}
+use Rattle.calls.specs.Trips.{TripPassed, Trips, as_left, given_in, met_by, on-card}
 
 -- ---- answers
 
@@ -94,9 +95,9 @@ preview-facts {card} {u} {v = v} {i} {t} {j} {w} p = (parts card (header_in u) v
 
 -- ---- a preview that was made
 
--- a total that a search tells, read in its word, is one that a signed number holds
-total-held : {w : ℕ} (x : Total) → w ≡ word x → ((t : ℕ) → x ≡ some t → t ≤ most_total) → held (of_word w) ≡ x
-total-held x word-is fits = ap held (total_read x word-is fits) ∙ held-is x (record { below = λ t e. omega (arith, fits t e) })
+-- a total that a search tells is one that a signed number holds
+total-held : {w : Total} (x : Total) → w ≡ x → ((t : ℕ) → x ≡ some t → t ≤ most_total) → held w ≡ x
+total-held x total-is fits = ap held total-is ∙ held-is x (record { below = λ t e. omega (arith, fits t e) })
 
 -- with searches at these times and at those
 module _ (u : Held) (a : Areas) (now then : List ℕ) (j : ℕ) (k : Lent) where
@@ -119,9 +120,9 @@ module _ (u : Held) (a : Areas) (now then : List ℕ) (j : ℕ) (k : Lent) where
   made-is M = refl
 
   -- both searches found it on the map of what they were given
-  found-is : {roads order e : List ℕ} {present new : ℕ}
+  found-is : {roads order e : List ℕ} {present new : Total}
       → FoundBoth (given_in u a now roads order) then j z a.aimed.estimates e present new
-      → left_by (preview_answer (held (of_word present)) (held (of_word new))) e ≡ preview_at (map_in roads order) (before h a) now then j k
+      → left_by (preview_answer (held present) (held new)) e ≡ preview_at (map_in roads order) (before h a) now then j k
   found-is {roads} {order} d =
       let M = map_in roads order in
       ap₂ left_by
@@ -138,10 +139,10 @@ then-settable g k v i t allowed = (met-good (set-good g i t k (set_same i t (λ 
 -- a preview of class v whose searches answered so
 pub preview-handed : {card : List ℕ} {u : Held} {a : Areas} {v i t j w : ℕ} {k : Lent}
     → TripPassed card u a (Preview v i t j w) k j → {z : ℕ} → z ≡ target_of (target_in u.target) → {access roads order : List ℕ}
-    → roads ≡ roads_in card → order ≡ order_in card → access ≡ access_in card → {e : List ℕ} {present new : ℕ}
+    → roads ≡ roads_in card → order ≡ order_in card → access ≡ access_in card → {e : List ℕ} {present new : Total}
     → FindsBoth (given_in u a (met_by access v a.live) roads order) (met_by access v (set a.live i t)) a.built.leaving
     a.built.groups j z a.aimed.estimates e present new
-    → {x : code-answer.Answer} → answer_in x ≡ preview_answer (held (of_word present)) (held (of_word new))
+    → {x : Result code-answer.Answer code.Refusal} → answer_in x ≡ preview_answer (held present) (held new)
     → {r : Handed} → r ≡ record { header = u; answer = x }
     → CallContract card (before (header_in u) a) (calling (Preview v i t j w) k)
     (after (answered_in r) (with_aimed a a.aimed.down e) k)
@@ -166,7 +167,7 @@ preview-handed {card} {u} {a} {v} {i} {t} {j} {w} {k} p target_is roads_are orde
         a.aimed.estimates e present new
 
     exactly : Good card (before (header_in u) a)
-        → left_by u a now then j k (preview_answer (held (of_word present)) (held (of_word new))) e
+        → left_by u a now then j k (preview_answer (held present) (held new)) e
         ≡ preview_made (card_map card) (before (header_in u) a) v i t j k
     exactly g =
         let searched = on-card card u Searched target_is access-is roads_are order_is d in
@@ -180,8 +181,9 @@ pub work-refused : {work : List ℕ} {x : Answer} → WorkLeft work work x
 work-refused = record { length-stays = refl; refused = λ q e. refl }
 
 -- otherwise its length stayed
-pub work-made : {work work' : List ℕ} → length work' ≡ length work → {present new : Total} {u : Held} {x : code-answer.Answer}
-    → answer_in x ≡ preview_answer present new → {r : Handed} → r ≡ record { header = u; answer = x }
+pub work-made : {work work' : List ℕ} → length work' ≡ length work → {present new : Total}
+    {u : Held} {x : Result code-answer.Answer code.Refusal} → answer_in x ≡ preview_answer present new → {r : Handed}
+    → r ≡ record { header = u; answer = x }
     → WorkLeft work work' (answer_in r.answer)
 work-made length-is answer-is handed = record {
   length-stays = length-is;

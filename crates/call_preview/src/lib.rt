@@ -2,49 +2,25 @@
 #![tactic(auto)]
 
 ghost use Rattle.std.specs.Prelude.{◌≡◌};
-ghost use Rattle.model.specs.Card.{and_then};
 ghost use Rattle.model.specs.Calls.{Preview};
 ghost use Rattle.model.specs.Promises.{base_on};
 ghost use Rattle.network.specs.Refusals.{verdict_in};
-ghost use Rattle.network.specs.Lending.{areas};
-ghost use Rattle.unit_questions.specs.Lending.{lengths_in, mut};
+ghost use Rattle.unit_questions.specs.Lending.{areas_with, lengths_in, mut};
 ghost use Rattle.calls.specs.Shape.{handed, header_in, held};
-ghost use Rattle.calls.specs.Meets.{CalledPreview, asks_trip, asks_way};
+ghost use Rattle.calls.specs.Meets.{CalledPreview, asks_trip};
 
-use calls::Target;
 use network::{Junction, Refusal, Sizes, Time, TimeWord, Verdict};
-use search_junctions::{Trip, View};
+use pairs_records::Records;
+use search_junctions::{Atlas, ByTail, Trip, View};
 use unit_answers::Answer;
-use unit_questions::Lengths;
-
-// First these questions, then those.
-fn and_then(first: Verdict, rest: Verdict) -> Verdict
-    ensures { verdict_in result ≡ and_then (verdict_in first) (verdict_in rest) }
-{
-    match first {
-        Verdict::Failed(q) => Verdict::Failed(q),
-        Verdict::Passed => rest,
-    }
-}
-
-// Questions 12 and 13 of a preview; then 9 for a target out of range, as a go.
-fn way_asked(sizes: Sizes, target: Target, start: Junction) -> Verdict
-    ensures { verdict_in result ≡ asks_way (header_in (held sizes target)) start.0 }
-{
-    let n = sizes.n;
-    let below = start.0 < n;
-    let aimed = calls::is_aimed(target);
-    let inside = calls::aimed_at(target).0 < n;
-    let led = network::ask(inside, Refusal::LENGTHS, Verdict::Passed);
-    let known = network::ask(aimed, Refusal::NO_TARGET, led);
-    network::ask(below, Refusal::NO_JUNCTION, known)
-}
+use unit_questions::{Lengths, Prepared};
 
 // Questions 9, 18 and 10 to 13 of a preview: 9, its work area's length last; the class; then as a set of that road, and as a go from
-// that start.
+// that start; then 9 for a target out of range, as a go.
+#[tactic(auto, unfolding(model::specs::Preview::preview_refusal, model::specs::Estimate::estimate_refusal, model::specs::Set::set_refusal))]
 fn preview_asked(
     sizes: Sizes,
-    target: Target,
+    target: Option<Junction>,
     card: &[u8],
     l: Lengths,
     work: usize,
@@ -56,73 +32,70 @@ fn preview_asked(
     ensures { verdict_in result ≡ asks_trip (base_on card.now) (header_in (held sizes target)) card.now (lengths_in l)
         (Preview class road time.0 start.0 work) 0 0 }
 {
-    if !calls::fits(sizes, card, l) {
-        return Verdict::Failed(Refusal::LENGTHS);
-    }
-    let sized = unit_questions::work_fits(sizes.n, work);
-    let driven = unit_questions::class_fits(class);
-    let setting = call_set::time_asked(sizes, card, road, time);
-    let way = way_asked(sizes, target, start);
-    let rest = and_then(setting, way);
-    let classed = network::ask(driven, Refusal::NO_CLASS, rest);
-    network::ask(sized, Refusal::LENGTHS, classed)
+    network::ask(calls::fits(sizes, card, l), Refusal::Lengths)?;
+    network::ask(unit_questions::work_fits(sizes.n, work), Refusal::Lengths)?;
+    network::ask(unit_questions::class_fits(class), Refusal::NoClass)?;
+    call_set::time_asked(sizes, card, road, time)?;
+    calls::start_asked(sizes, target, start)?;
+    calls::target_asked(sizes, target)
 }
 
 // What if that road took so long? The total of a class's go from a start now and with that time set, and the change (document 02, A2).
 // The work area serves the two searches; what it holds before and after does not matter.
 pub fn preview(
     sizes: Sizes,
-    target: Target,
-    card: &[u8],
-    ranks: &[u32],
-    pairs: &[u32],
-    times: &[TimeWord],
+    target: Option<Junction>,
+    p: Prepared,
     live: &[TimeWord],
     down: &[TimeWord],
     estimates: &mut [TimeWord],
     elapsed: &[TimeWord],
-    leaving: &[u32],
-    groups: &[u32],
     work: &mut [TimeWord],
     class: u32,
     road: u32,
     time: Time,
     start: Junction,
-) -> Answer
-    ensures { CalledPreview card.now (held sizes target)
-        (areas ranks pairs times live down (mut estimates) elapsed leaving groups)
+) -> Result<Answer, Refusal>
+    ensures { CalledPreview p.entry.card.now (held sizes target) (areas_with p live down (mut estimates) elapsed)
         work.old work.new class road time.0 start.0 (handed (held sizes target) result) }
 {
-    let l = unit_questions::lengths_of(
-        ranks, pairs, times, live, down, estimates, elapsed, leaving, groups,
-    );
-    match preview_asked(sizes, target, card, l, work.len(), class, road, time, start) {
-        Verdict::Failed(q) => Answer::Refused(q),
-        Verdict::Passed => {
-            let trip = Trip {
-                sizes: sizes,
-                start: start,
-                target: calls::aimed_at(target),
-                class: class,
-                view: View::Live,
-            };
-            let found = search::totals(
-                trip,
-                View::Set(road, time),
-                card_layout::roads_of(card),
-                card_layout::order_of(card),
-                ranks,
-                pairs,
-                times,
-                card_layout::access_of(card),
-                live,
-                down,
-                leaving,
-                groups,
-                estimates,
-                work,
-            );
-            unit_answers::previewed(found.present, found.new)
-        }
-    }
+    let l = p.lengths(live, down, estimates, elapsed);
+    preview_asked(
+        sizes,
+        target,
+        p.card,
+        l,
+        work.len(),
+        class,
+        road,
+        time,
+        start,
+    )?;
+    let trip = Trip {
+        sizes: sizes,
+        start: start,
+        target: calls::aimed_at(target),
+        class: class,
+        view: View::Live,
+    };
+    // as call_go has it: in place its fields compute, and a function's clause on each would be longer
+    let atlas = Atlas {
+        roads: card_layout::roads_of(p.card),
+        order: card_layout::order_of(p.card),
+        access: card_layout::access_of(p.card),
+        ranks: p.ranks,
+        records: Records {
+            pairs: p.pairs,
+            times: p.times,
+        },
+        live: live,
+        down: down,
+    };
+    let by_tail = ByTail {
+        leaving: p.leaving,
+        groups: p.groups,
+    };
+    let set = View::Set(road, time);
+    let found = search::totals(trip, set, &atlas, by_tail, estimates, work);
+    Ok(unit_answers::previewed(found.present, found.new))
 }

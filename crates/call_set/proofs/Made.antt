@@ -1,4 +1,5 @@
 -- A set by what its questions said and what was written (`set-made`). Assumes nothing.
+use Rattle.std.specs.Prelude.{Ok}
 use mathlib.Core.Path.{◌∙◌, ◌≡◌, ap, ap₂, sym}
 use mathlib.Core.List.{List}
 use Prim.Native.Nat.{◌<◌, ℕ}
@@ -29,7 +30,7 @@ module _ {card : List ℕ} {h : Held} {l : Each ℕ} where
 
 pub set-made : {card : List ℕ} {h : Held} {a : Areas} {k : Lent} {l : Each ℕ} {i t : ℕ} → lengths a ≡ l
     → CallPassed card h l (Set i t) → {live : List ℕ} → a.live ≡ live → {v : ℕ} → v ≡ t
-    → {r : Handed} → r ≡ record { header = h; answer = answers.Accepted }
+    → {r : Handed} → r ≡ record { header = h; answer = Ok answers.Accepted }
     → CallContract card (before (header_in h) a) (calling (Set i t) k) (after (answered_in r) (with_live a (set live i v)) k)
 set-made {card} {h} {a} {k} {i} {t} lengths-are p {live} live-is {v} time-is {r} handed =
     let written : after (answered_in r) (with_live a (set live i v)) k ≡ made (card_map card) (before (header_in h) a) (Set i t) k =

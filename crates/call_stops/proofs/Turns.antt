@@ -11,6 +11,7 @@ use native.Mathlib.Decide.{dec_lt}
 use native.Mathlib.Numerals.{add-one}
 use native.Mathlib.Omega.{arith}
 use denote.Triple.Both.{Both}
+use Rattle.std.specs.Prelude.{Err, Ok, Result}
 use Rattle.model.specs.Types as model
 use Rattle.model.specs.Limits.{most_legs, most_stops}
 use Rattle.model.specs.Card.{map_on}
@@ -22,17 +23,16 @@ use Rattle.model.specs.Promises.{after, before}
 use Rattle.model.specs.Good.{Good, StopsPassed}
 use Rattle.model.proofs.Good.{left-good, stops-passed}
 use Rattle.model.specs.GoProof.{SameLengths}
-use Rattle.network.specs.Refusals.{refusal_in}
 use Rattle.network.specs.declared.Refusal.{Refusal}
+use Rattle.network.specs.declared.Refusal.TheVariants.{NoLeg}
 use Rattle.unit_answers.specs.Shape.{answer_in}
 use Rattle.unit_answers.specs.declared.Answer.{Answer}
-use Rattle.unit_answers.specs.declared.Answer.TheVariants.{Accepted, Estimated, Gone, Previewed, Refused}
+use Rattle.unit_answers.specs.declared.Answer.TheVariants.{Accepted, Estimated, Gone, Previewed}
 use Rattle.unit_questions.specs.Lending.{lent_of}
 use Rattle.calls.specs.Shape.{Handed, Held, answered_in, header_in}
 use Rattle.calls.specs.Refused.{passed-there}
 use Rattle.call_stops.specs.declared.Visited.{Visited}
-use Rattle.call_stops.specs.declared.Stopping.TheVariants as stopping
-use Rattle.call_stops.specs.Shape.{legs_from, no_legs, sum_in}
+use Rattle.call_stops.specs.Shape.{legs_from, sum_in}
 use Rattle.call_stops.specs.Legs.{Journeys, LegMade}
 use Rattle.call_stops.proofs.OneLeg.{LegDone, Stays, leg-done, leg-stays, stays_on, stays_same}
 use Rattle.call_stops.proofs.OnWay.{OnWay, from-below, gone_total, log-room, route-room, to_below, way_end, way-lost, way-start}
@@ -114,12 +114,12 @@ back-length at x y h e =
 
 -- ---- answers that are no route
 
-lost-answer : (x : Answer) → ((t count k : ℕ) → x ≡ Gone t count k → ⊥) → gone_total (answer_in x) ≡ none
-lost-answer (Refused q) h = refl
-lost-answer Accepted h = refl
-lost-answer (Estimated t) h = refl
-lost-answer (Previewed a b c) h = refl
-lost-answer (Gone t count k) h = absurd (h t count k refl)
+pub lost-answer : (x : Result Answer Refusal) → ((t count k : ℕ) → x ≡ Ok (Gone t count k) → ⊥) → gone_total (answer_in x) ≡ none
+lost-answer (Err q) h = refl
+lost-answer (Ok Accepted) h = refl
+lost-answer (Ok (Estimated t)) h = refl
+lost-answer (Ok (Previewed a b c)) h = refl
+lost-answer (Ok (Gone t count k)) h = absurd (h t count k refl)
 
 -- ---- one turn: a leg from stop i
 
@@ -163,24 +163,21 @@ module _ {card : List ℕ} {c : ℕ} {stops : List ℕ} {s₀ : State} {l₀ : L
         (route-room g asked more same way) (log-room g asked more same way)
 
   -- it has no path: 17
-  pub turn-lost : ((t count k : ℕ) → x.answer ≡ Gone t count k → ⊥) → {q : Refusal} → refusal_in q ≡ model.NoLeg i → {r : Visited}
-      → r ≡ record { target = x.header.target; answer = stopping.Refused q; legs = no_legs }
+  pub turn-lost : gone_total (answer_in x.answer) ≡ none → {r : Visited} → r ≡ record { target = x.header.target; answer = Err (NoLeg i) }
       → Journeys card x.header.sizes s₀.header (record { entry = s₀.areas; exit = a.exit })
       (record { entry = l₀; exit = lent_of (back at route y) log' }) c stops r
-  turn-lost lost {q} q-is {r} handed =
+  turn-lost lost {r} handed =
       subst (λ (z : Visited). Journeys card x.header.sizes s₀.header (record { entry = s₀.areas; exit = a.exit })
       (record { entry = l₀; exit = lent_of (back at route y) log' }) c stops z) (sym handed) (record {
         writes = record { leaves = (stays_on inv.stays (leg-stays leg)).leaves };
         exact = λ w e.
             let p : Passed card c stops s₀ l₀ = record { left = w; asked = e } in
-            ap (λ (z : model.Refusal). answering (model.Refused z) (before (header_in x.header) a.exit)
-            (lent_of (back at route y) log')) q-is
-            ∙ way-lost (passed-good p) (asked p) more same (inv.way p) (done p) (lost-answer x.answer lost) (back_is at route y);
+            way-lost (passed-good p) (asked p) more same (inv.way p) (done p) lost (back_is at route y);
         rest = record { few-legs = omega arith; totals_end = λ j k. zeros j; roads-end = λ j k. zeros j };
       })
 
   -- it has one
-  pub turn-again : length stops ≤ most_stops → {t count k : ℕ} → x.answer ≡ Gone t count k
+  pub turn-again : length stops ≤ most_stops → {t count k : ℕ} → x.answer ≡ Ok (Gone t count k)
       → length a.exit.aimed.down ≡ length a.entry.aimed.down
       → length a.exit.aimed.estimates ≡ length a.entry.aimed.estimates
       → length a.exit.trip.elapsed ≡ length a.entry.trip.elapsed
@@ -219,7 +216,10 @@ pub turn_end : {card : List ℕ} {c : ℕ} {stops : List ℕ} {s₀ : State} {l�
     {totals roads : List ℕ} {whole at i : ℕ} → length stops ≤ most_stops → length stops - 1 ≤ i
     → AtLeg card c stops (length stops - 1) s₀ l₀ (before (header_in h) a) l totals roads whole at i
     → Journeys card h.sizes s₀.header (record { entry = s₀.areas; exit = a }) (record { entry = l₀; exit = l }) c stops
-    (record { target = h.target; answer = stopping.Stopped (length stops - 1) whole; legs = record { totals = totals; roads = roads } })
+    (record {
+      target = h.target;
+      answer = Ok (record { number = length stops - 1; whole = whole; legs = record { totals = totals; roads = roads } });
+    })
 turn_end {card} {c} {stops} {s₀} {l₀} {h} {a} {l} {totals} {roads} {whole} {at} {i} many test inv =
     let last : i ≡ length stops - 1 = omega (arith, test, inv.to-go) in
     record {

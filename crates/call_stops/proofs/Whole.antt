@@ -10,6 +10,7 @@ use lib.Dec.{leb}
 use lib.ListN.{length}
 use native.Mathlib.Omega.{arith}
 use Rattle.graph.proofs.Total.{and_true}
+use Rattle.std.specs.Prelude.{Err, Ok, Result}
 use Rattle.model.specs.Types as model
 use Rattle.model.specs.Limits.{fewest_stops, most_stops}
 use Rattle.model.specs.Areas.{Areas, Each, lengths}
@@ -20,15 +21,11 @@ use Rattle.model.specs.Promises.{base_on}
 use Rattle.model.proofs.Laws.{ask-none}
 use Rattle.network.specs.Refusals.{verdict_in}
 use Rattle.network.specs.declared.Refusal.{Refusal}
-use Rattle.network.specs.declared.Verdict.{Verdict}
-use Rattle.network.specs.declared.Verdict.TheVariants.{Failed, Passed}
 use Rattle.unit_questions.specs.Lending.{fits_by}
 use Rattle.calls.specs.Shape.{Held, header_in}
 use Rattle.calls.specs.Meets.{asks}
 use Rattle.calls.specs.Refused.{made-left, refused-by}
 use Rattle.call_stops.specs.declared.Visited.{Visited}
-use Rattle.call_stops.specs.declared.Stopping.TheVariants as stopping
-use Rattle.call_stops.specs.Shape.{no_legs}
 use Rattle.call_stops.specs.Legs.{Journeys, CalledStops, RoomFor}
 use Rattle.call_stops.proofs.Turns.{zeros}
 
@@ -38,7 +35,7 @@ pub record ListPassed (card : List ℕ) (h : model.Header) (l : Each ℕ) (c : �
   pub asked : refusal_by (base_on card) h (calling (Stops c stops) lent) ≡ none
 
 module _ {card : List ℕ} {h : model.Header} {l : Each ℕ} {c : ℕ} {stops : List ℕ} {lent : Lent} where
-  pub list_passed : {x : Verdict} → x ≡ Passed
+  pub list_passed : {x : Result Unit Refusal} {u : Unit} → x ≡ Ok u
       → verdict_in x ≡ asks (base_on card) h card l (Stops c stops) (length lent.route) (length lent.log)
       → ListPassed card h l c stops lent
   list_passed passes says =
@@ -55,9 +52,9 @@ module _ {card : List ℕ} {h : model.Header} {l : Each ℕ} {c : ℕ} {stops : 
       record { few = leb-true fewest_stops (length stops) few; many = leb-true (length stops) most_stops many }
 
 module _ {card : List ℕ} (u : Held) {a : Areas} {l : Each ℕ} (lengths-are : l ≡ lengths a) {c : ℕ} {stops : List ℕ} {lent : Lent} where
-  pub stops-refused : {x : Verdict} {q : Refusal} → x ≡ Failed q
+  pub stops-refused : {x : Result Unit Refusal} {q : Refusal} → x ≡ Err q
       → verdict_in x ≡ asks (base_on card) (header_in u) card l (Stops c stops) (length lent.route) (length lent.log)
-      → {r : Visited} → r ≡ record { target = u.target; answer = stopping.Refused q; legs = no_legs }
+      → {r : Visited} → r ≡ record { target = u.target; answer = Err q }
       → CalledStops card u (record { entry = a; exit = a }) (record { entry = lent; exit = lent }) c stops r
   stops-refused fails says handed =
       let there = sym (ap verdict_in fails) ∙ says

@@ -1,48 +1,46 @@
 // A list of stops of a class (document 02, A3 and A6): leg by leg an aim and a go.
 #![tactic(auto)]
 
-ghost use Rattle.std.specs.Prelude.{◌≡◌, ◌&&◌, ◌*◌, ◌+◌, ◌≤◌, min, ℕ, leb};
+ghost use Rattle.std.specs.Prelude.{◌≡◌, Err, ◌&&◌, ◌*◌, ◌≤◌, ℕ, leb, length};
 ghost use Rattle.graph.specs.Total.{Total};
 ghost use Rattle.model.specs.Limits.{fewest_stops, most_stops};
 ghost use Rattle.model.specs.Stops.{all_below};
 ghost use Rattle.model.specs.Calls.{Stops};
 ghost use Rattle.network.specs.Refusals.{verdict_in};
-ghost use Rattle.network.specs.Lending.{areas};
-ghost use Rattle.unit_questions.specs.Lending.{lengths_in, lent, mut};
+ghost use Rattle.unit_questions.specs.Lending.{areas_with, lengths_in, lent, mut};
 ghost use Rattle.calls.specs.Shape.{answered_in, header_in, held};
 ghost use Rattle.calls.specs.Meets.{asks};
-ghost use Rattle.call_stops.specs.Shape.{no_legs, sum_in};
 ghost use Rattle.call_stops.specs.Legs.{CalledStops, Journeys, LegMade, RoomFor};
 
 use call_aim::Aimed;
-use calls::Target;
 use network::{FEWEST_STOPS, Junction, MOST_STOPS, Refusal, Sizes, Time, TimeWord, Verdict};
+use pairs_records::Records;
 use unit_answers::Answer;
-use unit_questions::Lengths;
+use unit_questions::{Lengths, Prepared};
 
 // A list has at most so many legs.
 pub const MOST_LEGS: usize = MOST_STOPS - 1;
 
-// The total and the number of roads of each leg; 0 past the last.
+// The total and the number of roads of each leg; 0 past the last. Two arrays, as the C interface hands them back (unit_c's UnitStops).
 #[derive(Drop)]
 pub struct Legs {
     pub totals: [TimeWord; MOST_LEGS],
     pub roads: [u32; MOST_LEGS],
 }
 
-// A refusal, or the number of legs and the whole total.
-#[derive(Clone, Copy)]
-pub enum Stopping {
-    Refused(Refusal),
-    Stopped(u32, TimeWord),
+// What a list of stops whose every leg has a path answers: the number of legs, the whole total, the legs.
+#[derive(Drop)]
+pub struct Journey {
+    pub number: u32,
+    pub whole: TimeWord,
+    pub legs: Legs,
 }
 
-// What a list of stops hands back: the target in force, the answer, the legs.
+// What a list of stops hands back: the target in force, and the answer.
 #[derive(Drop)]
 pub struct Visited {
-    pub target: Target,
-    pub answer: Stopping,
-    pub legs: Legs,
+    pub target: Option<Junction>,
+    pub answer: Result<Journey, Refusal>,
 }
 
 // ---- questions
@@ -51,14 +49,7 @@ pub struct Visited {
 fn all_below(n: u32, stops: &[u32]) -> bool
     ensures { result ≡ all_below n stops.now }
 {
-    let mut i = 0;
-    while i < stops.len() {
-        if n <= stops[i] {
-            return false;
-        }
-        i += 1;
-    }
-    true
+    stops.iter().all(|&s| s < n)
 }
 
 // Question 16.
@@ -68,28 +59,20 @@ fn count_fits(stops: usize) -> bool
     (FEWEST_STOPS <= stops) & (stops <= MOST_STOPS)
 }
 
-// Question 12. A list that 16 refuses is not gone through.
-fn junctions_fit(counted: bool, n: u32, stops: &[u32]) -> bool
-    ensures { result ≡ (counted && all_below n stops.now) }
-{
-    if counted { all_below(n, stops) } else { false }
-}
-
 // Question 14, of a list of so many stops.
 fn lent_fit(n: u32, stops: usize, route: usize, log: usize) -> bool
+    requires { stops ≤ most_stops }
     ensures { result ≡ (leb (stops * n) route && leb n log) }
 {
     let n = n as usize;
-    if n == 0 {
-        return true;
-    }
-    (stops <= route / n) & (n <= log)
+    (stops * n <= route) & (n <= log)
 }
 
 // Questions 9, 16, 18, 12 and 14.
+#[tactic(auto, unfolding(model::specs::Stops::stops_refusal))]
 fn stops_asked(
     sizes: Sizes,
-    target: Target,
+    target: Option<Junction>,
     card: &[u8],
     l: Lengths,
     route: usize,
@@ -100,16 +83,14 @@ fn stops_asked(
     ensures { (base : ℕ → Total) → verdict_in result ≡ asks base (header_in (held sizes target)) card.now (lengths_in l)
         (Stops class stops.now) route log }
 {
-    let fits = unit_questions::usable(sizes, card) & unit_questions::sized(sizes, card.len(), l);
-    let counted = count_fits(stops.len());
-    let driven = unit_questions::class_fits(class);
-    let below = junctions_fit(counted, sizes.n, stops);
-    let roomy = lent_fit(sizes.n, stops.len(), route, log);
-    let lent = network::ask(roomy, Refusal::LENT_LENGTHS, Verdict::Passed);
-    let known = network::ask(below, Refusal::NO_JUNCTION, lent);
-    let classed = network::ask(driven, Refusal::NO_CLASS, known);
-    let listed = network::ask(counted, Refusal::STOP_COUNT, classed);
-    network::ask(fits, Refusal::LENGTHS, listed)
+    network::ask(calls::fits(sizes, card, l), Refusal::Lengths)?;
+    network::ask(count_fits(stops.len()), Refusal::StopCount)?;
+    network::ask(unit_questions::class_fits(class), Refusal::NoClass)?;
+    network::ask(all_below(sizes.n, stops), Refusal::NoJunction)?;
+    network::ask(
+        lent_fit(sizes.n, stops.len(), route, log),
+        Refusal::LentLengths,
+    )
 }
 
 // ---- legs
@@ -117,36 +98,31 @@ fn stops_asked(
 // One leg: an aim at its end, and a go of the class from its start.
 fn leg(
     sizes: Sizes,
-    target: Target,
-    card: &[u8],
-    ranks: &[u32],
-    pairs: &[u32],
-    times: &[TimeWord],
+    target: Option<Junction>,
+    p: Prepared,
     live: &[TimeWord],
     down: &mut [TimeWord],
     estimates: &mut [TimeWord],
     elapsed: &mut [TimeWord],
-    leaving: &[u32],
-    groups: &[u32],
     route: &mut [u32],
     log: &mut [u32],
     class: u32,
     from: Junction,
     to: Junction,
 ) -> Aimed
-    ensures { LegMade card.now (header_in (held sizes target))
-        (areas ranks pairs times live (mut down) (mut estimates) (mut elapsed) leaving groups)
+    ensures { LegMade p.entry.card.now (header_in (held sizes target)) (areas_with p live (mut down) (mut estimates) (mut elapsed))
         (lent (mut route) (mut log)) class from.0 to.0
         (answered_in (record { header = held sizes result.target; answer = result.answer })) }
 {
-    let l = unit_questions::lengths_of(
-        ranks, pairs, times, live, down, estimates, elapsed, leaving, groups,
-    );
-    let aimed = call_aim::aim(sizes, target, card, l, pairs, times, down, estimates, to);
+    let l = p.lengths(live, down, estimates, elapsed);
+    let records = Records {
+        pairs: p.pairs,
+        times: p.times,
+    };
+    let aimed = call_aim::aim(sizes, target, p.card, l, records, down, estimates, to);
     let z = aimed.target;
     let answer = call_go::go(
-        sizes, z, card, ranks, pairs, times, live, down, estimates, elapsed, leaving, groups,
-        route, log, class, from,
+        sizes, z, p, live, down, estimates, elapsed, route, log, class, from,
     );
     Aimed {
         target: z,
@@ -154,112 +130,68 @@ fn leg(
     }
 }
 
-// The sum of two totals; the mark none where it does not fit, which no areas make.
-fn sum(a: TimeWord, b: TimeWord) -> TimeWord
-    ensures { result ≡ sum_in a b }
-{
-    Time::of_word(a).plus(Time::of_word(b)).word()
-}
-
-// So many entries on, at most to the end of an area of `most` entries.
-fn further(at: usize, number: u32, most: usize) -> usize
-    requires { at ≤ most }
-    ensures { result ≡ min (at + number) most }
-{
-    let k = number as usize;
-    if most - at < k { most } else { at + k }
-}
-
 // What is handed back with a refusal.
-fn refused(target: Target, q: Refusal) -> Visited
-    ensures { result ≡ record { target = target; answer = Stopping.Refused q; legs = no_legs } }
+fn refused(target: Option<Junction>, q: Refusal) -> Visited
+    ensures { result ≡ record { target = target; answer = Err q } }
 {
-    let totals = [0; MOST_LEGS];
-    let roads = [0u32; MOST_LEGS];
     Visited {
         target: target,
-        answer: Stopping::Refused(q),
-        legs: Legs {
-            totals: totals,
-            roads: roads,
-        },
+        answer: Err(q),
     }
 }
 
 // Leg after leg, each lent the route area behind the roads of those before it, up to the last or to one that has no path.
-fn journey(
+fn visit(
     sizes: Sizes,
-    target: Target,
-    card: &[u8],
-    ranks: &[u32],
-    pairs: &[u32],
-    times: &[TimeWord],
+    target: Option<Junction>,
+    p: Prepared,
     live: &[TimeWord],
     down: &mut [TimeWord],
     estimates: &mut [TimeWord],
     elapsed: &mut [TimeWord],
-    leaving: &[u32],
-    groups: &[u32],
     route: &mut [u32],
     log: &mut [u32],
     class: u32,
     stops: &[u32],
 ) -> Visited
     requires { RoomFor stops.now }
-    ensures { Journeys card.now sizes (header_in (held sizes target))
-        (areas ranks pairs times live (mut down) (mut estimates) (mut elapsed) leaving groups)
-        (lent (mut route) (mut log)) class stops.now result }
+    ensures { Journeys p.entry.card.now sizes (header_in (held sizes target))
+        (areas_with p live (mut down) (mut estimates) (mut elapsed)) (lent (mut route) (mut log)) class stops.now result }
 {
     let mut totals = [0; MOST_LEGS];
     let mut roads = [0u32; MOST_LEGS];
     let number = stops.len() - 1;
     let mut t = target;
-    let mut whole: TimeWord = 0;
+    let mut whole = Time(0);
     let mut at = 0;
-    let mut i = 0;
-    while i < number {
-        let next = i + 1;
+    for i in 0..number {
         let from = Junction(stops[i]);
-        let to = Junction(stops[next]);
+        let to = Junction(stops[i + 1]);
+        let rest = &mut route[at..];
         let made = leg(
-            sizes,
-            t,
-            card,
-            ranks,
-            pairs,
-            times,
-            live,
-            down,
-            estimates,
-            elapsed,
-            leaving,
-            groups,
-            &mut route[at..],
-            log,
-            class,
-            from,
-            to,
+            sizes, t, p, live, down, estimates, elapsed, rest, log, class, from, to,
         );
         t = made.target;
-        let answer = made.answer;
-        match answer {
-            Answer::Gone(total, _, k) => {
+        match made.answer {
+            Ok(Answer::Gone(total, _, k)) => {
                 totals[i] = total;
                 roads[i] = k;
-                whole = sum(whole, total);
-                at = further(at, k, route.len());
+                whole = whole.plus(Time(total));
+                at = (at + k as usize).min(route.len());
             }
-            _ => return refused(t, Refusal::no_leg(i as u32)),
+            _ => return refused(t, Refusal::NoLeg(i as u32)),
         }
-        i = next;
     }
     Visited {
         target: t,
-        answer: Stopping::Stopped(number as u32, whole),
-        legs: Legs {
-            totals: totals,
-            roads: roads,
-        },
+        answer: Ok(Journey {
+            number: number as u32,
+            whole: whole.0,
+            legs: Legs {
+                totals: totals,
+                roads: roads,
+            },
+        }),
     }
 }
 
@@ -270,34 +202,34 @@ fn journey(
 // a path.
 pub fn stops(
     sizes: Sizes,
-    target: Target,
-    card: &[u8],
-    ranks: &[u32],
-    pairs: &[u32],
-    times: &[TimeWord],
+    target: Option<Junction>,
+    p: Prepared,
     live: &[TimeWord],
     down: &mut [TimeWord],
     estimates: &mut [TimeWord],
     elapsed: &mut [TimeWord],
-    leaving: &[u32],
-    groups: &[u32],
     route: &mut [u32],
     log: &mut [u32],
     class: u32,
     stops: &[u32],
 ) -> Visited
-    ensures { CalledStops card.now (held sizes target)
-        (areas ranks pairs times live (mut down) (mut estimates) (mut elapsed) leaving groups)
+    ensures { CalledStops p.entry.card.now (held sizes target) (areas_with p live (mut down) (mut estimates) (mut elapsed))
         (lent (mut route) (mut log)) class stops.now result }
 {
-    let l = unit_questions::lengths_of(
-        ranks, pairs, times, live, down, estimates, elapsed, leaving, groups,
-    );
-    match stops_asked(sizes, target, card, l, route.len(), log.len(), class, stops) {
-        Verdict::Failed(q) => refused(target, q),
-        Verdict::Passed => journey(
-            sizes, target, card, ranks, pairs, times, live, down, estimates, elapsed, leaving,
-            groups, route, log, class, stops,
+    let l = p.lengths(live, down, estimates, elapsed);
+    match stops_asked(
+        sizes,
+        target,
+        p.card,
+        l,
+        route.len(),
+        log.len(),
+        class,
+        stops,
+    ) {
+        Err(q) => refused(target, q),
+        Ok(()) => visit(
+            sizes, target, p, live, down, estimates, elapsed, route, log, class, stops,
         ),
     }
 }

@@ -1,6 +1,6 @@
 -- The calls by what their questions said: passed, or a refusal. Assumes nothing.
 use Rattle.std.proofs.Common.{◌∙◌, ap, subst, sym}
-use Rattle.std.specs.Prelude.{◌≡◌, refl, true, List, ℕ}
+use Rattle.std.specs.Prelude.{◌≡◌, Err, Ok, Result, refl, true, List, ℕ}
 use Rattle.std.proofs.Math.Option.{none, some}
 use Rattle.graph.proofs.Total.{true_false}
 use Rattle.model.specs.Types as model
@@ -15,9 +15,6 @@ use Rattle.model.proofs.Laws.{ask-none}
 use Rattle.model.specs.Good.{AimFacts, Aims, Good}
 use Rattle.network.specs.Refusals.{refusal_in, verdict_in}
 use Rattle.network.specs.declared.Refusal as code
-use Rattle.network.specs.declared.Verdict.{Verdict}
-use Rattle.network.specs.declared.Verdict.TheVariants.{Failed, Passed}
-use Rattle.unit_answers.specs.declared.Answer.TheVariants as answers
 use Rattle.unit_questions.specs.Lending.{fits_by}
 use Rattle.calls.specs.Shape.{Handed, Held, answered_in, header_in}
 use Rattle.calls.specs.Meets.{asks, with_aimed, with_live}
@@ -33,7 +30,7 @@ pub record CallPassed (card : List ℕ) (h : Held) (l : Each ℕ) (c : Asked) : 
   pub sizes : Fits (header_in h) card l
 
 module _ {card : List ℕ} {h : Held} {l : Each ℕ} where
-  pub call-passed : {c : Asked} {x : Verdict} → x ≡ Passed → verdict_in x ≡ asks (base_on card) (header_in h) card l c 0 0
+  pub call-passed : {c : Asked} {x : Result Unit code.Refusal} → x ≡ Ok tt → verdict_in x ≡ asks (base_on card) (header_in h) card l c 0 0
       → CallPassed card h l c
   call-passed {c} passes verdict-is =
       let own = refusal_of (known_of (base_on card) (header_in h)) c 0 0 in
@@ -56,10 +53,10 @@ aimed-at {card} {h} {a} g e =
 
 -- ---- a refusal leaves header and areas as they were
 
-pub refused : {card : List ℕ} {h : Held} {a : Areas} {c : Asked} {k : Lent} {x : Verdict} {q : code.Refusal} {r : Handed}
-    {l : Each ℕ} → lengths a ≡ l → x ≡ Failed q
+pub refused : {card : List ℕ} {h : Held} {a : Areas} {c : Asked} {k : Lent} {x : Result Unit code.Refusal} {q : code.Refusal} {r : Handed}
+    {l : Each ℕ} → lengths a ≡ l → x ≡ Err q
     → verdict_in x ≡ ask (fits_by (header_in h) card l) Lengths (refusal_by (base_on card) (header_in h) (calling c k))
-    → r ≡ record { header = h; answer = answers.Refused q }
+    → r ≡ record { header = h; answer = Err q }
     → CallContract card (before (header_in h) a) (calling c k) (after (answered_in r) a k)
 refused {card} {h} {a} {c} {k} {q} lengths-are fails verdict-is handed =
     let own = refusal_by (base_on card) (header_in h) (calling c k) in

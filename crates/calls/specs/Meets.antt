@@ -45,9 +45,9 @@ target_asked h = ask (ltb (target_of h.target) h.n) model.Lengths none
 abbrev pub asks_trip : (base : ℕ → Total) → model.Header → (card : List ℕ) → Each ℕ → Asked → (route log : ℕ) → Option model.Refusal
 asks_trip base h card l c r k = and_then (asks base h card l c r k) (target_asked h)
 
--- 12 and 13 of a start; then 9 for a target out of range
-abbrev pub asks_way : model.Header → (start : ℕ) → Option model.Refusal
-asks_way h s = ask (ltb s h.n) model.NoJunction (ask (is_at h.target) model.NoTarget (target_asked h))
+-- 12 and 13 of a start
+abbrev pub start_asked : model.Header → (start : ℕ) → Option model.Refusal
+start_asked h s = ask (ltb s h.n) model.NoJunction (ask (is_at h.target) model.NoTarget none)
 
 -- ---- the areas with what a call writes
 

@@ -1,7 +1,7 @@
 -- What the calls that search from a start to the target share: their questions, a refusal (`trip-refused`), what a search is lent
 -- (`within`) and what it relies on (`as_left`). Assumes nothing.
 use Rattle.std.proofs.Common.{◌∙◌, ap, subst, subst₂, sym, inl, inr, ltb-false, ltb-true, arith}
-use Rattle.std.specs.Prelude.{◌≡◌, refl, ◌⊎◌, Bool, false, true, List, ◌<◌, ◌≤◌, ℕ, ltb, length}
+use Rattle.std.specs.Prelude.{◌≡◌, Err, Ok, Result, refl, ◌⊎◌, Bool, false, true, List, ◌<◌, ◌≤◌, ℕ, ltb, length}
 use Rattle.std.proofs.Math.Option.{Option, none, some}
 use Rattle.graph.specs.Total.{Total}
 use Rattle.graph.proofs.Total.{some-some}
@@ -23,9 +23,6 @@ use Rattle.model.specs.Good.{Good, met_times}
 use Rattle.model.proofs.Good.{met-good}
 use Rattle.network.specs.Refusals.{refusal_in, verdict_in}
 use Rattle.network.specs.declared.Refusal as code
-use Rattle.network.specs.declared.Verdict.{Verdict}
-use Rattle.network.specs.declared.Verdict.TheVariants.{Failed, Passed}
-use Rattle.unit_answers.specs.declared.Answer.TheVariants as answers
 use Rattle.unit_questions.specs.Lending.{fits_by}
 use Rattle.search_junctions.specs.State.{Given, given_of}
 use Rattle.search_run.specs.Runs.{Within}
@@ -74,7 +71,8 @@ which none true q e = absurd (let z : ◌≡◌ {A = ℕ} 0 1 = cc in omega arit
 which none false q e = inr (refl, refl, some-some refl e)
 
 module _ {card : List ℕ} {u : unit.Held} {a : Areas} {c : Asked} {k : Lent} {s : ℕ} (trips : Trips card (header_in u) a c k s) where
-  pub trip-passed : {x : Verdict} → x ≡ Passed → verdict_in x ≡ trip_verdict card (header_in u) (lengths a) c k → TripPassed card u a c k s
+  pub trip-passed : {x : Result Unit code.Refusal} → x ≡ Ok tt → verdict_in x ≡ trip_verdict card (header_in u) (lengths a) c k
+      → TripPassed card u a c k s
   trip-passed passes verdict-is =
       let h = header_in u in
       let fits = fits_by h card (lengths a) in
@@ -92,8 +90,8 @@ module _ {card : List ℕ} {u : unit.Held} {a : Areas} {c : Asked} {k : Lent} {s
 
   -- ---- a refused call
 
-  pub trip-refused : {x : Verdict} {q : code.Refusal} {r : Handed} → x ≡ Failed q
-      → verdict_in x ≡ trip_verdict card (header_in u) (lengths a) c k → r ≡ record { header = u; answer = answers.Refused q }
+  pub trip-refused : {x : Result Unit code.Refusal} {q : code.Refusal} {r : Handed} → x ≡ Err q
+      → verdict_in x ≡ trip_verdict card (header_in u) (lengths a) c k → r ≡ record { header = u; answer = Err q }
       → CallContract card (before (header_in u) a) (calling c k) (after (answered_in r) a k)
   trip-refused {q = q} fails verdict-is handed =
       let inside = ltb (target_of (target_in u.target)) u.sizes.n in

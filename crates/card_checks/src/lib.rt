@@ -8,6 +8,7 @@ ghost use Rattle.model.specs.Card.{count_ok, kinds_ok, road_fits, sizes_ok, star
 use network::TimeWord;
 
 // Question 2, of the number of sections.
+#[tactic(auto, unfolding(model::specs::Card::count_ok))]
 pub fn count_ok(count: u32) -> bool
     ensures { result ≡ count_ok count }
 {
@@ -20,13 +21,11 @@ pub fn kinds_ok(card: &[u8]) -> bool
     ensures { result ≡ kinds_ok roads_kind (sections_from card.now 0 (sections card.now)) }
 {
     let count = card_layout::sections(card);
-    let mut i: u32 = 0;
-    while i < count {
+    for i in 0..count {
         let s = card_layout::section_at(card, i as usize);
         if s.kind != card_layout::ROADS_KIND + i {
             return false;
         }
-        i += 1;
     }
     true
 }
@@ -40,8 +39,7 @@ pub fn starts_ok(card: &[u8]) -> bool
 {
     let count = card_layout::sections(card);
     let mut at = card_layout::table_size(count);
-    let mut i: u32 = 0;
-    while i < count {
+    for i in 0..count {
         let s = card_layout::section_at(card, i as usize);
         let end = at + s.size as usize;
         if s.start as usize != at {
@@ -51,12 +49,12 @@ pub fn starts_ok(card: &[u8]) -> bool
             return false;
         }
         at = end;
-        i += 1;
     }
     at == card.len()
 }
 
 // Question 4, of two lengths in bytes.
+#[tactic(auto, unfolding(model::specs::Card::sizes_ok))]
 pub fn sizes_ok(roads: usize, order: usize) -> bool
     ensures { result ≡ sizes_ok roads order }
 {
@@ -68,6 +66,7 @@ pub fn sizes_ok(roads: usize, order: usize) -> bool
 }
 
 // Question 5, of the numbers of one road.
+#[tactic(auto, unfolding(model::specs::Card::road_fits))]
 pub fn road_ok(n: u32, tail: u32, head: u32, base: TimeWord) -> bool
     ensures { result ≡ road_fits n tail head base }
 {
@@ -79,16 +78,10 @@ pub fn place_ok(n: u32, j: u32, seen: &mut [u8]) -> bool
     ensures value { result ≡ (ltb j n && ltb j (length seen.old) && eqb (get_or seen.old j 0) 0) }
     ensures seen_after { seen.new ≡ cond result (set seen.old j 1) seen.old }
 {
-    if n <= j {
-        return false;
-    }
     let i = j as usize;
-    if seen.len() <= i {
-        return false;
+    let free = (j < n) && (i < seen.len()) && (seen[i] == 0);
+    if free {
+        seen[i] = 1;
     }
-    if seen[i] != 0 {
-        return false;
-    }
-    seen[i] = 1;
-    true
+    free
 }

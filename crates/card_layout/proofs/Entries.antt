@@ -1,43 +1,32 @@
 -- The ways through the entries and bodies of a card. Assumes nothing.
-use mathlib.Core.Path.{◌∙◌, ◌≡◌, ap, ap₂, refl, sym}
+use mathlib.Core.Path.{◌∙◌, ◌≡◌, ap, refl, sym}
 use mathlib.Core.Logic.{inl, inr}
-use mathlib.Core.Bool.{Bool, ◌&&◌, cond, false, true}
-use mathlib.Core.List.{List, [], ◌++◌}
-use Prim.Native.Nat.{◌*◌, ◌+◌, ◌-◌, ◌<◌, ◌≤◌, ℕ}
-use borrow.Author.Tests.{le-leb, le-ltb, leb-false, leb-true, lt-leb, lt-ltb, ltb-true}
-use borrow.Rule.Slice.PartMut.{post_of}
-use lib.Dec.{eqb, leb, ltb}
-use lib.ListN.{get_or-eq_default, drop, get_or, length, take}
+use mathlib.Core.Bool.{Bool, cond, false, true}
+use mathlib.Core.List.{List, [], ◌∷◌}
+use Rattle.std.specs.Int.{from_le_bytes, w32}
+use Prim.Native.Nat.{◌+◌, ◌-◌, ◌<◌, ◌≤◌, ℕ}
+use borrow.Author.Tests.{le-leb, leb-false, leb-true, lt-leb, lt-ltb, ltb-true}
+use lib.Dec.{leb, ltb}
+use lib.ListN.{drop, get_or, length, take}
 use native.Mathlib.Nat.{add-sub_cancel_left}
 use native.Mathlib.Omega.{arith}
 use Rattle.graph.specs.Total.{Tested}
 use Rattle.graph.proofs.Total.{and_true, decide, true_false}
 use Rattle.model.specs.Bytes.{word_at}
-use Rattle.model.specs.Layout.{Section, access_fits, body, body_at, entry_at, entry_of, has_entry, names}
+use Rattle.model.specs.Layout.{Section, body, body_at, entry_at, entry_of, has_entry}
 use Rattle.model.specs.Layout.{part_of, section, sections, table_size}
 use Rattle.model.proofs.Laws.{true_and}
 use Rattle.card_layout.specs.Sections.{entry_after}
 
 -- ---- the table
 
--- byte i of a card that has ended
-pub no_byte : (card : List ℕ) (i : ℕ) → length card ≤ i → 0 ≡ get_or card i 0
-no_byte card i h = sym (get_or-eq_default card 0 h)
-
 -- the first word, by its bytes
 pub count_read : (card : List ℕ) {a b c d : ℕ} → a ≡ get_or card 0 0 → b ≡ get_or card 1 0 → c ≡ get_or card 2 0 → d ≡ get_or card 3 0
-    → a + 256 * b + 65536 * c + 16777216 * d ≡ sections card
+    → from_le_bytes w32 (a ∷ b ∷ c ∷ d ∷ []) ≡ sections card
 unfolding word_at
-count_read card ea eb ec ed = rw (ea, eb, ec, ed)
+count_read card ea eb ec ed = rw (ea, eb, ec, ed) (omega arith)
 
 -- ---- has the table an entry i?
-
-module _ (card : List ℕ) (i c : ℕ) (e : c ≡ sections card) where
-  pub has_none : c ≤ i → false ≡ has_entry card i
-  has_none h = sym (ap (◌&& leb (entry_at (i + 1)) (length card)) (le-ltb i (sections card) (omega arith)))
-
-  pub has_some : i < c → leb (entry_at (i + 1)) (length card) ≡ has_entry card i
-  has_some h = sym (ap (◌&& leb (entry_at (i + 1)) (length card)) (lt-ltb i (sections card) (omega arith)))
 
 -- an entry that there is, and one that there is not
 pub has_both : (card : List ℕ) (i : ℕ) → has_entry card i ≡ true → (i < sections card) × (entry_at (i + 1) ≤ length card)
@@ -76,16 +65,6 @@ module _ (card : List ℕ) (i : ℕ) {b : Bool} (e : b ≡ has_entry card i) whe
   entry-is : b ≡ true → section card i ≡ entry_of card i
   unfolding entry_of
   entry-is t = sym (ap (λ (x : Bool). cond x (section card i) (record { kind = 0; start = 0; size = 0 })) (sym e ∙ t))
-
-  -- the words that were read are the entry's
-  pub entry_read : {k s l : ℕ} → b ≡ true → k ≡ word_at card (entry_at i) → s ≡ word_at card (entry_at i + 4)
-      → l ≡ word_at card (entry_at i + 8)
-      → record { kind = k; start = s; size = l } ≡ entry_of card i
-  entry_read {k} {s} {l} t ek es el = same ek es el ∙ entry-is t
-    where
-      same : {a b c : ℕ} → k ≡ a → s ≡ b → l ≡ c
-          → ◌≡◌ {A = Section} (record { kind = k; start = s; size = l }) (record { kind = a; start = b; size = c })
-      same p q r = rw (p, q, r)
 
 -- ---- bodies
 
@@ -144,12 +123,6 @@ pub read_entry : (card : List ℕ) (i : ℕ) → i < sections card → table_siz
 read_entry card i l h =
     entry-is card i refl (true_and _ _ (lt-ltb i (sections card) l) (le-leb (entry_at (i + 1)) (length card) (omega arith)))
 
--- ---- the table that is written
-
--- a table put at the head of an area
-pub put_first : {p q : List ℕ} (area : List ℕ) → p ≡ q → p ++ post_of 0 (table_size 2) area ≡ q ++ drop (table_size 2) area
-put_first area e = ap (λ (x : List ℕ). x ++ drop (table_size 2) area) e
-
 -- ---- a walk
 
 -- the body at the place after entry i is that of entry i + 1: both are nothing where the table has no entry i
@@ -162,21 +135,3 @@ next-body card i = go (decide (has_entry card i))
     go (inr f) =
         ap (body_at card) (sym (after_none card i refl f))
         ∙ ap (part_of card) (sym (no-entry card i refl f) ∙ no-entry card (i + 1) refl (has_not card i f))
-
--- ---- questions of the bodies
-
-pub two-at_most : (card : List ℕ) (m : ℕ) {c : ℕ} → c ≡ sections card → c ≤ 2 → true ≡ access_fits card m
-two-at_most card m e h =
-    sym (ap (λ (x : Bool). cond x (has_entry card 2 && names card 2 m) true) (le-ltb 2 (sections card) (omega arith)))
-
-pub third-is : (card : List ℕ) (m : ℕ) {c : ℕ} {x y : Bool} → c ≡ sections card → 2 < c → x ≡ has_entry card 2 → y ≡ names card 2 m
-    → x && y ≡ access_fits card m
-third-is card m e h p q =
-    ap₂ (λ (x : Bool) (y : Bool). x && y) p q
-    ∙ sym (ap (λ (x : Bool). cond x (has_entry card 2 && names card 2 m) true) (lt-ltb 2 (sections card) (omega arith)))
-
--- an entry as the code has it names what the definition's does
-pub names-by : (card : List ℕ) (i k : ℕ) {s : Section} → s ≡ entry_of card i
-    → eqb s.size k && leb (s.start + s.size) (length card) ≡ names card i k
-unfolding names
-names-by card i k e = ap (λ (s : Section). eqb s.size k && leb (s.start + s.size) (length card)) e

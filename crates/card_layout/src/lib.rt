@@ -36,24 +36,22 @@ pub struct Section {
 fn byte_at(card: &[u8], i: usize) -> u8
     ensures { result ≡ get_or card.now i 0 }
 {
-    if card.len() <= i {
-        return 0;
-    }
-    card[i]
+    card.get(i).copied().unwrap_or(0)
 }
 
-// The number of sections: the first word.
+// The number of sections: the first word. Every call asks it, so where there is a whole word it is read at once.
 pub fn sections(card: &[u8]) -> u32
     ensures { result ≡ layout.sections card.now }
 {
     if COUNT_SIZE <= card.len() {
         return network::word_at(card, 0);
     }
-    let a = network::wide(byte_at(card, 0));
-    let b = network::wide(byte_at(card, 1));
-    let c = network::wide(byte_at(card, 2));
-    let d = network::wide(byte_at(card, 3));
-    a + 256 * b + 65536 * c + 16777216 * d
+    u32::from_le_bytes([
+        byte_at(card, 0),
+        byte_at(card, 1),
+        byte_at(card, 2),
+        byte_at(card, 3),
+    ])
 }
 
 // The bytes of a table of so many entries.
@@ -68,13 +66,11 @@ fn has_entry(card: &[u8], i: usize) -> bool
     ensures { result ≡ has_entry card.now i }
 {
     let count = sections(card) as usize;
-    if count <= i {
-        return false;
-    }
-    COUNT_SIZE + ENTRY_SIZE * (i + 1) <= card.len()
+    (i < count) && (COUNT_SIZE + ENTRY_SIZE * (i + 1) <= card.len())
 }
 
 // Entry i; where there is none, that of an empty body.
+#[tactic(auto, using(crate::proofs::Entries::fits), unfolding(model::specs::Layout::entry_of))]
 pub fn section_at(card: &[u8], i: usize) -> Section
     ensures { section_in result ≡ entry_of card.now i }
 {
@@ -93,6 +89,7 @@ pub fn section_at(card: &[u8], i: usize) -> Section
 }
 
 // The entry after entry i; where there is no entry i, i.
+#[tactic(auto, using(crate::proofs::Entries::fits), unfolding(crate::specs::Sections::entry_after))]
 pub fn entry_after(card: &[u8], i: usize) -> usize
     ensures { result ≡ entry_after card.now i }
 {
@@ -101,7 +98,8 @@ pub fn entry_after(card: &[u8], i: usize) -> usize
 
 // ---- bodies
 
-// The part of the card that an entry names; nothing if it reaches past the card's end.
+// The part of the card that an entry names; nothing if it reaches past the card's end. The test stands here, not in a `get` of the library,
+// since the edit past_the_card gets it wrong.
 pub fn body(card: &[u8], s: Section) -> &[u8]
     ensures { result.now ≡ part_of card.now (section_in s) }
 {
@@ -114,6 +112,7 @@ pub fn body(card: &[u8], s: Section) -> &[u8]
 }
 
 // The body of entry i.
+#[tactic(auto, unfolding(model::specs::Layout::body_at))]
 pub fn body_at(card: &[u8], i: usize) -> &[u8]
     ensures { result.now ≡ body_at card.now i }
 {
@@ -153,6 +152,7 @@ pub fn access_of(card: &[u8]) -> &[u8]
 }
 
 // Does entry i name a body of k bytes inside the card? A body without bytes needs no entry.
+#[tactic(auto, unfolding(model::specs::Layout::names))]
 fn names(card: &[u8], i: usize, k: usize) -> bool
     ensures { result ≡ names card.now i k }
 {
@@ -173,6 +173,7 @@ pub fn access_fits(card: &[u8], m: usize) -> bool
 }
 
 // Does the table name bodies for n junctions and m roads?
+#[tactic(auto, unfolding(model::specs::Layout::named))]
 pub fn named(card: &[u8], n: u32, m: u32) -> bool
     ensures { result ≡ named card.now n m }
 {

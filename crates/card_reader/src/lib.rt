@@ -16,35 +16,38 @@ pub struct Reader<'a> {
     pub at: usize,
 }
 
-// A reader at the first entry.
-pub fn new<'a>(card: &'a [u8]) -> Reader<'a>
-    ensures { (result.card ≡ card.entry) × (result.at ≡ 0) }
-{
-    Reader { card, at: 0 }
-}
+impl<'a> Reader<'a> {
+    // A reader at the first entry.
+    pub fn new(card: &'a [u8]) -> Self
+        ensures { (result.card ≡ card.entry) × (result.at ≡ 0) }
+    {
+        Reader { card, at: 0 }
+    }
 
-// The body at the reader's place.
-pub fn body<'a>(r: Reader<'a>) -> &'a [u8]
-    ensures { result.now ≡ body_at r.entry.card.now r.entry.at }
-{
-    card_layout::body_at(r.card, r.at)
-}
+    // The body at the reader's place.
+    pub fn body(self) -> &'a [u8]
+        ensures { result.now ≡ body_at self.entry.card.now self.entry.at }
+    {
+        card_layout::body_at(self.card, self.at)
+    }
 
-// The reader, moved on to the next body.
-pub fn moved_on<'a>(r: Reader<'a>) -> Reader<'a>
-    ensures { (result.card ≡ r.entry.card) × (result.at ≡ entry_after r.entry.card.now r.entry.at) }
-{
-    let at = card_layout::entry_after(r.card, r.at);
-    Reader { card: r.card, at }
+    // The reader, moved on to the next body.
+    pub fn moved_on(self) -> Self
+        ensures { (result.card ≡ self.entry.card) × (result.at ≡ entry_after self.entry.card.now self.entry.at) }
+    {
+        let at = card_layout::entry_after(self.card, self.at);
+        Reader {
+            card: self.card,
+            at,
+        }
+    }
 }
 
 // Questions 4 to 6 on the first two bodies of a card, by a reader that walks from the one to the other.
 pub fn check(card: &[u8]) -> Verdict
     ensures { verdict_in result ≡ bodies_refusal (roads_in card.now) (order_in card.now) }
 {
-    let first = new(card);
-    let roads = body(first);
-    let second = moved_on(first);
-    let order = body(second);
-    card_sections::check(roads, order)
+    let first = Reader::new(card);
+    let second = first.moved_on();
+    card_sections::check(first.body(), second.body())
 }

@@ -1,5 +1,5 @@
 -- What the tests of roads and of sizes answer. Assumes nothing.
-use mathlib.Core.Path.{◌∙◌, ◌≡◌, ap, refl, sym}
+use mathlib.Core.Path.{◌∙◌, ◌≡◌, ap, sym}
 use mathlib.Core.Bool.{Bool, false, true}
 use mathlib.Core.Option.{none, some}
 use mathlib.Core.List.{List}
@@ -7,13 +7,12 @@ use Prim.Native.Nat.{◌*◌, ◌+◌, ◌/◌, ◌<◌, ◌≤◌, zero-le, ℕ
 use lib.ListN.{get_or, length}
 use native.Mathlib.Nat.{div-div-eq-div-mul}
 use native.Mathlib.Omega.{arith}
-use Rattle.graph.proofs.Total.{some-some}
 use Rattle.model.specs.Bytes.{word_at}
 use Rattle.model.specs.Layout.{place_size, road_size}
 use Rattle.model.specs.Card.{Rows, map_of, road_fits, road_ok}
 use Rattle.model.proofs.Laws.{listed-length}
 use Rattle.card_sections.proofs.Firsts.{failing, first_found, first-start, first-turn}
-use Rattle.network.specs.Bodies.{base_in_lem, head_in, map_in, rows_in, tail_in_lem}
+use Rattle.network.specs.Bodies.{map_in}
 
 -- the test of road i, from its words
 pub road-known : (r : Rows) (i : ℕ) {n t h b : ℕ} {x : Bool} → n ≡ length r.order → t ≡ get_or r.roads (3 * i) 0
@@ -28,15 +27,9 @@ pub arcs : (roads order : List ℕ) → (map_in roads order).base.arcs ≡ lengt
 arcs roads order =
     ap (λ (x : ℕ). x / 3) (listed-length (length roads / 4) (λ i. word_at roads (0 + 4 * i))) ∙ div-div-eq-div-mul (length roads) 4 3
 
--- the test of road i, from the words of a body
-pub body-known : (roads order : List ℕ) (i : ℕ) {n t h b : ℕ} {x : Bool} → i < (map_in roads order).base.arcs
-    → n ≡ (map_in roads order).vertices
-    → t ≡ word_at roads (road_size * i) → h ≡ word_at roads (road_size * i + 4) → b ≡ word_at roads (road_size * i + 8)
-    → x ≡ road_fits n t h b → road_ok (rows_in roads order) i ≡ x
-body-known roads order i below en et eh eb e =
-    let l : road_size * i + road_size ≤ length roads = omega (arith, arcs roads order, below) in
-    road-known (rows_in roads order) i en (et ∙ sym (tail_in_lem roads order i l)) (eh ∙ sym (head_in roads order i l))
-    (eb ∙ sym (some-some refl (base_in_lem roads order i l))) e
+-- road i of a body ends within it
+pub road-within : (roads order : List ℕ) (i : ℕ) → i < (map_in roads order).base.arcs → road_size * i + road_size ≤ length roads
+road-within roads order i below = omega (arith, arcs roads order, below)
 
 -- ---- the loop over the roads: the first i of m roads pass
 

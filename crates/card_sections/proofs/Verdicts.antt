@@ -1,41 +1,36 @@
 -- The ways through questions 4 to 6: the first that refuses is the answer. Assumes nothing.
-use mathlib.Core.Path.{◌∙◌, ◌≡◌, refl}
-use mathlib.Core.Bool.{false, true}
-use mathlib.Core.Option.{none, some}
-use mathlib.Core.List.{[]}
+use mathlib.Core.Path.{◌≡◌, refl, sym}
+use mathlib.Core.Bool.{Bool, false, true}
+use mathlib.Core.Option.{Option, none, some}
 use Prim.Native.Nat.{ℕ}
-use Rattle.model.specs.Types.{Place, Road, Sizes}
-use Rattle.model.specs.Card.{Rows, failing_place, failing_road, place_ok, rows_refusal, sizes_ok}
+use Rattle.graph.proofs.Total.{none-some}
+use Rattle.model.specs.Types.{Place, Refusal, Road, Sizes}
+use Rattle.model.specs.Card.{Rows, ask, failing_place, failing_road, rows_refusal, sizes_ok}
+use Rattle.model.proofs.Laws.{ask-none}
 
--- question 6 does not look at the roads
-abbrev pub alone : Rows → Rows
-alone r = record { roads = []; order = r.order }
+-- a question that was asked alone: it passed, or its refusal is the answer, whatever is asked after it
+pub passed : (x : Bool) (q : Refusal) → none ≡ ask x q none → x ≡ true
+passed x q h = (ask-none x q none (sym h)).0
 
-any_roads : (r : Rows) → failing_place r ≡ failing_place (alone r)
-unfolding place_ok
-any_roads r = refl
+pub refused : (x : Bool) (q : Refusal) {t : Refusal} (rest : Option Refusal) → some t ≡ ask x q none → some t ≡ ask x q rest
+refused true q rest h = absurd (none-some h refl)
+refused false q rest h = h
 
--- question 4 passes the sizes a and b, and then question 5 the roads of r
-pub record SizesPass (a b : ℕ) (r : Rows) : Type 0 where
-  pub sizes : sizes_ok a b ≡ true
-
-pub record RoadsPass (a b : ℕ) (r : Rows) : Type 0 where
-  pub sizes : sizes_ok a b ≡ true
-  pub roads : failing_road r ≡ none
-
-pub by_4 : (a b : ℕ) (r : Rows) → sizes_ok a b ≡ false → some Sizes ≡ rows_refusal a b r
-unfolding rows_refusal
-by_4 a b r s = rw s
-
-module _ {a b : ℕ} {r : Rows} where
-  pub by_5 : {i : ℕ} → SizesPass a b r → failing_road r ≡ some i → some (Road i) ≡ rows_refusal a b r
+module _ (a b : ℕ) (r : Rows) {x : Bool} (asked : x ≡ sizes_ok a b) where
+  pub by_4 : {q : Refusal} → some q ≡ ask x Sizes none → some q ≡ rows_refusal a b r
   unfolding rows_refusal
-  by_5 p e = rw (p.sizes, e)
+  by_4 h = rw (← asked) (refused x Sizes _ h)
 
-  pub by_6 : {k : ℕ} → RoadsPass a b r → failing_place (alone r) ≡ some k → some (Place k) ≡ rows_refusal a b r
-  unfolding rows_refusal
-  by_6 p f = rw (p.sizes, p.roads, any_roads r ∙ f)
+  -- question 4 passes
+  module _ (passes : none ≡ ask x Sizes none) where
+    pub by_5 : {i : ℕ} → some i ≡ failing_road r → some (Road i) ≡ rows_refusal a b r
+    unfolding rows_refusal
+    by_5 e = rw (← asked, passed x Sizes passes, ← e)
 
-  pub by-none : RoadsPass a b r → failing_place (alone r) ≡ none → none ≡ rows_refusal a b r
-  unfolding rows_refusal
-  by-none p f = rw (p.sizes, p.roads, any_roads r ∙ f)
+    pub by_6 : {k : ℕ} → none ≡ failing_road r → some k ≡ failing_place r → some (Place k) ≡ rows_refusal a b r
+    unfolding rows_refusal
+    by_6 e f = rw (← asked, passed x Sizes passes, ← e, ← f)
+
+    pub by-none : none ≡ failing_road r → none ≡ failing_place r → none ≡ rows_refusal a b r
+    unfolding rows_refusal
+    by-none e f = rw (← asked, passed x Sizes passes, ← e, ← f)

@@ -1,2 +1,2 @@
-pub mod Long
+pub mod Shortness
 pub mod ThreeParts

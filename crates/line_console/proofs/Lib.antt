@@ -1,4 +1,4 @@
--- Laws of the definitions, which several proofs cite, and what `line_of` says of lines.
-mod Calls
+-- Laws of the definitions, which several proofs cite, and the worked lines.
+mod Words
 pub mod Grammar
-pub mod Examples
+mod Examples

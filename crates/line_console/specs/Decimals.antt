@@ -1,9 +1,8 @@
 -- There and back: the number that the decimal digits of a word spell is the word. Assumes nothing.
 use Rattle.std.proofs.Common.{◌∙◌, le-leb, length-append, pow-suc, arith}
-use Rattle.std.specs.Prelude.{◌≡◌, refl, true, List, [], ◌++◌, ◌∷◌, ◌%◌, ◌*◌, ◌+◌, ◌-◌, ◌/◌, ◌<◌, ◌^◌, ◌≤◌, suc, zero, ℕ, length}
+use Rattle.std.specs.Prelude.{◌≡◌, refl, true, List, [], ◌++◌, ◌∷◌, ◌%◌, ◌*◌, ◌+◌, ◌-◌, ◌/◌, ◌<◌, ◌^◌, ◌≤◌, suc, zero, ℕ, length, Some}
 use Rattle.std.proofs.Math.Decide.{dec_lt}
 use Rattle.model.specs.Word.{none_word}
-use Rattle.line_fields.specs.declared.Number.TheVariants.{Value}
 use Rattle.line_fields.specs.Fields.{all_digits, is_digit, is_number, number_of, value_from}
 use Rattle.line_fields.specs.Parts.{both_left, both_right}
 use Rattle.line_texts.specs.Areas.{decimal, digits_in}
@@ -50,7 +49,7 @@ spells (suc f) n h = go (dec_lt n 10) (λ l. spells f (n / 10) l)
         rw (digits_large (suc f) n (omega arith)) (spells-more n (digits_in (suc f) (n / 10)) (r (omega (arith, pow-suc 10 (suc f)))))
 
 -- the decimal digits of a word are a number, and the number is the word
-pub there_and_back : (n : ℕ) → n ≤ none_word → number_of (decimal n) ≡ Value n
+pub there_and_back : (n : ℕ) → n ≤ none_word → number_of (decimal n) ≡ Some n
 unfolding decimal number_of is_number
 there_and_back n h =
     let p = spells 19 n (omega arith) in

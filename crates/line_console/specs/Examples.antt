@@ -1,6 +1,8 @@
 -- Worked lines, as one table each: what lines say (that they do stands in proofs/Examples.antt), and what answers print. Assumes nothing.
-use Rattle.std.specs.Prelude.{◌≡◌, refl, List, [], ◌∷◌, map}
-use Rattle.std.proofs.Math.Option.{Option, none, some}
+use Rattle.std.specs.Prelude.{◌≡◌, refl, List, [], ◌∷◌, map, None, Option, Some}
+use Rattle.std.proofs.Math.Option as math
+use Rattle.std.proofs.Math.Option.{none, some}
+use Rattle.unit_answers.specs.declared.Call.{Call}
 use Prim.Native.String.{String}
 use Rattle.model.specs.Limits.{most_total}
 use Rattle.model.specs.Types.{Accepted, Answer, At, Estimated, Gone, NoJunction, NoPath, NoRoad, NotAllowed, Place, Refusal, Refused, Road}
@@ -11,8 +13,6 @@ use Rattle.model.specs.Calls.{refusal_of}
 use Rattle.unit_answers.specs.Shape.{call_in}
 use Rattle.unit_answers.specs.declared.Call.TheVariants.{Aim, Estimate, Go, Set}
 use Rattle.line_texts.specs.Areas.{decimal, digits_in, shown, spaced}
-use Rattle.line_console.specs.declared.Line.{Line}
-use Rattle.line_console.specs.declared.Line.TheVariants.{Call, Unreadable}
 use Rattle.line_texts.specs.Ascii.{ascii}
 use Rattle.line_console.specs.Lines.{out_of_range, program_class}
 use Rattle.line_console.specs.Texts.{answer_text, unreadable_text}
@@ -21,32 +21,32 @@ use Rattle.line_console.specs.Texts.{answer_text, unreadable_text}
 
 pub record SaidLine : Type 0 where
   pub line : String
-  pub says : Line
+  pub says : Option Call
 
 abbrev pub readable : List SaidLine
 readable =
-    record { line = "aim 3"; says = Call (Aim (record { 0 = 3 })) }
-    ∷ record { line = "est 0"; says = Call (Estimate (record { 0 = 0 })) }
-    ∷ record { line = "go 0"; says = Call (Go program_class (record { 0 = 0 })) }
-    ∷ record { line = "set 1 18446744073709551615"; says = Call (Set 1 (record { 0 = closed_word })) }
-    ∷ record { line = "go 0"; says = Call (Go program_class (record { 0 = 0 })) }
-    ∷ record { line = "set 1 9"; says = Call (Set 1 (record { 0 = 9 })) }
-    ∷ record { line = "set 0 4294967295"; says = Call (Set 0 (record { 0 = 4294967295 })) }
-    ∷ record { line = "aim 4294967294"; says = Call (Aim (record { 0 = 4294967294 })) }
-    ∷ record { line = "aim 4294967295"; says = Call (Aim (record { 0 = out_of_range })) }
-    ∷ record { line = "aim 4294967296"; says = Call (Aim (record { 0 = out_of_range })) }
-    ∷ record { line = "est 4294967297"; says = Call (Estimate (record { 0 = out_of_range })) }
-    ∷ record { line = "go 18446744073709551615"; says = Call (Go program_class (record { 0 = out_of_range })) }
-    ∷ record { line = "set 4294967296 10"; says = Call (Set out_of_range (record { 0 = 10 })) }
-    ∷ record { line = "go 007"; says = Call (Go program_class (record { 0 = 7 })) }
-    ∷ record { line = "set 00000000000000000001 18446744073709551615"; says = Call (Set 1 (record { 0 = none_word })) }
+    record { line = "aim 3"; says = Some (Aim (record { 0 = 3 })) }
+    ∷ record { line = "est 0"; says = Some (Estimate (record { 0 = 0 })) }
+    ∷ record { line = "go 0"; says = Some (Go program_class (record { 0 = 0 })) }
+    ∷ record { line = "set 1 18446744073709551615"; says = Some (Set 1 (record { 0 = closed_word })) }
+    ∷ record { line = "go 0"; says = Some (Go program_class (record { 0 = 0 })) }
+    ∷ record { line = "set 1 9"; says = Some (Set 1 (record { 0 = 9 })) }
+    ∷ record { line = "set 0 4294967295"; says = Some (Set 0 (record { 0 = 4294967295 })) }
+    ∷ record { line = "aim 4294967294"; says = Some (Aim (record { 0 = 4294967294 })) }
+    ∷ record { line = "aim 4294967295"; says = Some (Aim (record { 0 = out_of_range })) }
+    ∷ record { line = "aim 4294967296"; says = Some (Aim (record { 0 = out_of_range })) }
+    ∷ record { line = "est 4294967297"; says = Some (Estimate (record { 0 = out_of_range })) }
+    ∷ record { line = "go 18446744073709551615"; says = Some (Go program_class (record { 0 = out_of_range })) }
+    ∷ record { line = "set 4294967296 10"; says = Some (Set out_of_range (record { 0 = 10 })) }
+    ∷ record { line = "go 007"; says = Some (Go program_class (record { 0 = 7 })) }
+    ∷ record { line = "set 00000000000000000001 18446744073709551615"; says = Some (Set 1 (record { 0 = none_word })) }
     ∷ []
 
 -- ---- what is refused on a map of 4 junctions and 5 roads of base time 10: numbers past its own, and times past the range of tenths
 
 pub record AskedLine : Type 0 where
   pub line : String
-  pub refused : Option Refusal
+  pub refused : math.Option Refusal
 
 abbrev pub asked : List AskedLine
 asked =
@@ -64,9 +64,9 @@ asked =
 abbrev pub known : Known
 known = record { n = 4; m = 5; base = λ i. some 10; target = At 3 }
 
-abbrev pub refused_by : Line → Option Refusal
-refused_by (Call c) = refusal_of known (call_in c) 4 4
-refused_by Unreadable = none
+abbrev pub refused_by : Option Call → math.Option Refusal
+refused_by (Some c) = refusal_of known (call_in c) 4 4
+refused_by None = none
 
 -- ---- lines that are unreadable
 

@@ -1,12 +1,11 @@
 -- What a line of input says. "A readable one is a call's word and its numbers, one space before each." Definitions only.
-use Rattle.std.specs.Prelude.{cond, List, min, ℕ}
+use Rattle.std.specs.Prelude.{cond, List, min, None, Option, Some, ℕ}
+use Rattle.std.specs.Str.{bytes_eq}
+use Rattle.network.specs.declared.Junction.{Junction}
+use Rattle.unit_answers.specs.declared.Call.{Call}
 use Rattle.unit_answers.specs.declared.Call.TheVariants.{Aim, Estimate, Go, Set}
-use Rattle.line_fields.specs.Fields.{after_space, before_space, number_of, same}
-use Rattle.line_fields.specs.declared.Number.{Number}
-use Rattle.line_fields.specs.declared.Number.TheVariants.{NotOne, Value}
+use Rattle.line_fields.specs.Fields.{after_space, before_space, number_of}
 use Rattle.line_texts.specs.Ascii.{ascii}
-use Rattle.line_console.specs.declared.Line.{Line}
-use Rattle.line_console.specs.declared.Line.TheVariants.{Call, Unreadable}
 
 -- document 02, A6: "the program's `go` class 0"
 abbrev pub program_class : ℕ
@@ -21,25 +20,31 @@ abbrev pub in_range : ℕ → ℕ
 in_range v = min v out_of_range
 
 -- `aim`, `est` and `go` have one number, a junction's
-unfoldable pub call_of : (word : List ℕ) → ℕ → Line
+unfoldable pub call_of : (word : List ℕ) → ℕ → Option Call
 call_of w v =
-    cond (same w (ascii "aim")) (Call (Aim (record { 0 = v })))
-    (cond (same w (ascii "est")) (Call (Estimate (record { 0 = v })))
-    (cond (same w (ascii "go")) (Call (Go program_class (record { 0 = v }))) Unreadable))
+    cond (bytes_eq w (ascii "aim")) (Some (Aim (record { 0 = v })))
+    (cond (bytes_eq w (ascii "est")) (Some (Estimate (record { 0 = v })))
+    (cond (bytes_eq w (ascii "go")) (Some (Go program_class (record { 0 = v }))) None))
 
-abbrev pub one : (ℕ → Line) → Number → Line
-one call (Value v) = call (in_range v)
-one call NotOne = Unreadable
+abbrev pub junction_in : Option ℕ → Option Junction
+junction_in (Some v) = Some (record { 0 = in_range v })
+junction_in None = None
+
+abbrev pub one : (ℕ → Option Call) → Option ℕ → Option Call
+one call (Some v) = call (in_range v)
+one call None = None
 
 -- `set` has two: road and time
-abbrev pub two : Number → Number → Line
-two (Value i) (Value t) = Call (Set (in_range i) (record { 0 = t }))
-two (Value i) NotOne = Unreadable
-two NotOne t = Unreadable
+abbrev pub two : Option ℕ → Option ℕ → Option Call
+two (Some i) (Some t) = Some (Set (in_range i) (record { 0 = t }))
+two (Some i) None = None
+two None t = None
 
--- "a call's word and its numbers, one space before each"
-unfoldable pub line_of : List ℕ → Line
-line_of s =
-    cond (same (before_space s) (ascii "set"))
-    (two (number_of (before_space (after_space s))) (number_of (after_space (after_space s))))
-    (one (call_of (before_space s)) (number_of (after_space s)))
+-- the call of a word and of what follows it
+unfoldable pub called : (word numbers : List ℕ) → Option Call
+called w r =
+    cond (bytes_eq w (ascii "set")) (two (number_of (before_space r)) (number_of (after_space r))) (one (call_of w) (number_of r))
+
+-- "a call's word and its numbers, one space before each"; none where the line is unreadable
+abbrev pub line_of : List ℕ → Option Call
+line_of s = called (before_space s) (after_space s)

@@ -1,3 +1,2 @@
 -- Laws of the definitions, which several proofs cite.
 mod Numbers
-mod Parts

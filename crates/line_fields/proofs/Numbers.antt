@@ -2,14 +2,15 @@
 use mathlib.Core.Path.{◌∙◌, ◌≡◌, ap, refl}
 use mathlib.Core.Bool.{Bool, ◌&&◌, false, true}
 use mathlib.Core.List.{List, [], ◌∷◌}
-use Prim.Native.Nat.{◌*◌, ◌+◌, ◌-◌, ◌/◌, ◌<◌, ◌≤◌, ℕ}
+use Prim.Native.Nat.{◌*◌, ◌+◌, ◌-◌, ◌<◌, ◌≤◌, ℕ}
 use borrow.Author.Tests.{le-leb, lt-leb}
 use lib.ListN.{drop, drop_of_length-le, get_or, length}
 use lib.Seq.{drop-cons}
 use native.Mathlib.Numerals.{add-one}
 use native.Mathlib.Omega.{arith}
 use Rattle.model.specs.Word.{none_word}
-use Rattle.line_fields.specs.declared.Number.TheVariants.{NotOne, Value}
+use Rattle.std.specs.Prelude.{None, Some}
+use Rattle.std.specs.Char.{is_ascii_digit}
 use Rattle.line_fields.specs.Fields.{all_digits, is_digit, is_number, number_of, value_from}
 
 pub and_false : (b : Bool) → b && false ≡ false
@@ -32,24 +33,24 @@ module _ (s : List ℕ) (i : ℕ) (h : i < length s) where
 
 -- ---- the ways to no number, and the way to one
 
-pub short : (s : List ℕ) → length s < 1 → NotOne ≡ number_of s
+pub short : (s : List ℕ) → length s < 1 → None ≡ number_of s
 unfolding number_of is_number
 short s h = simp (lt-leb 1 (length s) h)
 
-pub long : (s : List ℕ) → 20 < length s → NotOne ≡ number_of s
+pub long : (s : List ℕ) → 20 < length s → None ≡ number_of s
 unfolding number_of is_number
 long s h = simp (lt-leb (length s) 20 h, and_false)
 
-not_digits : (s : List ℕ) → all_digits s ≡ false → NotOne ≡ number_of s
+not_digits : (s : List ℕ) → all_digits s ≡ false → None ≡ number_of s
 unfolding number_of is_number
 not_digits s h = simp (h, and_false)
 
-too_large : (s : List ℕ) → none_word < value_from 0 s → NotOne ≡ number_of s
+too_large : (s : List ℕ) → none_word < value_from 0 s → None ≡ number_of s
 unfolding number_of is_number
 too_large s h = simp (lt-leb (value_from 0 s) none_word h, and_false)
 
 number_is : (s : List ℕ) → 1 ≤ length s → length s ≤ 20 → all_digits s ≡ true → value_from 0 s ≤ none_word
-    → Value (value_from 0 s) ≡ number_of s
+    → Some (value_from 0 s) ≡ number_of s
 unfolding number_of is_number
 number_is s a b d v = simp (le-leb 1 (length s) a, le-leb (length s) 20 b, d, le-leb (value_from 0 s) none_word v)
 
@@ -78,28 +79,24 @@ module _ {s : List ℕ} {i v b : ℕ} (next : Next s i v b) where
   value-next : value_from 0 s ≡ value_from (v * 10 + (b - 48)) (drop (i + 1) s)
   value-next = rw (next.passed.value-left, value-step s i next.below, next.byte_is)
 
-  pub below-digits : b < 48 → NotOne ≡ number_of s
+  pub other_byte : is_ascii_digit b ≡ false → None ≡ number_of s
   unfolding is_digit
-  below-digits l = not_digits s (digits-at ∙ simp (lt-leb 48 b l))
+  other_byte e = not_digits s (digits-at ∙ rw e)
 
-  pub above-digits : 57 < b → NotOne ≡ number_of s
-  unfolding is_digit
-  above-digits l = not_digits s (digits-at ∙ simp (lt-leb b 57 l, and_false))
-
-  pub overflow : (none_word - (b - 48)) / 10 < v → NotOne ≡ number_of s
+  pub overflow : none_word < v * 10 + (b - 48) → None ≡ number_of s
   overflow l = too_large s (omega (arith, value-next, value_grows (drop (i + 1) s) (v * 10 + (b - 48))))
 
-  pub passed-more : 48 ≤ b → b ≤ 57 → v ≤ (none_word - (b - 48)) / 10 → Passed s (i + 1) (v * 10 + (b - 48))
+  pub passed-more : is_ascii_digit b ≡ true → v * 10 + (b - 48) ≤ none_word → Passed s (i + 1) (v * 10 + (b - 48))
   unfolding is_digit
-  passed-more l m fits = record {
+  passed-more e fits = record {
     inside = omega (arith, next.below);
-    small = omega arith;
+    small = fits;
     value-left = value-next;
-    digits-left = digits-at ∙ simp (le-leb 48 b l, le-leb b 57 m);
+    digits-left = digits-at ∙ rw e;
   }
 
 -- every digit is passed
-pub passed-all : {s : List ℕ} {i v : ℕ} → length s ≤ i → 1 ≤ length s → length s ≤ 20 → Passed s i v → Value v ≡ number_of s
+pub passed-all : {s : List ℕ} {i v : ℕ} → length s ≤ i → 1 ≤ length s → length s ≤ 20 → Passed s i v → Some v ≡ number_of s
 unfolding value_from all_digits
 passed-all {s} {i} {v} h a b p =
     let q : value_from 0 s ≡ v = p.value-left ∙ ap (value_from v) (drop_of_length-le s h) in

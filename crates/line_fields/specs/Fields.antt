@@ -1,9 +1,7 @@
 -- The fields of a line: "a number has 1 to 20 decimal digits and fits the width of a time", and the parts at a space. Definitions only.
-use Rattle.std.specs.Prelude.{Bool, ◌&&◌, cond, false, true, List, [], ◌∷◌, ◌*◌, ◌+◌, ◌-◌, ℕ, eqb, leb, drop, length, take}
-use Rattle.std.proofs.Common.{suc}
+use Rattle.std.specs.Prelude.{Bool, ◌&&◌, cond, true, List, [], ◌∷◌, ◌*◌, ◌+◌, ◌-◌, ℕ, None, Option, Some, eqb, leb, length}
+use Rattle.std.specs.List.{after_first, before_first}
 use Rattle.model.specs.Word.{none_word}
-use Rattle.line_fields.specs.declared.Number.{Number}
-use Rattle.line_fields.specs.declared.Number.TheVariants.{NotOne, Value}
 
 -- ---- a number
 
@@ -24,30 +22,17 @@ value_from v (b ∷ s) = value_from (v * 10 + (b - 48)) s
 unfoldable pub is_number : List ℕ → Bool
 is_number s = leb 1 (length s) && leb (length s) 20 && all_digits s && leb (value_from 0 s) none_word
 
-unfoldable pub number_of : List ℕ → Number
-number_of s = cond (is_number s) (Value (value_from 0 s)) NotOne
+unfoldable pub number_of : List ℕ → Option ℕ
+number_of s = cond (is_number s) (Some (value_from 0 s)) None
 
 -- ---- words and spaces
 
-unfoldable pub same : List ℕ → List ℕ → Bool
-same [] [] = true
-same [] (b ∷ t) = false
-same (a ∷ s) [] = false
-same (a ∷ s) (b ∷ t) = eqb a b && same s t
-
--- one place further on, but where the byte before is the one that is looked for
-unfoldable pub index_after : Bool → ℕ → ℕ
-index_after true i = 0
-index_after false i = suc i
-
--- where the byte b stands first; the length where it stands nowhere
-unfoldable pub index_of : (b : ℕ) → List ℕ → ℕ
-index_of b [] = 0
-index_of b (c ∷ s) = index_after (eqb c b) (index_of b s)
+abbrev pub is_space : ℕ → Bool
+is_space b = eqb b 32
 
 -- the parts before and after the first space; where there is none, all of it and nothing
-unfoldable pub before_space : List ℕ → List ℕ
-before_space s = take (index_of 32 s) s
+abbrev pub before_space : List ℕ → List ℕ
+before_space s = before_first is_space s
 
-unfoldable pub after_space : List ℕ → List ℕ
-after_space s = drop (index_of 32 s + 1) s
+abbrev pub after_space : List ℕ → List ℕ
+after_space s = after_first is_space s

@@ -1,109 +1,45 @@
 // The fields of a line: words, and numbers in decimal digits, with a space between them.
 #![tactic(auto)]
 
-ghost use Rattle.std.specs.Prelude.{◌≡◌, ◌≤◌, length};
-ghost use Rattle.line_fields.specs.Fields.{after_space, before_space, index_of, number_of, same};
+ghost use Rattle.std.specs.Prelude.{◌≡◌, position};
+ghost use Rattle.line_fields.specs.Fields.{after_space, before_space, is_space, number_of};
 
-use network::{Time, TimeWord};
+use network::TimeWord;
 
-// What a part of a line spells.
-#[derive(Clone, Copy)]
-pub enum Number {
-    Value(TimeWord),
-    NotOne,
-}
+// The most digits of a number.
+const MOST_DIGITS: usize = 20;
 
-// A byte as a number.
-fn wide(b: u8) -> TimeWord
-    ensures { result ≡ b }
-{
-    b as TimeWord
-}
-
-// The number that s spells: 1 to 20 decimal digits that fit the width of a time. Whether one digit more fits is asked before it is taken.
-pub fn read_number(s: &[u8]) -> Number
+// The number that s spells: 1 to 20 decimal digits that fit the width of a time.
+pub fn read_number(s: &[u8]) -> Option<TimeWord>
     ensures { result ≡ number_of s.now }
 {
-    if s.len() < 1 {
-        return Number::NotOne;
-    }
-    if 20 < s.len() {
-        return Number::NotOne;
+    if s.is_empty() || MOST_DIGITS < s.len() {
+        return None;
     }
     let mut v: TimeWord = 0;
-    let mut i = 0;
-    while i < s.len() {
-        let b = wide(s[i]);
-        if b < 48 {
-            return Number::NotOne;
+    for &b in s {
+        if !b.is_ascii_digit() {
+            return None;
         }
-        if 57 < b {
-            return Number::NotOne;
-        }
-        let d = b - 48;
-        if (Time::NONE.0 - d) / 10 < v {
-            return Number::NotOne;
-        }
-        v = v * 10 + d;
-        i += 1;
+        v = v.checked_mul(10)?.checked_add(TimeWord::from(b - b'0'))?;
     }
-    Number::Value(v)
+    Some(v)
 }
 
-// Whether two rows of bytes are the same.
-pub fn same_bytes(a: &[u8], b: &[u8]) -> bool
-    ensures { result ≡ same a.now b.now }
+// Where the first space stands, if there is one.
+fn first_space(s: &[u8]) -> Option<usize>
+    ensures { result ≡ position is_space s.now }
 {
-    if a.len() != b.len() {
-        return false;
-    }
-    let mut i = 0;
-    while i < a.len() {
-        if a[i] != b[i] {
-            return false;
-        }
-        i += 1;
-    }
-    true
+    s.iter().position(|&b| b == b' ')
 }
 
-// Where a byte stands first; the length where it stands nowhere.
-fn find(s: &[u8], b: u8) -> usize
-    ensures { (result ≡ index_of b s.now) × (result ≤ length s.now) }
+// The parts before and after the first space; where there is none, all of it and nothing.
+pub fn split_space(s: &[u8]) -> (&[u8], &[u8])
+    ensures before { result.0.now ≡ before_space s.now }
+    ensures after { result.1.now ≡ after_space s.now }
 {
-    let mut i = 0;
-    while i < s.len() {
-        if s[i] == b {
-            return i;
-        }
-        i += 1;
+    match first_space(s) {
+        Some(i) => (&s[..i], &s[i + 1..]),
+        None => (s, &[]),
     }
-    i
-}
-
-// Where the first space stands; the length where there is none.
-fn space_in(s: &[u8]) -> usize
-    ensures { (result ≡ index_of 32 s.now) × (result ≤ length s.now) }
-{
-    find(s, 32)
-}
-
-// The part before the first space; all of it where there is none.
-pub fn before_space(s: &[u8]) -> &[u8]
-    ensures { result.now ≡ before_space s.now }
-{
-    let i = space_in(s);
-    &s[0..i]
-}
-
-// The part after the first space; nothing where there is none.
-pub fn after_space(s: &[u8]) -> &[u8]
-    ensures { result.now ≡ after_space s.now }
-{
-    let i = space_in(s);
-    let end = s.len();
-    if i < end {
-        return &s[i + 1..end];
-    }
-    &s[end..end]
 }

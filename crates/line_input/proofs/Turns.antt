@@ -11,11 +11,12 @@ use lib.Seq.{append_snoc}
 use borrow.Author.Tests.{lt-ltb, ltb-false}
 use native.Mathlib.Decide.{ℕ_discrete}
 use native.Mathlib.Omega.{arith}
-use Rattle.line_input.specs.Holds.{Holds}
+use Rattle.line_input.specs.Holds.{Holds, has_bytes}
 use Rattle.line_input.specs.Input.{Ends, Gave, Last, NextLine, Plain, Refilled, Stepped, Took, after-end}
 use Rattle.line_input.specs.Input.{at-end, at-newline, in_order, newline, out_of_turns, refilled, took, unread, waiting}
 use Rattle.line_input.proofs.Steps.{at_ended, at_ready, by-turns, some-turns}
 use Rattle.line_input.specs.declared.Part.{Part}
+use Rattle.line_input.specs.declared.Part.TheVariants.{Kept, Long}
 use Rattle.line_input.specs.declared.Reader.{Reader}
 
 -- the line is not at its end
@@ -47,8 +48,8 @@ last-stays : (reads : List (List ℕ)) (before : List ℕ) (r s : Reader) {chunk
 last-stays [] before r s e f w = e ∙ w
 last-stays (c ∷ earlier) before r s e f w = w ∙ sym (ap₂ take f e)
 
-holds-still : {p q : Part} {area area' line : List ℕ} → q ≡ p → area' ≡ area → Holds p area line → Holds q area' line
-holds-still {p} {area' = area'} {line = line} e f h =
+holds-still : (line : List ℕ) {p q : Part} {area area' : List ℕ} → q ≡ p → area' ≡ area → Holds p area line → Holds q area' line
+holds-still line {p} {area' = area'} e f h =
     subst (λ (x : Part). Holds x area' line) (sym e) (subst (λ (a : List ℕ). Holds p a line) (sym f) h)
 
 to-ends : {input line rest : List ℕ} {left : ℕ} {b b' t t' e e' : Bool} {reads : List (List ℕ)} → b ≡ b' → t ≡ t' → e ≡ e'
@@ -57,25 +58,17 @@ to-ends {input} {line} {rest} {left} {b} {b'} {t} {t'} {e} {e'} {reads} p q r w 
     subst (λ (x : Bool). Ends input line rest left x reads t' e') p
     (subst (λ (x : Bool). Ends input line rest left b reads x e') q (subst (λ (x : Bool). Ends input line rest left b reads t x) r w))
 
--- a line has bytes where some are kept
-kept-some : {p : Part} {area line : List ℕ} → Holds p area line → 0 < length area → ltb 0 p.kept ≡ ltb 0 (length line)
-kept-some {p} {area} {line} h n = go p.long refl
-  where
-    go : (l : Bool) → p.long ≡ l → ltb 0 p.kept ≡ ltb 0 (length line)
-    go true e = lt-ltb 0 p.kept (omega (arith, n, (h.more e).0)) ∙ sym (lt-ltb 0 (length line) (omega (arith, n, (h.more e).1)))
-    go false e =
-        let w = ap length (h.whole e) in
-        let z : p.kept ≡ length line = omega (arith, w, h.fits, length-take p.kept area) in
-        ap (ltb 0) z
+-- the line has bytes where its part has
+kept-some : (p : Part) (area line : List ℕ) → Holds p area line → has_bytes p ≡ ltb 0 (length line)
+kept-some (Kept n) area line h =
+    let z : n ≡ length line = omega (arith, ap length h.1, h.0, length-take n area) in ap (ltb 0) z
+kept-some Long area line h = sym (lt-ltb 0 (length line) (omega arith))
 
 -- ---- the start
 
-empty-line : (area : List ℕ) → Holds (record { kept = 0; long = false }) area []
-empty-line area = record { fits = omega arith; whole = λ l. refl; more = λ l. absurd (false≢true l) }
-
 -- an input that has ended is at rest
 pub turned-start : {at end : ℕ} (ended : Bool) {turns : ℕ} {chunk area : List ℕ} → let r : Reader =
-    record { at = at; end = end; part = record { kept = 0; long = false }; ready = false; ended = ended; turns = turns } in
+    record { at = at; end = end; part = Kept 0; ready = false; ended = ended; turns = turns } in
     Turned r chunk r chunk area
 turned-start {at} {end} false {chunk = chunk} {area = area} =
     let left = drop at (take end chunk) in
@@ -84,7 +77,7 @@ turned-start {at} {end} false {chunk = chunk} {area = area} =
       reads = [];
       last = refl;
       plain = tt;
-      holds = empty-line area;
+      holds = (omega arith, refl);
       gave = tt;
       bytes = append-nil left;
       waits = refl;
@@ -101,7 +94,7 @@ turned-start {at} {end} true {chunk = chunk} {area = area} =
         reads = [];
         last = refl;
         plain = tt;
-        holds = empty-line area;
+        holds = (omega arith, refl);
         ends = after-end refl (append-nil left);
         turns = omega (arith, length-append left []);
       },
@@ -129,7 +122,7 @@ module _ {from : Reader} {before : List ℕ} {r : Reader} {chunk area : List ℕ
           reads = g.reads;
           last = last-stays g.reads before r s q w.end g.last;
           plain = g.plain;
-          holds = holds-still Part-same area_same g.holds;
+          holds = holds-still g.line Part-same area_same g.holds;
           ends = to-ends (sym g.from_open) (sym ready) (sym (w.ended ∙ g.still_open))
               (at-newline g.gave (g.bytes ∙ ap (λ (x : List ℕ). g.line ++ x) (e ∙ ap (λ (x : ℕ). x ∷ unread s chunk') n)));
           turns = omega (arith, some, more, w.turns, g.turns);
@@ -154,10 +147,10 @@ module _ {from : Reader} {before : List ℕ} {r : Reader} {chunk area : List ℕ
       })
 
   -- the step read
-  turn_read : 0 < length area → (n : ℕ) → unread r chunk ≡ [] → n ≤ length chunk' → Refilled n (r.turns - 1) r s → area' ≡ area
+  turn_read : (n : ℕ) → unread r chunk ≡ [] → n ≤ length chunk' → Refilled n (r.turns - 1) r s → area' ≡ area
       → Turned from before s chunk' area'
   -- the input has ended, and with it the line
-  turn_read room zero e h w q =
+  turn_read zero e h w q =
       let (ready, ended) = w.ends refl in
       let none : unread s chunk' ≡ [] = ap₂ (λ (i k : ℕ). drop i (take k chunk')) w.at w.end in
       let bytes : unread from before ++ (in_order g.reads ++ []) ≡ input_of g =
@@ -172,14 +165,14 @@ module _ {from : Reader} {before : List ℕ} {r : Reader} {chunk area : List ℕ
           reads = [] ∷ g.reads;
           last = sym (ap (λ (k : ℕ). take k chunk') w.end);
           plain = g.plain;
-          holds = holds-still w.line q g.holds;
-          ends = to-ends (sym g.from_open) (sym (ready ∙ kept-some g.holds room)) (sym ended)
+          holds = holds-still g.line w.line q g.holds;
+          ends = to-ends (sym g.from_open) (sym (ready ∙ kept-some r.part area g.line g.holds)) (sym ended)
               (at-end g.gave (bytes ∙ g.bytes ∙ ap (λ (x : List ℕ). g.line ++ x) e ∙ append-nil g.line) none);
           turns = omega (arith, some, same, left, after, w.turns, g.turns);
         },
       )
   -- bytes were read, of which none is taken yet
-  turn_read room (suc k) e h w q =
+  turn_read (suc k) e h w q =
       let (waits, not-ended) = w.goes_on (omega arith) in
       let here : unread s chunk' ≡ take (suc k) chunk' = ap₂ (λ (i m : ℕ). drop i (take m chunk')) w.at w.end in
       let bytes : unread from before ++ (in_order g.reads ++ take (suc k) chunk') ≡ input_of g ++ take (suc k) chunk' =
@@ -192,7 +185,7 @@ module _ {from : Reader} {before : List ℕ} {r : Reader} {chunk area : List ℕ
         reads = take (suc k) chunk' ∷ g.reads;
         last = sym (ap (λ (m : ℕ). take m chunk') w.end);
         plain = g.plain;
-        holds = holds-still w.line q g.holds;
+        holds = holds-still g.line w.line q g.holds;
         gave = (omega (arith, h, length-take (suc k) chunk'), g.gave);
         bytes = bytes
             ∙ ap (λ (x : List ℕ). x ++ take (suc k) chunk') (g.bytes ∙ ap (λ (x : List ℕ). g.line ++ x) e ∙ append-nil g.line)
@@ -203,14 +196,14 @@ module _ {from : Reader} {before : List ℕ} {r : Reader} {chunk area : List ℕ
         turns = omega (arith, some, same, left, after, length-append (input_of g) (take (suc k) chunk'), w.turns, g.turns);
       })
 
-  turn_going : 0 < length area → Stepped r chunk area s chunk' area' → Turned from before s chunk' area'
-  turn_going room (took b e q w) = turn-took b e q w (ℕ_discrete b newline)
-  turn_going room (refilled n e h w q) = turn_read room n e h w q
+  turn_going : Stepped r chunk area s chunk' area' → Turned from before s chunk' area'
+  turn_going (took b e q w) = turn-took b e q w (ℕ_discrete b newline)
+  turn_going (refilled n e h w q) = turn_read n e h w q
 
 pub turned : {from : Reader} {before : List ℕ} {r : Reader} {chunk area : List ℕ} {s : Reader} {chunk' area' : List ℕ} → waiting r ≡ true
-    → 0 < length area → Turned from before r chunk area → Stepped r chunk area s chunk' area' → Turned from before s chunk' area'
-turned {r = r} some room (inl g) w = turn_going g (some-turns r some) room w
-turned some room (inr g) w = absurd (false≢true (sym g.0 ∙ some))
+    → Turned from before r chunk area → Stepped r chunk area s chunk' area' → Turned from before s chunk' area'
+turned {r = r} some (inl g) w = turn_going g (some-turns r some) w
+turned some (inr g) w = absurd (false≢true (sym g.0 ∙ some))
 
 -- each step leaves fewer
 pub fewer : {r : Reader} {chunk area : List ℕ} {s : Reader} {chunk' area' : List ℕ} → 0 < r.turns → Stepped r chunk area s chunk' area'

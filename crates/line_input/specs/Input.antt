@@ -1,6 +1,6 @@
 -- The lines of the input: what taking the bytes of a chunk, and reading the next one, does to a line. Definitions only.
 use Rattle.std.specs.Prelude.{◌≡◌, ◌≢◌, Bool, cond, false, not, true, List, [], ◌++◌, ◌∷◌, ◌+◌, ◌-◌, ◌<◌, ◌≤◌, ℕ, ltb, drop, length, take}
-use Rattle.line_input.specs.Holds.{Holds}
+use Rattle.line_input.specs.Holds.{Holds, has_bytes}
 use Rattle.line_input.specs.declared.Reader.{Reader}
 
 abbrev pub newline : ℕ
@@ -35,7 +35,7 @@ pub record Refilled (n left : ℕ) (r s : Reader) : Type 0 where
   pub end : s.end ≡ n
   pub line : s.part ≡ r.part
   pub turns : s.turns ≡ left
-  pub ends : n ≡ 0 → (s.ready ≡ ltb 0 r.part.kept) × (s.ended ≡ true)
+  pub ends : n ≡ 0 → (s.ready ≡ has_bytes r.part) × (s.ended ≡ true)
   pub goes_on : 0 < n → (s.ready ≡ false) × (s.ended ≡ false)
 
 -- a step takes the next byte of the chunk; where there is none, it reads

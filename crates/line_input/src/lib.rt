@@ -3,7 +3,7 @@
 
 ghost use Rattle.std.specs.Prelude.{◌≡◌, List, [], ◌++◌, ◌∷◌, ◌<◌, ◌≤◌, ℕ, length};
 ghost use Rattle.line_input.specs.Counts.{count_of};
-ghost use Rattle.line_input.specs.Holds.{Holds};
+ghost use Rattle.line_input.specs.Holds.{Holds, has_bytes};
 ghost use Rattle.line_input.specs.Input.{AtStart, NextLine, Refilled, Stepped, Took, waiting};
 
 use std::io;
@@ -15,35 +15,42 @@ pub const LINE_ROOM: usize = 46;
 // What is read at a time.
 pub const CHUNK_ROOM: usize = 4096;
 
-// The line as far as it was read: the number of its bytes that stand first in a lent area, and whether there are more than that area has.
+// The line as far as it was read: so many bytes, which stand first in a lent area, or more than that area has.
 #[derive(Clone, Copy)]
-pub struct Part {
-    pub kept: usize,
-    pub long: bool,
+pub enum Part {
+    Kept(usize),
+    Long,
 }
 
-// Takes a byte more. What does not fit is dropped, and the line is long.
-pub fn take_byte(p: Part, b: u8, area: &mut [u8]) -> Part
-    ensures { (xs : List ℕ) → Holds p area.old xs → Holds result area.new (xs ++ (b ∷ [])) }
-{
-    let kept = p.kept;
-    if kept < area.len() {
-        area[kept] = b;
-        return Part {
-            kept: kept + 1,
-            long: p.long,
-        };
+impl Part {
+    // Takes a byte more. What does not fit is dropped, and the line is long.
+    pub fn take_byte(self, b: u8, area: &mut [u8]) -> Part
+        ensures { (xs : List ℕ) → Holds self area.old xs → Holds result area.new (xs ++ (b ∷ [])) }
+    {
+        match self {
+            Part::Kept(n) if n < area.len() => {
+                area[n] = b;
+                Part::Kept(n + 1)
+            }
+            _ => Part::Long,
+        }
     }
-    Part {
-        kept: kept,
-        long: true,
+
+    // Whether the line has a byte.
+    fn has_bytes(self) -> bool
+        ensures { result ≡ has_bytes self }
+    {
+        match self {
+            Part::Kept(n) => 0 < n,
+            Part::Long => true,
+        }
     }
 }
 
 // ---- the reader
 
 // The input: the bytes of a chunk from `at` to `end` are not taken yet. `ready` says that the line's end has come, `ended` that a read gave
-// nothing. `turns` is how many more steps may be made: bytes taken, and reads.
+// nothing: two flags, since each goes with each. `turns` is how many more steps may be made: bytes taken, and reads.
 #[derive(Clone, Copy)]
 pub struct Reader {
     pub at: usize,
@@ -62,10 +69,7 @@ pub fn at_start(opens: bool) -> Reader
     Reader {
         at: 0,
         end: 0,
-        part: Part {
-            kept: 0,
-            long: false,
-        },
+        part: Part::Kept(0),
         ready: false,
         ended: !opens,
         turns: u64::MAX,
@@ -77,67 +81,35 @@ fn take_one(r: Reader, b: u8, left: u64, line: &mut [u8]) -> Reader
     requires { r.at < r.end }
     ensures { Took b left r line.old result line.new }
 {
-    let at = r.at + 1;
-    let end = r.end;
-    let part = r.part;
-    let ended = r.ended;
-    if b == b'\n' {
-        return Reader {
-            at: at,
-            end: end,
-            part: part,
-            ready: true,
-            ended: ended,
-            turns: left,
-        };
-    }
-    let longer = take_byte(part, b, line);
+    let ready = b == b'\n';
     Reader {
-        at: at,
-        end: end,
-        part: longer,
-        ready: false,
-        ended: ended,
+        at: r.at + 1,
+        part: if ready {
+            r.part
+        } else {
+            r.part.take_byte(b, line)
+        },
+        ready,
         turns: left,
+        ..r
     }
 }
 
-// How many bytes a read gave: none where it failed.
-fn count(got: io::Result<usize>, chunk: &[u8]) -> usize
-    ensures in_bounds { result ≤ length chunk.now }
-    ensures value { result ≡ count_of got (length chunk.now) }
-{
-    match got {
-        Ok(n) => n.min(chunk.len()),
-        Err(_) => 0,
-    }
-}
-
-// What a read answered. "A line ends at a newline or at the end of the input; after a last newline no further line follows": where the
-// input ends, a line that has bytes is ready.
+// What a read answered: none where it failed. "A line ends at a newline or at the end of the input; after a last newline no further line
+// follows": where the input ends, a line that has bytes is ready.
 fn take_read(r: Reader, got: io::Result<usize>, left: u64, chunk: &[u8]) -> Reader
     ensures end_in_bounds { result.end ≤ length chunk.now }
     ensures refilled { Refilled (count_of got (length chunk.now)) left r result }
 {
-    let part = r.part;
-    let n = count(got, chunk);
-    if n == 0 {
-        return Reader {
-            at: 0,
-            end: 0,
-            part: part,
-            ready: 0 < part.kept,
-            ended: true,
-            turns: left,
-        };
-    }
+    let end = got.unwrap_or(0).min(chunk.len());
+    let ended = end == 0;
     Reader {
         at: 0,
-        end: n,
-        part: part,
-        ready: false,
-        ended: false,
+        end,
+        ready: ended && r.part.has_bytes(),
+        ended,
         turns: left,
+        ..r
     }
 }
 
@@ -155,11 +127,8 @@ fn step<I: Read>(input: &mut I, r: Reader, chunk: &mut [u8], line: &mut [u8]) ->
     ensures { Stepped r chunk.old line.old result chunk.new line.new }
 {
     let left = r.turns - 1;
-    let at = r.at;
-    if at < r.end {
-        if at < chunk.len() {
-            return take_one(r, chunk[at], left, line);
-        }
+    if r.at < r.end && r.at < chunk.len() {
+        return take_one(r, chunk[r.at], left, line);
     }
     refill(input, r, left, chunk)
 }
@@ -168,38 +137,11 @@ fn step<I: Read>(input: &mut I, r: Reader, chunk: &mut [u8], line: &mut [u8]) ->
 fn waits(r: Reader) -> bool
     ensures { result ≡ waiting r }
 {
-    if r.ready {
-        return false;
-    }
-    if r.ended {
-        return false;
-    }
-    0 < r.turns
+    !r.ready && !r.ended && 0 < r.turns
 }
 
-// Reads to the end of the next line. After the input's end it takes no step.
-fn read_line<I: Read>(input: &mut I, from: Reader, chunk: &mut [u8], line: &mut [u8]) -> Reader
-    requires { 0 < length line.old }
-    ensures { NextLine from chunk.old result chunk.new line.new }
-{
-    let mut r = Reader {
-        at: from.at,
-        end: from.end,
-        part: Part {
-            kept: 0,
-            long: false,
-        },
-        ready: false,
-        ended: from.ended,
-        turns: from.turns,
-    };
-    while waits(r) {
-        r = step(input, r, chunk, line);
-    }
-    r
-}
-
-// The next line of the input, if there is one. What is left of the chunk is for the line after it.
+// The next line of the input, if there is one: no step is taken after the input's end. What is left of the chunk is for the line after it.
+// A step takes a byte or reads a chunk, so the loop goes by the reader and has no index.
 pub fn next_line<I: Read>(
     input: &mut I,
     from: Reader,
@@ -208,5 +150,13 @@ pub fn next_line<I: Read>(
 ) -> Reader
     ensures { NextLine from chunk.old result chunk.new line.new }
 {
-    read_line(input, from, chunk, line)
+    let mut r = Reader {
+        part: Part::Kept(0),
+        ready: false,
+        ..from
+    };
+    while waits(r) {
+        r = step(input, r, chunk, line);
+    }
+    r
 }

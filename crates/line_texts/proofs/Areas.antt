@@ -4,13 +4,15 @@ use mathlib.Core.Path.{◌∙◌, ◌≡◌, ap, refl, sym}
 use mathlib.Core.List.{List, [], ◌++◌, ◌∷◌, append-nil}
 use Prim.Native.Nat.{◌%◌, ◌+◌, ◌/◌, ◌<◌, ◌^◌, ◌≤◌, suc, ℕ}
 use lib.ListN.{get_or, length, length-append, set, take}
-use lib.Seq.{take_all, take-suc}
+use lib.Seq.{take-suc}
 use native.Mathlib.Nat.{le_of_suc-le-suc}
 use native.Mathlib.Numerals.{add-one}
 use native.Mathlib.Omega.{arith}
 use Rattle.line_texts.specs.Areas.{Puts, Written, decimal, shown, spaced}
+use Rattle.line_texts.specs.declared.Out.{Out}
+use Rattle.line_texts.specs.Outs.{Added, added_as, added_then}
 use Rattle.line_texts.specs.Decimals.{decimal_large, decimal-small}
-use Rattle.line_texts.specs.Puts.{puts_as, puts_none, puts_then, shown-none}
+use Rattle.line_texts.specs.Puts.{puts_none, shown-none}
 
 -- ---- one byte
 
@@ -63,38 +65,35 @@ module _ {b : ℕ} {a : List ℕ} {at : ℕ} where
 -- ---- the loops: the text of a list is put element by element
 
 -- the text of the first i elements of s is put
-pub record PutFirst (text : List ℕ → List ℕ) (s : List ℕ) (i : ℕ) (a : List ℕ) (at : ℕ) (z : List ℕ) (end : ℕ) : Type 0 where
+pub record PutFirst (text : List ℕ → List ℕ) (s : List ℕ) (i : ℕ) (o z : Out) : Type 0 where
   pub inside : i ≤ length s
-  pub kept : length z ≡ length a
-  pub puts : Puts (text (take i s)) a at z end
+  pub added : Added (text (take i s)) o z
 
-module _ {text : List ℕ → List ℕ} {s a : List ℕ} {at : ℕ} where
-  pub put-none : text [] ≡ [] → PutFirst text s 0 a at a at
-  put-none e = record { inside = omega arith; kept = refl; puts = puts_as (sym e) (puts_none a at) }
+module _ {text : List ℕ → List ℕ} {s : List ℕ} {o : Out} where
+  pub put-none : text [] ≡ [] → PutFirst text s 0 o o
+  put-none e = record {
+    inside = omega arith;
+    added = added_as (sym e) (record { puts = puts_none o.area.now o.at; same_reference = refl; same_room = refl });
+  }
 
   -- the text of a list is the texts of its elements, one after the other
-  pub put-more : {i : ℕ} {m : List ℕ} {k : ℕ} {z : List ℕ} {r : ℕ} → ((l r : List ℕ) → text (l ++ r) ≡ text l ++ text r) → i < length s
-      → PutFirst text s i a at m k → length z ≡ length m → Puts (text (get_or s i 0 ∷ [])) m k z r → PutFirst text s (i + 1) a at z r
-  put-more {i} joins h p kept q =
+  pub put-more : {i : ℕ} {m z : Out} → ((l r : List ℕ) → text (l ++ r) ≡ text l ++ text r) → i < length s
+      → PutFirst text s i o m → Added (text (get_or s i 0 ∷ [])) m z → PutFirst text s (i + 1) o z
+  put-more {i} joins h p q =
       let more = ap (λ (j : ℕ). text (take j s)) (add-one i) ∙ ap text (take-suc s i 0 h) ∙ joins (take i s) (get_or s i 0 ∷ []) in
-      record { inside = omega arith; kept = kept ∙ p.kept; puts = puts_as (sym more) (puts_then p.puts q) }
-
-  pub put_all : {i : ℕ} {z : List ℕ} {r : ℕ} → length s ≤ i → PutFirst text s i a at z r → Puts (text s) a at z r
-  put_all {i} h p = puts_as (ap text (take_all i s h)) p.puts
+      record { inside = omega arith; added = added_as (sym more) (added_then p.added q) }
 
 -- ---- digits
 
-module _ {n d : ℕ} {a : List ℕ} {at : ℕ} {z : List ℕ} {r : ℕ} where
-  pub digit-put : n < 10 → d ≡ 48 + n → Puts (d ∷ []) a at z r → Puts (decimal n) a at z r
-  digit-put h e p = puts_as (ap (λ (x : ℕ). x ∷ []) e ∙ sym (decimal-small n h)) p
+module _ {n : ℕ} {o z : Out} where
+  pub digit-put : n < 10 → Added ((48 + n % 10) ∷ []) o z → Added (decimal n) o z
+  digit-put h p = added_as (ap (λ (x : ℕ). x ∷ []) (omega arith) ∙ sym (decimal-small n h)) p
 
-  pub digits-put : {m : List ℕ} {k : ℕ} → 10 ≤ n → n < 2 ^ 64 → d ≡ 48 + n % 10 → Puts (decimal (n / 10)) a at m k → Puts (d ∷ []) m k z r
-      → Puts (decimal n) a at z r
-  digits-put h b e p q = puts_as (ap (λ (x : ℕ). decimal (n / 10) ++ (x ∷ [])) e ∙ sym (decimal_large n h (omega arith))) (puts_then p q)
+  pub digits-put : {m : Out} → 10 ≤ n → n < 2 ^ 64 → Added (decimal (n / 10)) o m → Added ((48 + n % 10) ∷ []) m z → Added (decimal n) o z
+  digits-put h b p q = added_as (sym (decimal_large n h (omega arith))) (added_then p q)
 
 -- ---- a space and a number
 
-pub spaced-put : (n : ℕ) {a : List ℕ} {at : ℕ} {m : List ℕ} {k : ℕ} {z : List ℕ} {r : ℕ} → Puts (32 ∷ []) a at m k
-    → Puts (decimal n) m k z r → Puts (spaced (n ∷ [])) a at z r
+pub spaced-put : (n : ℕ) {o m z : Out} → Added (32 ∷ []) o m → Added (decimal n) m z → Added (spaced (n ∷ [])) o z
 unfolding spaced
-spaced-put n p q = puts_as (ap (λ (x : List ℕ). 32 ∷ x) (sym (append-nil (decimal n)))) (puts_then p q)
+spaced-put n p q = added_as (ap (λ (x : List ℕ). 32 ∷ x) (sym (append-nil (decimal n)))) (added_then p q)

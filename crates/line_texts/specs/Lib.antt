@@ -1,4 +1,5 @@
 pub mod Areas
+pub mod Outs
 pub mod Decimals
 pub mod Puts
 pub mod Ascii

@@ -1,84 +1,70 @@
 // Text put into an area, as much of it as fits: bytes, and numbers in decimal digits.
 #![tactic(auto)]
 
-ghost use Rattle.std.specs.Prelude.{◌≡◌, [], ◌++◌, ◌∷◌, ◌+◌, ◌<◌};
-ghost use Rattle.line_texts.specs.Areas.{Puts, decimal, spaced};
+ghost use Rattle.std.specs.Prelude.{[], ◌++◌, ◌∷◌};
+ghost use Rattle.line_texts.specs.Areas.{decimal, spaced};
+ghost use Rattle.line_texts.specs.Outs.{Added};
 
-// Puts a byte at index `at` if it fits, and answers the index after it.
-pub fn put_byte(b: u8, out: &mut [u8], at: usize) -> usize
-    ensures { Puts (b ∷ []) out.old at out.new result }
-{
-    if at < out.len() {
-        out[at] = b;
-        return at + 1;
+// A lent area, and the index in it where the text that was put so far ends.
+#[derive(Drop)]
+pub struct Out<'a> {
+    pub area: &'a mut [u8],
+    pub at: usize,
+}
+
+impl<'a> Out<'a> {
+    // Puts a byte if it fits.
+    pub fn byte(&mut self, b: u8)
+        ensures { Added (b ∷ []) self.old self.new }
+    {
+        if self.at < self.area.len() {
+            self.area[self.at] = b;
+            self.at += 1;
+        }
     }
-    at
-}
 
-// Puts as many bytes of s as fit.
-pub fn put(s: &[u8], out: &mut [u8], at: usize) -> usize
-    ensures { Puts s.now out.old at out.new result }
-{
-    let mut end = at;
-    let mut i = 0;
-    while i < s.len() {
-        end = put_byte(s[i], out, end);
-        i += 1;
+    // Puts as many bytes of s as fit.
+    pub fn text(&mut self, s: &[u8])
+        ensures { Added s.now self.old self.new }
+    {
+        for &b in s {
+            self.byte(b);
+        }
     }
-    end
-}
 
-// The byte of a decimal digit.
-fn digit(d: u64) -> u8
-    requires { d < 10 }
-    ensures { result ≡ 48 + d }
-{
-    48 + d as u8
-}
-
-// Puts a number in decimal digits: those of its tenth, then its last.
-fn put_number(n: u64, out: &mut [u8], at: usize) -> usize
-    ensures { Puts (decimal n) out.old at out.new result }
-{
-    if n < 10 {
-        return put_byte(digit(n), out, at);
+    // Puts a number in decimal digits: those of its tenth, then its last. By hand, since `write!` may answer an error, and then promises
+    // nothing of what it wrote.
+    fn number(&mut self, n: u64)
+        ensures { Added (decimal n) self.old self.new }
+    {
+        if 10 <= n {
+            self.number(n / 10);
+        }
+        self.byte(b'0' + (n % 10) as u8);
     }
-    let end = put_number(n / 10, out, at);
-    put_byte(digit(n % 10), out, end)
-}
 
-// Puts a space and a number.
-pub fn put_spaced(n: u64, out: &mut [u8], at: usize) -> usize
-    ensures { Puts (spaced (n ∷ [])) out.old at out.new result }
-{
-    let end = put_byte(32, out, at);
-    put_number(n, out, end)
-}
-
-// Puts a space and a word as a number.
-pub fn put_word(w: u32, out: &mut [u8], at: usize) -> usize
-    ensures { Puts (spaced (w ∷ [])) out.old at out.new result }
-{
-    put_spaced(w as u64, out, at)
-}
-
-// Puts a name, a space and a number.
-pub fn put_named(name: &[u8], n: u64, out: &mut [u8], at: usize) -> usize
-    ensures { Puts (name.now ++ spaced (n ∷ [])) out.old at out.new result }
-{
-    let end = put(name, out, at);
-    put_spaced(n, out, end)
-}
-
-// Puts each word as a number, one space before each.
-pub fn put_words(words: &[u32], out: &mut [u8], at: usize) -> usize
-    ensures { Puts (spaced words.now) out.old at out.new result }
-{
-    let mut end = at;
-    let mut i = 0;
-    while i < words.len() {
-        end = put_word(words[i], out, end);
-        i += 1;
+    // Puts a space and a number.
+    pub fn spaced(&mut self, n: u64)
+        ensures { Added (spaced (n ∷ [])) self.old self.new }
+    {
+        self.byte(b' ');
+        self.number(n);
     }
-    end
+
+    // Puts a name, a space and a number.
+    pub fn named(&mut self, name: &[u8], n: u64)
+        ensures { Added (name.now ++ spaced (n ∷ [])) self.old self.new }
+    {
+        self.text(name);
+        self.spaced(n);
+    }
+
+    // Puts each word as a number, one space before each.
+    pub fn words(&mut self, words: &[u32])
+        ensures { Added (spaced words.now) self.old self.new }
+    {
+        for &w in words {
+            self.spaced(u64::from(w));
+        }
+    }
 }

@@ -1,24 +1,14 @@
 -- Words put into bytes, one after the other. Assumes nothing.
 use mathlib.Core.Path.{◌∙◌, ◌≡◌, ap, ap₂, refl, sym}
 use mathlib.Core.List.{List, [], ◌++◌, ◌∷◌, append-nil}
-use Prim.Native.Nat.{◌%◌, ◌*◌, ◌+◌, ◌/◌, ◌<◌, ◌≤◌, suc, zero-le, ℕ}
-use lib.ListN.{drop, get_or, length, set, take}
-use lib.Seq.{drop-append-add, drop-drop, drop-length, length-take-le, sets-eq, take_at, take-length, take-suc}
+use Prim.Native.Nat.{◌*◌, ◌+◌, ◌<◌, ◌≤◌, zero-le, ℕ}
+use lib.ListN.{drop, get_or, length, take}
+use lib.Seq.{drop-append-add, drop-drop, drop-length, length-take-le, take_at, take-length, take-suc}
 use native.Mathlib.Numerals.{add-one}
 use native.Mathlib.Omega.{arith}
 use Rattle.model.specs.Bytes.{bytes_of}
 use Rattle.model.proofs.CardBack.{bytes-length}
 use Rattle.network.specs.Bytes.{bytes-append}
-
--- the four stores of a word
-pub stored : (s : List ℕ) (i w : ℕ) → i + 4 ≤ length s
-    → set (set (set (set s i (w % 256)) (i + 1) (w / 256 % 256)) (i + 2) (w / 65536 % 256)) (i + 3) (w / 16777216 % 256)
-    ≡ take i s ++ bytes_of (w ∷ []) ++ drop (i + 4) s
-stored s i w h =
-    let e1 : i + 1 ≡ suc i = omega arith in
-    let e2 : i + 2 ≡ suc (suc i) = omega arith in
-    let e3 : i + 3 ≡ suc (suc (suc i)) = omega arith in
-    rw (e1, e2, e3) (sets-eq (bytes_of (w ∷ [])) s i h)
 
 -- the first i words are in place, and the rest is as it was
 pub record Put (s₀ words : List ℕ) (i : ℕ) (s : List ℕ) : Type 0 where

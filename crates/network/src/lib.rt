@@ -2,8 +2,8 @@
 #![tactic(auto)]
 
 ghost use Rattle.std.specs.Prelude.{◌≡◌, [], ◌++◌, ◌∷◌, ◌*◌, ◌+◌, ◌<◌, ◌≤◌, min, eqb, drop, get_or, length, take};
+ghost use Rattle.std.proofs.Math.Option.{none};
 ghost use Rattle.graph.specs.Total.{◌⊕◌};
-ghost use Rattle.model.specs.Types as model;
 ghost use Rattle.model.specs.Word.{closed_word, none_word, of_word, unasked, word};
 ghost use Rattle.model.specs.Bytes.{bytes_of, word_at};
 ghost use Rattle.model.specs.Classes.{access_of, admits, halved};
@@ -51,7 +51,7 @@ pub const MOST_PAIR_WORDS: usize = RECORD * (MOST_PAIRS as usize);
 pub type TimeWord = u64;
 
 // Numbers of junctions, roads and pairs, and the card's length in bytes.
-#[derive(Clone, Copy)]
+#[derive(Clone, Copy, Debug, PartialEq, Eq)]
 pub struct Sizes {
     pub n: u32,
     pub m: u32,
@@ -60,11 +60,11 @@ pub struct Sizes {
 }
 
 // The number of a junction (a vertex).
-#[derive(Clone, Copy)]
+#[derive(Clone, Copy, Debug, PartialEq, Eq, PartialOrd, Ord)]
 pub struct Junction(pub u32);
 
 // A level of the contraction order. (Document 01: a rank.)
-#[derive(Clone, Copy)]
+#[derive(Clone, Copy, Debug, PartialEq, Eq, PartialOrd, Ord)]
 pub struct Rank(pub u32);
 
 // The words of the marks.
@@ -73,7 +73,7 @@ const NONE_WORD: TimeWord = 18446744073709551615;
 const UNASKED_WORD: TimeWord = 18446744073709551614;
 
 // A time in tenths of a second, or one of the marks.
-#[derive(Clone, Copy)]
+#[derive(Clone, Copy, Debug, PartialEq, Eq, PartialOrd, Ord)]
 pub struct Time(pub TimeWord);
 
 impl Time {
@@ -86,37 +86,23 @@ impl Time {
     // The live time of a closed road.
     pub const CLOSED: Time = Time(NONE_WORD);
 
-    // The time that a word of an area or of a card stands for.
-    pub fn of_word(w: TimeWord) -> Self
-        ensures { result.0 ≡ w }
-    {
-        Time(w)
-    }
-
-    // The word that stands for a time.
-    pub fn word(self) -> TimeWord
-        ensures { result ≡ self.0 }
-    {
-        self.0
-    }
-
     pub fn is_none(self) -> bool
         ensures { result ≡ eqb self.0 none_word }
     {
-        self.0 == Time::NONE.0
+        self == Time::NONE
     }
 
     pub fn is_unasked(self) -> bool
         ensures { result ≡ eqb self.0 unasked }
     {
-        self.0 == Time::UNASKED.0
+        self == Time::UNASKED
     }
 
     // Is this the live time of a closed road?
     pub fn is_closed(self) -> bool
         ensures { result ≡ eqb self.0 closed_word }
     {
-        self.0 == Time::CLOSED.0
+        self == Time::CLOSED
     }
 
     // The sum of two times: none where one is none, or where it does not fit below the marks. Every sum of times is formed here, after the
@@ -137,176 +123,101 @@ impl Time {
     pub fn or_sum(self, a: Time, b: Time) -> Self
         ensures { result.0 ≡ min self.0 (word (fit (of_word a.0 ⊕ of_word b.0))) }
     {
-        let best = self.0;
-        let sum = a.plus(b).0;
-        if sum < best { Time(sum) } else { Time(best) }
+        Time(self.0.min(a.plus(b).0))
     }
 }
 
-// Why something is refused: the number of the question; the road, place or leg that 5, 6 and 17 name and the count that 15 gives, else 0.
-#[derive(Clone, Copy)]
-pub struct Refusal {
-    pub question: u32,
-    pub place: u32,
-    pub count: u32,
+// A word of a card as a time.
+impl From<u32> for Time {
+    ghost from_gives = { λ w t. t.0 ≡ w };
+
+    fn from(w: u32) -> Self {
+        Time(w as TimeWord)
+    }
+}
+
+// Why something is refused: by which of the questions 1 to 18. Road, Place and NoLeg name the first road, place or leg that fails, NoPath
+// gives the count.
+#[derive(Clone, Copy, Debug, PartialEq, Eq)]
+pub enum Refusal {
+    Short,
+    Kinds,
+    Starts,
+    Sizes,
+    Road(u32),
+    Place(u32),
+    AreaLengths,
+    Room,
+    Lengths,
+    NoRoad,
+    NotAllowed,
+    NoJunction,
+    NoTarget,
+    LentLengths,
+    NoPath(u32),
+    StopCount,
+    NoLeg(u32),
+    NoClass,
 }
 
 impl Refusal {
-    pub const SHORT: Refusal = Refusal {
-        question: 1,
-        place: 0,
-        count: 0,
-    };
-
-    pub const KINDS: Refusal = Refusal {
-        question: 2,
-        place: 0,
-        count: 0,
-    };
-
-    pub const STARTS: Refusal = Refusal {
-        question: 3,
-        place: 0,
-        count: 0,
-    };
-
-    pub const SIZES: Refusal = Refusal {
-        question: 4,
-        place: 0,
-        count: 0,
-    };
-
-    // By 5, with the first failing road.
-    pub fn road(i: u32) -> Self
-        ensures { refusal_in result ≡ model.Road i }
+    // The number of the question.
+    pub fn question(self) -> u32
+        ensures { result ≡ (refusal_in self).question }
     {
-        Refusal {
-            question: 5,
-            place: i,
-            count: 0,
+        match self {
+            Refusal::Short => 1,
+            Refusal::Kinds => 2,
+            Refusal::Starts => 3,
+            Refusal::Sizes => 4,
+            Refusal::Road(_) => 5,
+            Refusal::Place(_) => 6,
+            Refusal::AreaLengths => 7,
+            Refusal::Room => 8,
+            Refusal::Lengths => 9,
+            Refusal::NoRoad => 10,
+            Refusal::NotAllowed => 11,
+            Refusal::NoJunction => 12,
+            Refusal::NoTarget => 13,
+            Refusal::LentLengths => 14,
+            Refusal::NoPath(_) => 15,
+            Refusal::StopCount => 16,
+            Refusal::NoLeg(_) => 17,
+            Refusal::NoClass => 18,
         }
     }
 
-    // By 6, with the first failing place.
-    pub fn place(i: u32) -> Self
-        ensures { refusal_in result ≡ model.Place i }
+    // The road, place or leg that 5, 6 and 17 name; 0 with any other.
+    pub fn place(self) -> u32
+        ensures { result ≡ (refusal_in self).place }
     {
-        Refusal {
-            question: 6,
-            place: i,
-            count: 0,
+        match self {
+            Refusal::Road(i) => i,
+            Refusal::Place(i) => i,
+            Refusal::NoLeg(i) => i,
+            _ => 0,
         }
     }
 
-    pub const AREA_LENGTHS: Refusal = Refusal {
-        question: 7,
-        place: 0,
-        count: 0,
-    };
-
-    pub const ROOM: Refusal = Refusal {
-        question: 8,
-        place: 0,
-        count: 0,
-    };
-
-    pub const LENGTHS: Refusal = Refusal {
-        question: 9,
-        place: 0,
-        count: 0,
-    };
-
-    pub const NO_ROAD: Refusal = Refusal {
-        question: 10,
-        place: 0,
-        count: 0,
-    };
-
-    pub const NOT_ALLOWED: Refusal = Refusal {
-        question: 11,
-        place: 0,
-        count: 0,
-    };
-
-    pub const NO_JUNCTION: Refusal = Refusal {
-        question: 12,
-        place: 0,
-        count: 0,
-    };
-
-    pub const NO_TARGET: Refusal = Refusal {
-        question: 13,
-        place: 0,
-        count: 0,
-    };
-
-    pub const LENT_LENGTHS: Refusal = Refusal {
-        question: 14,
-        place: 0,
-        count: 0,
-    };
-
-    // By 15, with the count.
-    pub fn no_path(count: u32) -> Self
-        ensures { refusal_in result ≡ model.NoPath count }
+    // The count that 15 gives; 0 with any other.
+    pub fn count(self) -> u32
+        ensures { result ≡ (refusal_in self).count }
     {
-        Refusal {
-            question: 15,
-            place: 0,
-            count: count,
+        match self {
+            Refusal::NoPath(count) => count,
+            _ => 0,
         }
     }
-
-    pub const STOP_COUNT: Refusal = Refusal {
-        question: 16,
-        place: 0,
-        count: 0,
-    };
-
-    // By 17, with the first leg that has no path.
-    pub fn no_leg(i: u32) -> Self
-        ensures { refusal_in result ≡ model.NoLeg i }
-    {
-        Refusal {
-            question: 17,
-            place: i,
-            count: 0,
-        }
-    }
-
-    pub const NO_CLASS: Refusal = Refusal {
-        question: 18,
-        place: 0,
-        count: 0,
-    };
 }
 
 // What questions find: nothing to refuse, or the first that says no.
-#[derive(Clone, Copy)]
-pub enum Verdict {
-    Passed,
-    Failed(Refusal),
-}
+pub type Verdict = Result<(), Refusal>;
 
-// A question that passes leaves the rest to decide; one that does not refuses.
-pub fn ask(passes: bool, q: Refusal, rest: Verdict) -> Verdict
-    ensures { verdict_in result ≡ ask passes (refusal_in q) (verdict_in rest) }
+// A question that does not pass refuses.
+pub fn ask(passes: bool, q: Refusal) -> Verdict
+    ensures { verdict_in result ≡ ask passes (refusal_in q) none }
 {
-    if passes { rest } else { Verdict::Failed(q) }
-}
-
-// The smaller of two numbers.
-pub fn smaller(a: usize, b: usize) -> usize
-    ensures { result ≡ min a b }
-{
-    if a < b { a } else { b }
-}
-
-// A byte as a word.
-pub fn wide(x: u8) -> u32
-    ensures { (result ≡ x) × (result < 256) }
-{
-    x as u32
+    if passes { Ok(()) } else { Err(q) }
 }
 
 // The word that begins at byte i, lowest byte first.
@@ -314,11 +225,7 @@ pub fn word_at(s: &[u8], i: usize) -> u32
     requires { i + 4 ≤ length s.now }
     ensures { result ≡ word_at s.now i }
 {
-    let a = wide(s[i]);
-    let b = wide(s[i + 1]);
-    let c = wide(s[i + 2]);
-    let d = wide(s[i + 3]);
-    a + 256 * b + 65536 * c + 16777216 * d
+    u32::from_le_bytes([s[i], s[i + 1], s[i + 2], s[i + 3]])
 }
 
 // ---- the map's two bodies: roads of 12 bytes, places of the order of 4
@@ -344,7 +251,7 @@ pub fn base_of(roads: &[u8], i: usize) -> Time
     requires { 12 * i + 12 ≤ length roads.now }
     ensures { result.0 ≡ word_at roads.now (12 * i + 8) }
 {
-    Time::of_word(word_at(roads, 12 * i + 8) as TimeWord)
+    Time::from(word_at(roads, 12 * i + 8))
 }
 
 // The junction of a rank, by the order.
@@ -360,10 +267,7 @@ pub fn junction_of(order: &[u8], r: Rank) -> Junction
 fn byte_of(access: &[u8], i: usize) -> u32
     ensures { (result ≡ access_of access.now i) × (result < 256) }
 {
-    if access.len() <= i {
-        return EVERY_CLASS;
-    }
-    wide(access[i])
+    access.get(i).map_or(EVERY_CLASS, |byte| u32::from(*byte))
 }
 
 // The byte without its lowest bits, as many as the class says: a number that is no class leaves none.
@@ -398,10 +302,7 @@ fn put_word(s: &mut [u8], i: usize, w: u32)
     requires { i + 4 ≤ length s.old }
     ensures { s.new ≡ take i s.old ++ bytes_of (w ∷ []) ++ drop (i + 4) s.old }
 {
-    s[i] = (w % 256) as u8;
-    s[i + 1] = (w / 256 % 256) as u8;
-    s[i + 2] = (w / 65536 % 256) as u8;
-    s[i + 3] = (w / 16777216 % 256) as u8;
+    s[i..i + 4].copy_from_slice(&w.to_le_bytes());
 }
 
 // Writes the bytes of a row of words.
@@ -409,9 +310,7 @@ pub fn put_words(s: &mut [u8], words: &[u32])
     requires { length s.old ≡ 4 * length words.now }
     ensures { s.new ≡ bytes_of words.now }
 {
-    let mut i = 0;
-    while i < words.len() {
-        put_word(s, 4 * i, words[i]);
-        i += 1;
+    for (i, w) in words.iter().enumerate() {
+        put_word(s, 4 * i, *w);
     }
 }

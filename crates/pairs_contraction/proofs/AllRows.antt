@@ -8,8 +8,6 @@ use lib.ListN.{get_or, length, replicate}
 use native.Mathlib.Nat.{not-suc-le-zero}
 use native.Mathlib.Numerals.{add-one}
 use native.Mathlib.Omega.{arith}
-use mir.Syntax.{w32}
-use mir.Val.{Fits}
 use Rattle.graph.proofs.Total.{some-some}
 use Rattle.graph.specs.Least.{min_below}
 use Rattle.graph.proofs.Least.{min_below_cong}
@@ -30,17 +28,13 @@ use Rattle.model.specs.Bytes.{word_at}
 use Rattle.model.specs.Areas.{rank_words, record_size, time_words, zeros_after}
 use Rattle.model.proofs.Laws.{listed_at, listed-length}
 use Rattle.network.specs.Bodies.{MapFacts, Sound, base_in_lem, head_in, map-facts, map_in, tail_in_lem}
-use Rattle.pairs_contraction.specs.declared.Contracted.TheVariants.{Kept, Overflow}
+use Rattle.std.specs.Prelude.{None, Some}
 use Rattle.pairs_rows.specs.Links.{Ranked, net_in}
 use Rattle.pairs_rows.specs.Rows.{most_blocks}
 use Rattle.pairs_fronts.specs.Fronts.{Narrow}
 use Rattle.pairs_storing.specs.Storing.{cleared}
 use Rattle.pairs_contraction.specs.Contraction.{Contraction, Ready, ranks_in}
 use Rattle.pairs_contraction.proofs.OneRow.{blocks, long, none_row}
-
--- the number of the next row fits
-pub row_fits : {r n : ℕ} → r < n → n ≤ most_junctions → Fits w32 (r + 1)
-row_fits {r} {n} h l = omega arith
 
 -- the roads and ranks that the code holds are the map's
 pub record Given (roads order ranks : List ℕ) : Type 0 where
@@ -163,7 +157,7 @@ module _ {roads order ranks : List ℕ} (g : Given roads order ranks) where
   -- the pairs up to those of r do not fit, so all do not
   pub contract_overflow : {r room : ℕ} {pairs times : List ℕ} → r < length ranks → length pairs ≡ room
       → length pairs < record_size * length (rows (direct N) (length ranks) (suc r))
-      → Contraction M room pairs times Overflow
+      → Contraction M room pairs times None
   contract_overflow {r} {room} {pairs} h e l = record {
     kept = λ k. absurd (omega (
       arith,
@@ -176,14 +170,14 @@ module _ {roads order ranks : List ℕ} (g : Given roads order ranks) where
   -- all rows are made, and the rest of both areas is cleared
   pub contract_end : {r count room : ℕ} {pairs times cursor ahead ends soon ups downs pairs' times' : List ℕ} → r ≡ length ranks
       → length pairs ≡ room → Ready (direct N) (length ranks) r count pairs times cursor ahead ends soon ups downs
-      → pairs' ≡ cleared count pairs → times' ≡ cleared count times → Contraction M room pairs' times' (Kept count)
+      → pairs' ≡ cleared count pairs → times' ≡ cleared count times → Contraction M room pairs' times' (Some count)
   contract_end {r} {count} e pairs-long y pairs-cleared times-cleared =
       let same : rows (direct N) (length ranks) r ≡ pairs_of M =
       ap (rows (direct N) (length ranks)) e ∙ pairs_are in
       let k : count ≡ length (pairs_of M) = y.holds.count-is ∙ ap length same in
       record {
         kept = λ h. (
-          ap Kept k,
+          ap Some k,
           pairs-cleared ∙ ap₂ zeros_after (y.holds.ranks_are ∙ ap rank_words same) pairs-long,
           times-cleared ∙ ap₂ zeros_after (y.holds.times_are ∙ ap time_words same) (y.holds.same-room ∙ pairs-long),
         );

@@ -21,56 +21,21 @@ use Rattle.graph.specs.Records.{Pair, edge, row, rows}
 use Rattle.graph.proofs.Records.{row_low, rows_at}
 use Rattle.model.specs.Word.{none_word}
 use Rattle.model.specs.Areas.{record_size}
-use Rattle.pairs_contraction.specs.declared.Contracted.TheVariants.{Kept, Overflow}
+use Rattle.std.specs.Prelude.{None, Option, Some}
 use Rattle.pairs_rows.specs.Rows.{RoadTimes, Row, block}
 use Rattle.pairs_rows.specs.Entries.{row_same}
 use Rattle.pairs_fronts.specs.Fronts.{Begun, Front, Holds, Lower, Sooner, Stage}
 use Rattle.pairs_fronts.specs.Holding.{holds_at}
-use Rattle.pairs_storing.specs.declared.Stored.{Stored}
-use Rattle.pairs_storing.specs.declared.Stored.TheVariants.{All, Full}
 use Rattle.pairs_storing.specs.Storing.{RowAppended, RowTimes}
 use Rattle.pairs_contraction.specs.Contraction.{Ready, RowDone}
-use Rattle.pairs_contraction.specs.Lending.{Lent}
 
 -- ---- the answers
 
-kept_same : {a b : ℕ} → Kept a ≡ Kept b → a ≡ b
+kept_same : {a b : ℕ} → Some a ≡ Some b → a ≡ b
 kept_same e = cc
 
-kept-overflow : {a : ℕ} → Kept a ≡ Overflow → ⊥
+kept-overflow : {a : ℕ} → Some a ≡ None → ⊥
 kept-overflow e = let z : ◌≡◌ {A = ℕ} 0 1 = cc in omega arith
-
--- ---- the areas
-
--- no area has become longer or shorter
-pub record SameLengths (a a' : Lent) : Type 0 where
-  pub pairs : length a'.pairs ≡ length a.pairs
-  pub times : length a'.times ≡ length a.times
-  pub cursor : length a'.cursor ≡ length a.cursor
-  pub ahead : length a'.ahead ≡ length a.ahead
-  pub ends : length a'.ends ≡ length a.ends
-  pub soon : length a'.soon ≡ length a.soon
-  pub ups : length a'.ups ≡ length a.ups
-  pub downs : length a'.downs ≡ length a.downs
-
-pub lengths-same : {a : Lent} → SameLengths a a
-lengths-same = record { pairs = refl; times = refl; cursor = refl; ahead = refl; ends = refl; soon = refl; ups = refl; downs = refl }
-
-pub lengths-on : {a a' a'' : Lent} → SameLengths a a' → SameLengths a' a'' → SameLengths a a''
-lengths-on s t = record {
-  pairs = t.pairs ∙ s.pairs;
-  times = t.times ∙ s.times;
-  cursor = t.cursor ∙ s.cursor;
-  ahead = t.ahead ∙ s.ahead;
-  ends = t.ends ∙ s.ends;
-  soon = t.soon ∙ s.soon;
-  ups = t.ups ∙ s.ups;
-  downs = t.downs ∙ s.downs;
-}
-
--- the row is relaxed over the ranks below k
-abbrev pub LowerIn : Weights → (n r k : ℕ) → Lent → (touched : List ℕ) → Type 0
-LowerIn w n r k a touched = Lower w n r k a.pairs a.times a.cursor a.ahead a.ends a.soon a.ups a.downs touched
 
 -- ---- the row of times at first
 
@@ -109,9 +74,9 @@ lower_start {count = count} y rn t = record {
 
 module _ {w : Weights} {n r count : ℕ} {pairs times cursor ahead ends soon ups₀ downs₀ : List ℕ}
     (y : Ready w n r count pairs times cursor ahead ends soon ups₀ downs₀) where
-  module _ {cursor' ahead' soon' ups downs touched : List ℕ}
-      (z : Lower w n r r pairs times cursor' ahead' ends soon' ups downs touched) where
-    s : Stage w n r r pairs times cursor' ahead' ends ups downs touched
+  module _ {cursor' ahead' ends' soon' ups downs touched : List ℕ}
+      (z : Lower w n r r pairs times cursor' ahead' ends' soon' ups downs touched) where
+    s : Stage w n r r pairs times cursor' ahead' ends' ups downs touched
     s = z.stage
 
     -- relaxed over all lower ranks, they are the times of the pairs
@@ -125,13 +90,13 @@ module _ {w : Weights} {n r count : ℕ} {pairs times cursor ahead ends soon ups
     }
 
     -- the records do not fit
-    pub row-overflow : {pairs' times' ups' downs' : List ℕ} {c : Stored} → c ≡ Full → RowAppended w n r ups' downs' pairs' times' c
-        → RowDone w n r pairs' times' cursor' ahead' ends soon' ups' downs' Overflow
+    pub row-overflow : {pairs' times' ups' downs' : List ℕ} {c : Option ℕ} → c ≡ None → RowAppended w n r ups' downs' pairs' times' c
+        → RowDone w n r pairs' times' cursor' ahead' ends' soon' ups' downs' None
     row-overflow e a = record { kept = λ k q. absurd (kept-overflow (sym q)); overflow = λ q. rw (add-one r) at (a.appended.full e) }
 
     -- they are appended, k in all, and the front of r's own row stands at its first one
-    module _ {pairs' times' ups' downs' : List ℕ} {k x : ℕ} {c : Stored}
-        (a : RowAppended w n r ups' downs' pairs' times' c) (ec : c ≡ All k)
+    module _ {pairs' times' ups' downs' : List ℕ} {k x : ℕ} {c : Option ℕ}
+        (a : RowAppended w n r ups' downs' pairs' times' c) (ec : c ≡ Some k)
         (ex : x ≡ cond (ltb count k) (get_or pairs' (record_size * count + 1) 0) n) (ep : length pairs' ≡ length pairs) where
       -- the fronts, with that of r begun
       abbrev cursor₁ : List ℕ
@@ -141,7 +106,7 @@ module _ {w : Weights} {n r count : ℕ} {pairs times cursor ahead ends soon ups
       ahead₁ = set ahead' r x
 
       abbrev ends₁ : List ℕ
-      ends₁ = set ends r k
+      ends₁ = set ends' r k
 
       abbrev bound₁ : ℕ
       bound₁ = min (get_or soon' (r / block) 0) x
@@ -155,7 +120,7 @@ module _ {w : Weights} {n r count : ℕ} {pairs times cursor ahead ends soon ups
       ahead_in : r < length ahead'
       ahead_in = omega (arith, s.inside, s.wide.aheads)
 
-      ends_in : r < length ends
+      ends_in : r < length ends'
       ends_in = omega (arith, s.inside, s.wide.ends_too)
 
       holds' : Holds (rows w n (suc r)) k pairs' times'
@@ -190,7 +155,7 @@ module _ {w : Weights} {n r count : ℕ} {pairs times cursor ahead ends soon ups
       own = record {
         cursor-is = get_or-set_same cursor' r count 0 cursor_in ∙ y.holds.count-is ∙ rw none-low (omega arith);
         ahead-is = get_or-set_same ahead' r x 0 ahead_in ∙ ex ∙ first-high ∙ rw none-low refl;
-        end_is = get_or-set_same ends r k 0 ends_in ∙ k-is;
+        end_is = get_or-set_same ends' r k 0 ends_in ∙ k-is;
       }
 
       sooner' : Sooner n (suc r) ahead₁ soon₁
@@ -226,7 +191,7 @@ module _ {w : Weights} {n r count : ℕ} {pairs times cursor ahead ends soon ups
         wide = record {
           cursors = omega (arith, s.wide.cursors, length-set cursor' r count);
           aheads = omega (arith, s.wide.aheads, length-set ahead' r x);
-          ends_too = omega (arith, s.wide.ends_too, length-set ends r k);
+          ends_too = omega (arith, s.wide.ends_too, length-set ends' r k);
         };
         area = omega (arith, y.area);
         narrow = y.narrow;
@@ -244,14 +209,14 @@ module _ {w : Weights} {n r count : ℕ} {pairs times cursor ahead ends soon ups
               record {
                 cursor-is = get_or-set_other cursor' r v count 0 ne ∙ f.cursor-is;
                 ahead-is = get_or-set_other ahead' r v x 0 ne ∙ f.ahead-is;
-                end_is = get_or-set_other ends r v k 0 ne ∙ f.end_is;
+                end_is = get_or-set_other ends' r v k 0 ne ∙ f.end_is;
               }
 
           later : {row : List ℕ} → Row r n row (λ h. none) → Row (suc r) n row (λ h. none)
           later q = record { wide = q.wide; at = λ h rh hn. q.at h (omega arith) hn }
 
-      pub row_kept : {cursor'' ahead'' ends'' soon'' : List ℕ} → Begun r count x k cursor' ahead' ends soon' cursor'' ahead'' ends'' soon''
-          → RowDone w n r pairs' times' cursor'' ahead'' ends'' soon'' ups' downs' (Kept k)
+      pub row_kept : {cursor'' ahead'' ends'' soon'' : List ℕ} → Begun r count x k cursor' ahead' ends' soon' cursor'' ahead'' ends'' soon''
+          → RowDone w n r pairs' times' cursor'' ahead'' ends'' soon'' ups' downs' (Some k)
       row_kept b = rw (b.cursor-is, b.ahead-is, b.ends_are, b.soon-is) (record {
         kept = λ j q. subst (λ (m : ℕ). Ready w n (suc r) m pairs' times' cursor₁ ahead₁ ends₁ soon₁ ups' downs') (kept_same q) ready;
         overflow = λ q. absurd (kept-overflow q);

@@ -1,6 +1,6 @@
 -- What the contraction answers and leaves. Assumes nothing.
 use Rattle.std.proofs.Common.{◌∙◌, ap, sym, arith}
-use Rattle.std.specs.Prelude.{◌≡◌, List, ◌*◌, ◌<◌, ◌≤◌, suc, ℕ, length}
+use Rattle.std.specs.Prelude.{◌≡◌, List, None, Option, Some, ◌*◌, ◌<◌, ◌≤◌, suc, ℕ, length}
 use Rattle.std.proofs.Math.Option.{none}
 use Rattle.std.proofs.Math.Decide.{dec_lt}
 use Rattle.graph.specs.Path.{Weights}
@@ -10,8 +10,6 @@ use Rattle.model.specs.Limits.{most_pairs}
 use Rattle.model.specs.Bytes.{listed}
 use Rattle.model.specs.Areas.{record_size, records_in, times_in}
 use Rattle.network.specs.Bodies.{Prepared, Sound, map_in}
-use Rattle.pairs_contraction.specs.declared.Contracted.{Contracted}
-use Rattle.pairs_contraction.specs.declared.Contracted.TheVariants.{Kept, Overflow}
 use Rattle.pairs_rows.specs.Rows.{Row}
 use Rattle.pairs_fronts.specs.Fronts.{Front, Holds, Narrow, Sooner, Wide}
 
@@ -31,21 +29,21 @@ pub record Ready (w : Weights) (n r count : ℕ) (pairs times cursor ahead ends 
   pub downs-none : Row r n downs (λ h. none)
 
 -- the same of the next rank; or the pairs up to those of r do not fit
-pub record RowDone (w : Weights) (n r : ℕ) (pairs times cursor ahead ends soon ups downs : List ℕ) (answer : Contracted) : Type 0 where
-  pub kept : (count : ℕ) → answer ≡ Kept count → Ready w n (suc r) count pairs times cursor ahead ends soon ups downs
-  pub overflow : answer ≡ Overflow → length pairs < record_size * length (rows w n (suc r))
+pub record RowDone (w : Weights) (n r : ℕ) (pairs times cursor ahead ends soon ups downs : List ℕ) (answer : Option ℕ) : Type 0 where
+  pub kept : (count : ℕ) → answer ≡ Some count → Ready w n (suc r) count pairs times cursor ahead ends soon ups downs
+  pub overflow : answer ≡ None → length pairs < record_size * length (rows w n (suc r))
 
--- document 01: the number of kept pairs, and their records followed by zeros, if they fit; Overflow exactly if they do not. (Document 02,
+-- document 01: the number of kept pairs, and their records followed by zeros, if they fit; None exactly if they do not. (Document 02,
 -- A7: "room for the same whole number of pairs in both" areas.)
-pub record Contraction (M : Map) (room : ℕ) (pairs times : List ℕ) (answer : Contracted) : Type 0 where
+pub record Contraction (M : Map) (room : ℕ) (pairs times : List ℕ) (answer : Option ℕ) : Type 0 where
   pub kept : record_size * length (pairs_of M) ≤ room
-      → (answer ≡ Kept (length (pairs_of M))) × (pairs ≡ records_in M room) × (times ≡ times_in M room)
-  pub overflow : room < record_size * length (pairs_of M) → answer ≡ Overflow
+      → (answer ≡ Some (length (pairs_of M))) × (pairs ≡ records_in M room) × (times ≡ times_in M room)
+  pub overflow : room < record_size * length (pairs_of M) → answer ≡ None
 
 -- ---- what preparing takes from it
 
-module _ {M : Map} {room : ℕ} {pairs times : List ℕ} {answer : Contracted} (c : Contraction M room pairs times answer) where
-  fits : (k : ℕ) → answer ≡ Kept k → record_size * length (pairs_of M) ≤ room
+module _ {M : Map} {room : ℕ} {pairs times : List ℕ} {answer : Option ℕ} (c : Contraction M room pairs times answer) where
+  fits : (k : ℕ) → answer ≡ Some k → record_size * length (pairs_of M) ≤ room
   fits k e = go (dec_lt room (record_size * length (pairs_of M)))
     where
       go : Dec (room < record_size * length (pairs_of M)) → record_size * length (pairs_of M) ≤ room
@@ -55,7 +53,7 @@ module _ {M : Map} {room : ℕ} {pairs times : List ℕ} {answer : Contracted} (
           absurd (omega arith)
       go (no h) = omega arith
 
-  pub contraction_overflow : answer ≡ Overflow → room < record_size * length (pairs_of M)
+  pub contraction_overflow : answer ≡ None → room < record_size * length (pairs_of M)
   contraction_overflow e = go (dec_lt room (record_size * length (pairs_of M)))
     where
       go : Dec (room < record_size * length (pairs_of M)) → room < record_size * length (pairs_of M)
@@ -65,8 +63,8 @@ module _ {M : Map} {room : ℕ} {pairs times : List ℕ} {answer : Contracted} (
           let z : ◌≡◌ {A = ℕ} 0 1 = cc in
           absurd (omega arith)
 
-pub contraction_prepared : {roads order ranks pairs times : List ℕ} {room count : ℕ} {answer : Contracted} → Sound roads order
-    → ranks ≡ ranks_in roads order → length pairs ≡ room → length times ≡ room → answer ≡ Kept count
+pub contraction_prepared : {roads order ranks pairs times : List ℕ} {room count : ℕ} {answer : Option ℕ} → Sound roads order
+    → ranks ≡ ranks_in roads order → length pairs ≡ room → length times ≡ room → answer ≡ Some count
     → Contraction (map_in roads order) room pairs times answer → Prepared roads order ranks pairs times count
 contraction_prepared {roads} {order} {room = room} {count} {answer} s r pairs-long times_long e c =
     let f = fits c count e in

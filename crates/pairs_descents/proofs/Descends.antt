@@ -233,19 +233,6 @@ pub junction-at : {r s j : ℕ} (order : List ℕ) → r ≡ s → j ≡ word_at
 junction-at order e g = rw e at g
 
 module _ {n i : ℕ} {order pairs times d : List ℕ} where
-  -- a rank or a junction that is none: nothing is handed
-  pub no-low : {low : ℕ} → low ≡ low_in pairs i → n ≤ low → Handed n order pairs times i d d
-  no-low {low} e h = record { exact = λ low-in high-in lower_in higher-in w. absurd (omega (arith, e, h, low-in)) }
-
-  pub no-high : {high : ℕ} → high ≡ high_in pairs i → n ≤ high → Handed n order pairs times i d d
-  no-high {high} e h = record { exact = λ low-in high-in lower_in higher-in w. absurd (omega (arith, e, h, high-in)) }
-
-  pub no_lower : {a : ℕ} → a ≡ lower_in order pairs i → n ≤ a → Handed n order pairs times i d d
-  no_lower {a} e h = record { exact = λ low-in high-in lower_in higher-in w. absurd (omega (arith, e, h, lower_in)) }
-
-  pub no-higher : {b : ℕ} → b ≡ higher_in order pairs i → n ≤ b → Handed n order pairs times i d d
-  no-higher {b} e h = record { exact = λ low-in high-in lower_in higher-in w. absurd (omega (arith, e, h, higher-in)) }
-
   -- a lower junction without a total has nothing to hand down
   pub no-rest : {a rest : ℕ} → a ≡ lower_in order pairs i → rest ≡ get_or d a 0 → rest ≡ none_word → Handed n order pairs times i d d
   no-rest {a} {rest} ea er en =
@@ -257,14 +244,3 @@ module _ {n i : ℕ} {order pairs times d : List ℕ} where
           (word (fit (of_word (down_in times i) ⊕ of_word (get_or d (lower_in order pairs i) 0))))
           ≡ get_or d (higher_in order pairs i) 0
       kept q w = rw (q, of_word-none, ⊕-none) (omega arith)
-
-  -- best, time and rest are read as times, v is stored
-  pub handed : {a b best time rest least v : ℕ} → a ≡ lower_in order pairs i → b ≡ higher_in order pairs i → best ≡ get_or d b 0
-      → time ≡ down_in times i → rest ≡ get_or d a 0 → least ≡ min best (word (fit (of_word time ⊕ of_word rest)))
-      → v ≡ least → Handed n order pairs times i d (set d b v)
-  handed ea eb p q r s f = record {
-    exact = λ l h lr hr w.
-        ap₂ (set d) eb
-        (f ∙ s ∙ ap₂ min (p ∙ ap (λ (j : ℕ). get_or d j 0) eb)
-        (ap₂ (λ (j k : ℕ). word (fit (of_word j ⊕ of_word k))) q (r ∙ ap (λ (j : ℕ). get_or d j 0) ea)));
-  }

@@ -1,10 +1,11 @@
 -- What one record and the pass over all records leave of the down totals. Definitions only.
-use Rattle.std.specs.Prelude.{◌≡◌, List, ◌*◌, ◌<◌, ◌≤◌, min, ℕ, get_or, set, take}
+use Rattle.std.specs.Prelude.{None, Option, Some, ◌≡◌, List, ◌*◌, ◌<◌, ◌≤◌, min, ℕ, get_or, set, take}
 use Rattle.graph.specs.Total.{◌⊕◌}
 use Rattle.graph.specs.Folds.{hand, pass, seed}
 use Rattle.graph.specs.Map.{Map, down_total_of, pairs_of, rank}
 use Rattle.model.specs.Word.{none_word, of_word, word}
 use Rattle.model.specs.Bytes.{listed, word_at}
+use Rattle.network.specs.declared.Junction.{Junction}
 use Rattle.network.specs.Width.{fit}
 use Rattle.network.specs.Bodies.{Prepared, map_in}
 use Rattle.pairs_records.specs.Holds.{Holds}
@@ -15,6 +16,11 @@ pub record Descended (order pairs times : List ℕ) (count : ℕ) (z : List ℕ)
   -- where preparing left the areas: the least totals over paths of down times, descending in rank to the target
   pub exact : (roads ranks : List ℕ) → Prepared roads order ranks pairs times count
       → z ≡ listed (map_in roads order).vertices (λ v. word (down_total_of (map_in roads order) t v))
+
+-- what is found for rank r: the junction that the order has there, where r is one of the n ranks and that one of the n junctions
+abbrev pub Found : (n : ℕ) (order : List ℕ) (r : ℕ) → Option Junction → Type 0
+Found n order r (Some j) = (r < n) × (j.0 < n) × (j.0 ≡ word_at order (4 * r))
+Found n order r None = (r < n) × (word_at order (4 * r) < n) → ⊥
 
 -- the junctions of record i
 abbrev pub lower_in : (order pairs : List ℕ) → ℕ → ℕ

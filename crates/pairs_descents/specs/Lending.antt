@@ -5,6 +5,7 @@ use denote.Triple.Both.{Both}
 use Rattle.model.specs.Limits.{most_junctions, most_pairs}
 use Rattle.model.specs.Areas.{record_size}
 use Rattle.network.specs.Lending.{Held, Slice}
+use Rattle.pairs_records.specs.declared.Records.{Records}
 use Rattle.pairs_descents.specs.Downs.{Descended, Handed}
 
 -- the order, the ranks and the times of the pairs, and the down totals
@@ -14,14 +15,11 @@ pub record Lent : Type 0 where
   pub times : List ℕ
   pub down : List ℕ
 
-abbrev pub lent_of : (order pairs times : Held) (down : MutBor (List ℕ)) → Lent
-lent_of o p q d = record { order = o.now; pairs = p.now; times = q.now; down = d.now }
+abbrev pub lent_of : (order : Held) (records : Records) (down : MutBor (List ℕ)) → Lent
+lent_of o r d = record { order = o.now; pairs = r.pairs.now; times = r.times.now; down = d.now }
 
-abbrev pub lent : (order pairs times : Slice) (down : Both (MutBor (List ℕ)) (MutBor (List ℕ))) → Both Lent Lent
-lent o p q d = record {
-  entry = lent_of o.entry p.entry q.entry d.entry;
-  exit = lent_of o.exit p.exit q.exit d.exit;
-}
+abbrev pub lent : (order : Slice) (records : Both Records Records) (down : Both (MutBor (List ℕ)) (MutBor (List ℕ))) → Both Lent Lent
+lent o r d = record { entry = lent_of o.entry r.entry d.entry; exit = lent_of o.exit r.exit d.exit }
 
 -- record i may hand a total down, and does
 pub record HandAsked (n i : ℕ) (a : Lent) : Type 0 where

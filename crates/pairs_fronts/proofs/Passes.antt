@@ -391,9 +391,3 @@ module _ {w : Weights} {n r v : ℕ} {pairs times cursor ahead ends ups downs to
       front u h (no e) = apart u e (s.passed u (omega arith))
 
 -- ---- the high ahead
-
-pub ahead_in : {i end x y : ℕ} (n : ℕ) → i < end → x ≡ y → x ≡ cond (ltb i end) y n
-ahead_in {i} {end} n h e = rw (lt-ltb i end h) e
-
-pub ahead-out : {i end : ℕ} (x n : ℕ) → end ≤ i → n ≡ cond (ltb i end) x n
-ahead-out {i} {end} x n h = rw (le-ltb i end h)

@@ -6,7 +6,8 @@ use mathlib.Core.Bool.{Bool, false, true}
 use mathlib.Core.Option.{none, some}
 use mathlib.Core.List.{List}
 use Prim.Native.Nat.{◌*◌, ◌+◌, ◌<◌, ◌≤◌, min, suc, ℕ}
-use borrow.Author.Tests.{le-ltb, lt-ltb}
+use borrow.Author.Tests.{eqb-false, eqb-true, le-ltb, lt-ltb}
+use lib.Dec.{eqb}
 use lib.ListN.{get_or, length, length-set, set}
 use lib.Seq.{get_or-set_other, get_or-set_same}
 use native.Mathlib.Decide.{dec_lt, ℕ_discrete}
@@ -337,8 +338,25 @@ module _ {n : ℕ} {order pairs times : List ℕ} {count r i : ℕ} (lr : r < n)
 
 -- ---- what stands for a rank; i is its junction
 
+-- at another rank h, with other estimates e, the same may be asked
+module _ {n count r h : ℕ} {a : Lent} {e : List ℕ} (asked : RankAsked n count r a) (hn : h < n) (len : length e ≡ n) where
+  pub known-at : KnownAsked n h a.order e
+  known-at = record { rank_in = hn; n-high = asked.n-high; order_is = asked.order_is; estimates_are = len }
+
+  pub rank-at : RankAsked n count h (record a { estimates = e })
+  rank-at = record {
+    rank_in = hn;
+    n-high = asked.n-high;
+    order_is = asked.order_is;
+    down_is = asked.down_is;
+    estimates_are = len;
+    records_in = asked.records_in;
+    times_in = asked.times_in;
+    count-high = asked.count-high;
+  }
+
 pub known-asked : {n count r : ℕ} {a : Lent} → RankAsked n count r a → KnownAsked n r a.order a.estimates
-known-asked a = record { rank_in = a.rank_in; n-high = a.n-high; order_is = a.order_is; estimates_are = a.estimates_are }
+known-asked asked = known-at asked asked.rank_in asked.estimates_are
 
 module _ {n r i : ℕ} {order e : List ℕ} (asked : KnownAsked n r order e) (i-is : i ≡ word_at order (4 * r)) where
   pub standing-none : n ≤ i → none_word ≡ standing n order e r
@@ -349,19 +367,25 @@ module _ {n r i : ℕ} {order e : List ℕ} (asked : KnownAsked n r order e) (i-
   unfolding standing
   standing-entry h q = q ∙ ap (λ (y : ℕ). get_or e y 0) i-is ∙ rw (lt-ltb (word_at order (4 * r)) n (omega (arith, h, i-is)))
 
-  -- where it is unasked, there is a junction, and its entry is unasked
-  pub unasked-entry : standing n order e r ≡ unasked → (i < n) × (get_or e i 0 ≡ unasked)
-  unasked-entry u = go (dec_lt i n)
+  -- where it is unasked, as a test b says, there is a junction, and its entry is unasked
+  pub unasked-entry : {v : ℕ} {b : Bool} → v ≡ standing n order e r → b ≡ eqb v unasked → b ≡ true → (i < n) × (get_or e i 0 ≡ unasked)
+  unasked-entry {v} v-is b-is b-true = go (dec_lt i n)
     where
+      u : standing n order e r ≡ unasked
+      u = sym v-is ∙ eqb-true v unasked (sym b-is ∙ b-true)
+
       go : Dec (i < n) → (i < n) × (get_or e i 0 ≡ unasked)
       go (yes h) = (h, standing-entry h refl ∙ u)
       go (no h) = let z = standing-none (omega (arith, h)) in absurd (omega (arith, z, u))
 
 -- where it is not unasked, it is the answer
-pub stands : {n r v count : ℕ} {order pairs times down e : List ℕ} → KnownAsked n r order e → v ≡ standing n order e r → (v ≡ unasked → ⊥)
-    → Climbed n order pairs times count down e e r v
-stands {n} {r} {v} {count} {order} {pairs} {times} {down} {e} asked q h = go (dec_lt (word_at order (4 * r)) n)
+pub stands : {n r v count : ℕ} {b : Bool} {order pairs times down e : List ℕ} → KnownAsked n r order e → v ≡ standing n order e r
+    → b ≡ eqb v unasked → b ≡ false → Climbed n order pairs times count down e e r v
+stands {n} {r} {v} {count} {b} {order} {pairs} {times} {down} {e} asked q b-is b-false = go (dec_lt (word_at order (4 * r)) n)
   where
+    h : v ≡ unasked → ⊥
+    h = eqb-false v unasked (sym b-is ∙ b-false)
+
     go : Dec (word_at order (4 * r) < n) → Climbed n order pairs times count down e e r v
     go (yes l) = known asked.rank_in refl (q ∙ sym (standing-entry asked refl l refl)) asked.estimates_are h
     go (no l) =

@@ -4,7 +4,7 @@ use Rattle.std.specs.Borrow.{MutBor}
 use denote.Triple.Both.{Both}
 use Rattle.model.specs.Limits.{most_junctions, most_pairs}
 use Rattle.model.specs.Areas.{record_size}
-use Rattle.network.specs.Lending.{Held, Slice}
+use Rattle.pairs_hierarchy.specs.declared.Hierarchy.{Hierarchy}
 use Rattle.pairs_hierarchy.specs.Estimates.{Estimated}
 use Rattle.pairs_hierarchy.specs.Walks.{Climbed, Walked}
 
@@ -16,14 +16,17 @@ pub record Lent : Type 0 where
   pub down : List ℕ
   pub estimates : List ℕ
 
-abbrev pub lent_of : (order pairs times down : Held) (estimates : MutBor (List ℕ)) → Lent
-lent_of o p q d e = record { order = o.now; pairs = p.now; times = q.now; down = d.now; estimates = e.now }
-
-abbrev pub lent : (order pairs times down : Slice) (estimates : Both (MutBor (List ℕ)) (MutBor (List ℕ))) → Both Lent Lent
-lent o p q d e = record {
-  entry = lent_of o.entry p.entry q.entry d.entry e.entry;
-  exit = lent_of o.exit p.exit q.exit d.exit e.exit;
+abbrev pub lent_of : (h : Hierarchy) (estimates : MutBor (List ℕ)) → Lent
+lent_of h e = record {
+  order = h.order.now;
+  pairs = h.records.pairs.now;
+  times = h.records.times.now;
+  down = h.down.now;
+  estimates = e.now;
 }
+
+abbrev pub lent : (h : Hierarchy) (estimates : Both (MutBor (List ℕ)) (MutBor (List ℕ))) → Both Lent Lent
+lent h e = record { entry = lent_of h e.entry; exit = lent_of h e.exit }
 
 -- ---- by rank
 

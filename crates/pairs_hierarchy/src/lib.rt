@@ -1,4 +1,4 @@
-// Estimates over the prepared pairs (document 01: estimate): functions on slices.
+// Estimates over the prepared pairs (document 01: estimate): methods of what they read, on lent slices.
 #![tactic(auto)]
 
 ghost use Rattle.std.specs.Prelude.{◌≡◌};
@@ -6,115 +6,90 @@ ghost use Rattle.pairs_hierarchy.specs.Lending.{EstimateAsked, EstimateTold, Kno
 ghost use Rattle.pairs_hierarchy.specs.Walks.{standing};
 
 use network::{Junction, Rank, Sizes, Time, TimeWord};
-use pairs_records::{answer_of, high_of, leads_up, low_of, start_of, up_of};
+use pairs_records::{Records, answer_of, leads_up};
 
-// What stands in the estimates for rank r: none where the order has no junction of the n there.
-fn known_of(n: u32, order: &[u8], estimates: &[TimeWord], r: Rank) -> Time
-    requires { KnownAsked n r.0 order.now estimates.now }
-    ensures { result.0 ≡ standing n order.now estimates.now r.0 }
-{
-    let j = network::junction_of(order, r);
-    if n <= j.0 {
-        return Time::NONE;
-    }
-    Time::of_word(estimates[j.0 as usize])
+// What an estimate reads and leaves as it is: the map's sizes, order and ranks, the records of its pairs, the target's down totals.
+#[derive(Clone, Copy)]
+pub struct Hierarchy<'a> {
+    pub sizes: Sizes,
+    pub order: &'a [u8],
+    pub ranks: &'a [u32],
+    pub records: Records<'a>,
+    pub down: &'a [TimeWord],
 }
 
-// The estimate of the junction of rank r, filled with those that it asks for.
-#[cycle(estimate_rank_walk_pairs)]
-fn estimate_rank(
-    n: u32,
-    count: u32,
-    order: &[u8],
-    pairs: &[u32],
-    times: &[TimeWord],
-    down: &[TimeWord],
-    estimates: &mut [TimeWord],
-    r: Rank,
-) -> Time
-    requires { RankAsked n count r.0 (lent_of order pairs times down estimates) }
-    ensures { RankTold n count r.0 result.0 (lent order pairs times down estimates) }
-{
-    let known = known_of(n, order, estimates, r);
-    if !known.is_unasked() {
-        return known;
-    }
-    let j = network::junction_of(order, r);
-    let i = j.0 as usize;
-    let own = Time::of_word(down[i]);
-    let best = walk_pairs(n, count, order, pairs, times, down, estimates, r, own);
-    let v = answer_of(best);
-    estimates[i] = v.word();
-    v
-}
-
-// The least of own and, over the records that lead up from rank r, the up time plus the estimate of the higher rank. Most of these are
-// known, and taken without a call.
-#[cycle(estimate_rank_walk_pairs)]
-fn walk_pairs(
-    n: u32,
-    count: u32,
-    order: &[u8],
-    pairs: &[u32],
-    times: &[TimeWord],
-    down: &[TimeWord],
-    estimates: &mut [TimeWord],
-    r: Rank,
-    own: Time,
-) -> Time
-    requires { RankAsked n count r.0 (lent_of order pairs times down estimates) }
-    ensures { WalkTold n count r.0 own.0 result.0 (lent order pairs times down estimates) }
-{
-    let mut best = own;
-    let mut k: u32 = start_of(pairs, count, r);
-    while k < count {
-        let i = k;
-        k += 1;
-        let low = low_of(pairs, i);
-        if r.0 < low.0 {
-            return best;
+impl<'a> Hierarchy<'a> {
+    // What stands in the estimates for rank r: none where the order has no junction of the n there.
+    fn known(&self, estimates: &[TimeWord], r: Rank) -> Time
+        requires { KnownAsked self.now.sizes.n r.0 self.now.order.now estimates.now }
+        ensures { result.0 ≡ standing self.now.sizes.n self.now.order.now estimates.now r.0 }
+    {
+        let j = network::junction_of(self.order, r);
+        if j.0 < self.sizes.n {
+            Time(estimates[j.0 as usize])
+        } else {
+            Time::NONE
         }
-        let high = high_of(pairs, i);
-        let up = up_of(times, i);
-        if leads_up(n, r, low, high, up) {
-            let known = known_of(n, order, estimates, high);
-            if known.is_unasked() {
-                let asked = estimate_rank(n, count, order, pairs, times, down, estimates, high);
-                best = best.or_sum(up, asked);
-            } else {
-                best = best.or_sum(up, known);
+    }
+
+    // The estimate of the junction of rank r, filled with those that it asks for.
+    #[cycle(estimate_rank_walk_pairs)]
+    fn estimate_rank(&self, estimates: &mut [TimeWord], r: Rank) -> Time
+        requires { RankAsked self.now.sizes.n self.now.sizes.pairs r.0 (lent_of self.now estimates) }
+        ensures { RankTold self.now.sizes.n self.now.sizes.pairs r.0 result.0 (lent self.now estimates) }
+    {
+        let known = self.known(estimates, r);
+        if !known.is_unasked() {
+            return known;
+        }
+        let j = network::junction_of(self.order, r);
+        let i = j.0 as usize;
+        let own = Time(self.down[i]);
+        let v = answer_of(self.walk_pairs(estimates, r, own));
+        estimates[i] = v.0;
+        v
+    }
+
+    // The least of own and, over the records that lead up from rank r, the up time plus the estimate of the higher rank. Most of these are
+    // known, and taken without a call.
+    #[cycle(estimate_rank_walk_pairs)]
+    fn walk_pairs(&self, estimates: &mut [TimeWord], r: Rank, own: Time) -> Time
+        requires { RankAsked self.now.sizes.n self.now.sizes.pairs r.0 (lent_of self.now estimates) }
+        ensures { WalkTold self.now.sizes.n self.now.sizes.pairs r.0 own.0 result.0 (lent self.now estimates) }
+    {
+        // A copy: its words stay in registers over the loop, where they would be read anew through the reference.
+        let h = *self;
+        let mut best = own;
+        let start = h.records.start_of(h.sizes.pairs, r);
+        for k in start..h.sizes.pairs {
+            let low = h.records.low(k);
+            if r < low {
+                return best;
+            }
+            let high = h.records.high(k);
+            let up = h.records.up(k);
+            if leads_up(h.sizes.n, r, low, high, up) {
+                let known = h.known(estimates, high);
+                let above = if known.is_unasked() {
+                    self.estimate_rank(estimates, high)
+                } else {
+                    known
+                };
+                best = best.or_sum(up, above);
             }
         }
+        best
     }
-    best
-}
 
-// The estimate of a junction: the least base total to the target, or none. It and all reached from it through up times are filled.
-pub fn estimate(
-    sizes: Sizes,
-    order: &[u8],
-    ranks: &[u32],
-    pairs: &[u32],
-    times: &[TimeWord],
-    down: &[TimeWord],
-    estimates: &mut [TimeWord],
-    j: Junction,
-) -> Time
-    requires { EstimateAsked sizes.n sizes.pairs j.0 ranks.now (lent_of order pairs times down estimates) }
-    ensures { EstimateTold sizes.pairs j.0 result.0 ranks.now (lent order pairs times down estimates) }
-{
-    let r = network::rank_of(ranks, j);
-    if sizes.n <= r.0 {
-        return Time::NONE;
+    // The estimate of a junction: the least base total to the target, or none. It and all reached from it through up times are filled.
+    pub fn estimate(&self, estimates: &mut [TimeWord], j: Junction) -> Time
+        requires { EstimateAsked self.now.sizes.n self.now.sizes.pairs j.0 self.now.ranks.now (lent_of self.now estimates) }
+        ensures { EstimateTold self.now.sizes.pairs j.0 result.0 self.now.ranks.now (lent self.now estimates) }
+    {
+        let r = network::rank_of(self.ranks, j);
+        if self.sizes.n <= r.0 {
+            return Time::NONE;
+        }
+        self.estimate_rank(estimates, r)
     }
-    estimate_rank(
-        sizes.n,
-        sizes.pairs,
-        order,
-        pairs,
-        times,
-        down,
-        estimates,
-        r,
-    )
 }

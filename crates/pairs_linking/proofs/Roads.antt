@@ -48,13 +48,6 @@ pub record Road (roads ranks : List ℕ) (i a b t : ℕ) : Type 0 where
   pub cost-is : (net_in roads ranks).cost i ≡ some t
   pub small : t ≤ most_time
 
-pub row_low : {roads ranks : List ℕ} {i a b : ℕ} → Ends roads ranks i a b → a < b → (a ≡ row_of (net_in roads ranks) i) × (a < length ranks)
-row_low e h = (rw (e.tail-is, e.head-is) (omega arith), e.tail-below)
-
-pub row-high : {roads ranks : List ℕ} {i a b : ℕ} → Ends roads ranks i a b → b ≤ a
-    → (b ≡ row_of (net_in roads ranks) i) × (b < length ranks)
-row-high e h = (rw (e.tail-is, e.head-is) (omega arith), e.head-below)
-
 -- ---- the links
 
 module _ (f : ℕ → ℕ) (r : ℕ) where

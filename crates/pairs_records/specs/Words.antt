@@ -18,7 +18,7 @@ abbrev pub down_in : (times : List ℕ) → ℕ → ℕ
 down_in times i = get_or times (2 * i + 1) 0
 
 -- an area with record i written
-abbrev pub with_record : (area : List ℕ) (i first second : ℕ) → List ℕ
+abbrev pub with_record : {A : Type 0} → (area : List A) (i : ℕ) (first second : A) → List A
 with_record area i first second = take (2 * i) area ++ (first ∷ second ∷ []) ++ drop (2 * i + 2) area
 
 -- a record leads up from rank r to a higher one of the n ranks

@@ -11,10 +11,8 @@ use network::{RECORD, Rank, Time, TimeWord};
 
 // ---- record i
 
-// Where its high and its down time stand; its low and its up time are the first of their areas.
-const HIGH: usize = 1;
-
-const DOWN: usize = 1;
+// Where its high and its down time stand; its low and its up time are the first words that it has in their areas.
+const SECOND: usize = 1;
 
 // The number of words that `count` records take in each area.
 pub fn words_of(count: u32) -> usize
@@ -23,106 +21,116 @@ pub fn words_of(count: u32) -> usize
     RECORD * (count as usize)
 }
 
-// The rank of its lower junction.
-pub fn low_of(pairs: &[u32], i: u32) -> Rank
-    requires { record_size * i + record_size ≤ length pairs.now }
-    ensures { result.0 ≡ low_in pairs.now i }
-{
-    let k = i as usize;
-    Rank(pairs[RECORD * k])
+// The records that are lent to be read: the ranks of each in the one area, its times in the other.
+#[derive(Clone, Copy)]
+pub struct Records<'a> {
+    pub pairs: &'a [u32],
+    pub times: &'a [TimeWord],
 }
 
-// The rank of its higher junction.
-pub fn high_of(pairs: &[u32], i: u32) -> Rank
-    requires { record_size * i + record_size ≤ length pairs.now }
-    ensures { result.0 ≡ high_in pairs.now i }
-{
-    let k = i as usize;
-    Rank(pairs[RECORD * k + HIGH])
-}
-
-// The time from the lower to the higher.
-pub fn up_of(times: &[TimeWord], i: u32) -> Time
-    requires { record_size * i + record_size ≤ length times.now }
-    ensures { result.0 ≡ up_in times.now i }
-{
-    let k = i as usize;
-    Time::of_word(times[RECORD * k])
-}
-
-// The time from the higher to the lower.
-pub fn down_of(times: &[TimeWord], i: u32) -> Time
-    requires { record_size * i + record_size ≤ length times.now }
-    ensures { result.0 ≡ down_in times.now i }
-{
-    let k = i as usize;
-    Time::of_word(times[RECORD * k + DOWN])
-}
-
-// Writes the ranks of record i.
-pub fn put_ranks(pairs: &mut [u32], i: u32, low: Rank, high: Rank)
-    requires { record_size * i + record_size ≤ length pairs.old }
-    ensures { pairs.new ≡ with_record pairs.old i low.0 high.0 }
-{
-    let k = RECORD * (i as usize);
-    pairs[k] = low.0;
-    pairs[k + HIGH] = high.0;
-}
-
-// Writes the times of record i.
-pub fn put_times(times: &mut [TimeWord], i: u32, up: Time, down: Time)
-    requires { record_size * i + record_size ≤ length times.old }
-    ensures { times.new ≡ with_record times.old i up.0 down.0 }
-{
-    let k = RECORD * (i as usize);
-    times[k] = up.0;
-    times[k + DOWN] = down.0;
-}
-
-// ---- the records of a rank
-
-// Whether the low of record i is below r, as a number: 1 if it is, 0 if not.
-fn is_below(pairs: &[u32], i: u32, r: Rank) -> u32
-    requires { record_size * i + record_size ≤ length pairs.now }
-    ensures { result ≡ below_in pairs.now r.0 i }
-{
-    let low = low_of(pairs, i);
-    if low.0 < r.0 { 1 } else { 0 }
-}
-
-// The place of the first record whose low is not below r, or up to three places before it. Of four quarters the one is kept where the lows
-// reach r: three words are read at once, and no jump hangs on them.
-pub fn start_of(pairs: &[u32], count: u32, r: Rank) -> u32
-    requires { (record_size * count ≤ length pairs.now) × (count ≤ most_pairs) }
-    ensures { Starts pairs.now count r.0 result }
-{
-    let mut base: u32 = 0;
-    let mut size: u32 = count;
-    while 3 < size {
-        let q = size / 4;
-        let one = is_below(pairs, base + q, r);
-        let two = is_below(pairs, base + 2 * q, r);
-        let three = is_below(pairs, base + 3 * q, r);
-        base += q * (one + two + three);
-        size -= 3 * q;
+impl<'a> Records<'a> {
+    // The rank of the lower junction of record i.
+    pub fn low(self, i: u32) -> Rank
+        requires { record_size * i + record_size ≤ length self.pairs.now }
+        ensures { result.0 ≡ low_in self.entry.pairs.now i }
+    {
+        let k = i as usize;
+        Rank(self.pairs[RECORD * k])
     }
-    base
+
+    // The rank of its higher junction.
+    pub fn high(self, i: u32) -> Rank
+        requires { record_size * i + record_size ≤ length self.pairs.now }
+        ensures { result.0 ≡ high_in self.entry.pairs.now i }
+    {
+        let k = i as usize;
+        Rank(self.pairs[RECORD * k + SECOND])
+    }
+
+    // The time from the lower to the higher.
+    pub fn up(self, i: u32) -> Time
+        requires { record_size * i + record_size ≤ length self.times.now }
+        ensures { result.0 ≡ up_in self.entry.times.now i }
+    {
+        let k = i as usize;
+        Time(self.times[RECORD * k])
+    }
+
+    // The time from the higher to the lower.
+    pub fn down(self, i: u32) -> Time
+        requires { record_size * i + record_size ≤ length self.times.now }
+        ensures { result.0 ≡ down_in self.entry.times.now i }
+    {
+        let k = i as usize;
+        Time(self.times[RECORD * k + SECOND])
+    }
+
+    // Whether the low of record i is below r, as a number: 1 if it is, 0 if not.
+    fn is_below(self, i: u32, r: Rank) -> u32
+        requires { record_size * i + record_size ≤ length self.pairs.now }
+        ensures { result ≡ below_in self.entry.pairs.now r.0 i }
+    {
+        u32::from(self.low(i) < r)
+    }
+
+    // The place of the first record whose low is not below r, or up to three places before it. Of four quarters the one is kept where the
+    // lows reach r: three words are read at once, and no jump hangs on them. (The library's `partition_point`, tried over the records,
+    // takes three times as long.)
+    pub fn start_of(self, count: u32, r: Rank) -> u32
+        requires { (record_size * count ≤ length self.pairs.now) × (count ≤ most_pairs) }
+        ensures { Starts self.entry.pairs.now count r.0 result }
+    {
+        let mut base: u32 = 0;
+        let mut size: u32 = count;
+        while 3 < size {
+            let q = size / 4;
+            let one = self.is_below(base + q, r);
+            let two = self.is_below(base + 2 * q, r);
+            let three = self.is_below(base + 3 * q, r);
+            base += q * (one + two + three);
+            size -= 3 * q;
+        }
+        base
+    }
 }
+
+// A record to be written: the ranks of its lower and its higher junction, the time from the lower to the higher, and the time back.
+#[derive(Clone, Copy)]
+pub struct Record {
+    pub low: Rank,
+    pub high: Rank,
+    pub up: Time,
+    pub down: Time,
+}
+
+// Writes the two words that record i has in an area.
+fn put_two<T: Copy>(area: &mut [T], i: u32, first: T, second: T)
+    requires { record_size * i + record_size ≤ length area.old }
+    ensures { area.new ≡ with_record area.old i first second }
+{
+    let k = RECORD * (i as usize);
+    area[k] = first;
+    area[k + SECOND] = second;
+}
+
+// Writes record i.
+pub fn put(pairs: &mut [u32], times: &mut [TimeWord], i: u32, given: Record)
+    requires pairs { record_size * i + record_size ≤ length pairs.old }
+    requires times { record_size * i + record_size ≤ length times.old }
+    ensures pairs { pairs.new ≡ with_record pairs.old i given.low.0 given.high.0 }
+    ensures times { times.new ≡ with_record times.old i given.up.0 given.down.0 }
+{
+    put_two(pairs, i, given.low.0, given.high.0);
+    put_two(times, i, given.up.0, given.down.0);
+}
+
+// ---- what a walk over the records of a rank asks
 
 // Does a record lead up from rank r to a higher one?
 pub fn leads_up(n: u32, r: Rank, low: Rank, high: Rank, up: Time) -> bool
     ensures { result ≡ leads n r.0 low.0 high.0 up.0 }
 {
-    if low.0 != r.0 {
-        return false;
-    }
-    if high.0 <= r.0 {
-        return false;
-    }
-    if n <= high.0 {
-        return false;
-    }
-    !up.is_none()
+    low == r && r < high && high.0 < n && !up.is_none()
 }
 
 // The answer of a walk: the mark unasked, which only forged areas give, becomes none, so that no entry is asked again and again.

@@ -15,6 +15,6 @@ kept_by-down u d e t f = let g : eqb u none_word ≡ true = sym e ∙ t in rw (g
     go true = refl
     go false = refl
 
-pub kept_by-up : (u d : ℕ) {b : Bool} → b ≡ eqb u none_word → b ≡ false → true ≡ exists (of_word u) (of_word d)
+pub kept_by-up : (u d : ℕ) {b : Bool} → b ≡ eqb u none_word → b ≡ false → not b ≡ exists (of_word u) (of_word d)
 unfolding of_word
-kept_by-up u d e t = let g : eqb u none_word ≡ false = sym e ∙ t in rw g
+kept_by-up u d e t = let g : eqb u none_word ≡ false = sym e ∙ t in rw (t, g) refl

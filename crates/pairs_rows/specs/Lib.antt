@@ -2,4 +2,3 @@ pub mod Links
 pub mod Rows
 pub mod Entries
 pub mod Steps
-pub mod Lending

@@ -20,7 +20,7 @@ use Rattle.network.specs.Width.{fit, fit_is, fit-of_word}
 use Rattle.pairs_records.specs.Words.{with_record}
 use Rattle.pairs_fronts.specs.Fronts.{Holds}
 use Rattle.pairs_storing.specs.Storing.{RowAppended, RowTimes, cleared}
-use Rattle.pairs_storing.specs.declared.Stored.TheVariants.{All, Full}
+use Rattle.std.specs.Prelude.{None, Some}
 
 -- ---- one record more
 
@@ -64,10 +64,10 @@ holds_more {l} {k} {pairs} {times} p h ranks-put pairs-kept times-put times-kept
 
 -- ---- the answers
 
-all_same : {a b : ℕ} → All a ≡ All b → a ≡ b
+all_same : {a b : ℕ} → Some a ≡ Some b → a ≡ b
 all_same e = cc
 
-all-full : {a : ℕ} → All a ≡ Full → ⊥
+all-full : {a : ℕ} → Some a ≡ None → ⊥
 all-full e = let z : ◌≡◌ {A = ℕ} 0 1 = cc in omega arith
 
 -- ---- the loop over the highs
@@ -220,7 +220,7 @@ module _ {w : Weights} {n r count : ℕ} {touched ups₀ downs₀ pairs₀ times
           downs-left = downs_emptied;
         }
 
-    pub append-full : b ≡ true → length pairs < record_size * k + record_size → RowAppended w n r ups' downs' pairs times Full
+    pub append-full : b ≡ true → length pairs < record_size * k + record_size → RowAppended w n r ups' downs' pairs times None
     append-full e full =
         let all-rows = ap (λ (l : List Pair). length l) (ap (rows w n) (add-one r)) ∙ length-append (rows w n r) (row w r n) in
         let one_more = ap length (more e) ∙ length-append (row w r h) (pair_of w r h ∷ []) in
@@ -236,7 +236,7 @@ module _ {w : Weights} {n r count : ℕ} {touched ups₀ downs₀ pairs₀ times
 
   pub append-end : {h k : ℕ} {ups downs pairs times : List ℕ} → h ≤ n → n ≤ h → length ups ≡ length ups₀ → length downs ≡ length downs₀
       → Appending w n r h k ups₀ downs₀ ups downs pairs times
-      → RowAppended w n r ups downs pairs times (All k)
+      → RowAppended w n r ups downs pairs times (Some k)
   append-end {h} {k} {pairs} {times} hn nh lu ld inv =
       let e : h ≡ n = omega arith in
       let i = inv.holds in

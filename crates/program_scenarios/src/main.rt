@@ -2,8 +2,9 @@
 // it was.
 #![tactic(auto)]
 
-ghost use Rattle.std.specs.Prelude.{◌-◌, ◌<◌, ◌≤◌, length};
+ghost use Rattle.std.specs.Prelude.{◌<◌, ◌≤◌, length};
 
+use program_serve::{open, read_full};
 use std::env::FillError;
 use std::fs;
 use std::io::{Read, Write};
@@ -17,95 +18,35 @@ const NAME_ROOM: usize = 64;
 
 const MOST: usize = 3000;
 
-// Whether the first n bytes are the same.
-fn same(a: &[u8; ROOM], b: &[u8; ROOM], n: usize) -> bool {
-    let mut i = 0;
-    while i < ROOM {
-        if n <= i {
-            return true;
-        }
-        if a[i] != b[i] {
+// Whether two files are the same from where they stand. A proved loop has to end: the turns are counted, to a number that no run uses up.
+fn compare<A: Read, B: Read>(a: &mut A, b: &mut B) -> bool {
+    let mut one = [0u8; ROOM];
+    let mut two = [0u8; ROOM];
+    for _ in 0..u64::MAX {
+        let n = read_full(a, &mut one);
+        let m = read_full(b, &mut two);
+        if &one[..n] != &two[..m] {
             return false;
         }
-        i += 1;
+        if n < ROOM {
+            return true;
+        }
     }
     true
 }
 
-// How a comparison stands: whether the files are the same so far, and how many more turns it may take.
-#[derive(Clone, Copy)]
-struct Compared {
-    alike: bool,
-    turns: u64,
-}
-
-// Compares a part of two files.
-fn compare_some<A: Read, B: Read>(a: &mut A, b: &mut B, turns: u64) -> Compared
-    requires { 0 < turns }
-    ensures { result.turns ≤ turns - 1 }
-{
-    let left = turns - 1;
-    let mut one = [0u8; ROOM];
-    let mut two = [0u8; ROOM];
-    let n = program_serve::read_full(a, &mut one);
-    let m = program_serve::read_full(b, &mut two);
-    if n != m {
-        return Compared {
-            alike: false,
-            turns: 0,
-        };
-    }
-    if !same(&one, &two, n) {
-        return Compared {
-            alike: false,
-            turns: 0,
-        };
-    }
-    if n < ROOM {
-        return Compared {
-            alike: true,
-            turns: 0,
-        };
-    }
-    Compared {
-        alike: true,
-        turns: left,
-    }
-}
-
-// Whether two files are the same from where they stand.
-fn compare<A: Read, B: Read>(a: &mut A, b: &mut B) -> bool {
-    let mut c = Compared {
-        alike: false,
-        turns: u64::MAX,
-    };
-    while c.turns > 0 {
-        c = compare_some(a, b, c.turns);
-    }
-    c.alike
-}
-
-// Whether a run prints what a file has. What it prints goes to a file of its own.
-fn passes<F: Files>(files: &F, card: &[u8], lines: &[u8], due: &[u8]) -> bool {
-    let opened_lines = program_serve::open(files, lines);
-    let opened_due = program_serve::open(files, due);
-    let created = fs::create(files, "printed");
-    let Some(mut input) = opened_lines else {
-        return false;
-    };
-    let Some(mut wanted) = opened_due else {
-        return false;
-    };
-    let Ok(mut output) = created else {
-        return false;
-    };
-    program_serve::run(files, card, &mut input, &mut output);
+// Whether a run prints what a file has; none where a file cannot be opened. What it prints goes to a file of its own.
+fn passes<F: Files>(files: &F, card: &[u8], lines: &[u8], due: &[u8]) -> Option<bool> {
+    let input = open(files, lines);
+    let wanted = open(files, due);
+    let output = fs::create(files, "printed");
+    let mut wanted = wanted?;
+    program_serve::run(files, card, &mut input?, &mut output.ok()?);
     // nothing is read of a file that is not there
-    let Some(mut printed) = program_serve::open(files, b"printed") else {
-        let mut nothing: &[u8] = &[];
-        return compare(&mut nothing, &mut wanted);
-    };
-    compare(&mut printed, &mut wanted)
+    Some(match open(files, b"printed") {
+        Some(mut printed) => compare(&mut printed, &mut wanted),
+        None => compare(&mut [].as_slice(), &mut wanted),
+    })
 }
 
 // Writes a text, whole.
@@ -113,12 +54,8 @@ fn print<W: Write>(text: &[u8], output: &mut W) {
     let _ = output.write_all(text);
 }
 
-fn print_name<W: Write>(name: &[u8], output: &mut W) {
-    print(b" ", output);
-    print(name, output);
-}
-
-// Puts an argument at the start of an area and answers its length; 0 where there is none, or where it is longer than the area.
+// Puts an argument at the start of an area and answers its length; 0 where there is none, or where it is longer than the area: no file has
+// that name, and no memory is asked for.
 fn argument<E: Env>(env: &E, i: usize, area: &mut [u8]) -> usize
     ensures { result ≤ length area.new }
 {
@@ -148,14 +85,13 @@ fn run_one<R: Env + Files, W: Write>(rt: &R, i: usize, output: &mut W)
     let n = argument(rt, i, &mut card);
     let m = argument(rt, i + 1, &mut lines);
     let k = argument(rt, i + 2, &mut due);
-    if passes(rt, &card[..n], &lines[..m], &due[..k]) {
-        print(b"passed", output);
-    } else {
-        print(b"failed", output);
+    let names = [&card[..n], &lines[..m], &due[..k]];
+    let passed = passes(rt, names[0], names[1], names[2]).unwrap_or(false);
+    print(if passed { b"passed" } else { b"failed" }, output);
+    for name in names {
+        print(b" ", output);
+        print(name, output);
     }
-    print_name(&card[..n], output);
-    print_name(&lines[..m], output);
-    print_name(&due[..k], output);
     print(b"\n", output);
 }
 
@@ -165,9 +101,7 @@ fn main(rt: HostRuntime) {
     if MOST < count {
         return;
     }
-    let mut i = 1;
-    while i + 2 < count {
+    for i in (1..count.saturating_sub(2)).step_by(3) {
         run_one(&rt, i, &mut output);
-        i += 3;
     }
 }

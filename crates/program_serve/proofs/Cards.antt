@@ -1,7 +1,8 @@
 -- What the program does with a card: one that does not open has its line printed, and nothing is read (`refuses`); from one that opens the
 -- lines are answered (`attends`). Assumes nothing.
 use mathlib.Core.Path.{◌∙◌, ◌≡◌, ap, ap₂, refl, subst, sym}
-use mathlib.Core.Bool.{Bool, cond, false, false≢true, not, true}
+use Rattle.std.specs.Prelude.{Err, is_ok, Ok, Result}
+use mathlib.Core.Bool.{Bool, false, false≢true, not, true}
 use mathlib.Core.List.{List, []}
 use Prim.Native.Nat.{◌+◌, ℕ}
 use lib.ListN.{length, take}
@@ -44,21 +45,21 @@ ended-still {from = from} (over n r) q = (refl, (still from.turns n.ends q n.tur
 -- it was opened in the areas `lent`, which are now a
 module _ {file : List ℕ} (lent : Areas) {a : Areas} (lends : shell.Lends file lent) {o : Opened} (out : List ℕ) {k : Lent} {from : Talk}
     (begun : Begun o from) {z : Held} {l : Talk} (served : Served file (held_in from a k out) from.reader z l) where
-  refuses : o.prepared ≡ false → Refuses (take o.length out) z l
-  refuses p =
+  refuses : (n : ℕ) → o.outcome ≡ Err n → Refuses (take n out) z l
+  refuses n p =
       let s = begun.reader in
-      let e = ended-still served.serving (s.ended ∙ ap not p) in
-      let printed = ap (λ (h : Held). h.text) e.0 ∙ ap (λ (i : ℕ). take i out) begun.said in
+      let e = ended-still served.serving (s.ended ∙ ap (λ (x : Result Unit ℕ). not (is_ok x)) p) in
+      let printed = ap (λ (h : Held). h.text) e.0 ∙ ap (λ (i : ℕ). take i out) (begun.said ∙ ap shell.printed_in p) in
       record { printed = printed; said = served.said ∙ ap length printed; unread = e.1 ∙ s.turns }
 
   abbrev opened : State
   opened = before (header_in o.header) a
 
-  attends : o.prepared ≡ true → o.length ≡ 0 → shell.opening file lent ≡ shell.Opens opened → Attends file opened k z l
-  attends p none opens =
+  attends : o.outcome ≡ Ok tt → shell.opening file lent ≡ shell.Opens opened → Attends file opened k z l
+  attends p opens =
       let begins : held_in from a k out ≡ held_of o.header a k [] =
-      ap₂ (λ (h : Header) (i : ℕ). held_of h a k (take i out)) begun.header (begun.said ∙ none) in
-      let at-start = subst (λ (b : Bool). AtStart b from.reader) p begun.reader in
+      ap₂ (λ (h : Header) (i : ℕ). held_of h a k (take i out)) begun.header (begun.said ∙ ap shell.printed_in p) in
+      let at-start = subst (λ (x : Result Unit ℕ). AtStart (is_ok x) from.reader) p begun.reader in
       let lines = serving-lines served.serving in
       let printed = program_right file lent lends opened opens served.turns
       (subst (λ (h : Held). Session file h.state served.turns) begins (serving_session served.serving)) in
@@ -80,10 +81,9 @@ module _ {file : List ℕ} (lent : Areas) {a : Areas} (lends : shell.Lends file 
         printed = printed;
       }
 
-  pub card-runs : (o.prepared ≡ true → o.length ≡ 0) → shell.opened_in o out a ≡ shell.opening file lent
-      → Runs file (shell.opening file lent) k z l
-  card-runs none e = subst (λ (x : shell.Opening). Runs file x k z l) e (go o.prepared refl)
+  pub card-runs : shell.opened_in o out a ≡ shell.opening file lent → Runs file (shell.opening file lent) k z l
+  card-runs e = subst (λ (x : shell.Opening). Runs file x k z l) e (go o.outcome refl)
     where
-      go : (p : Bool) → o.prepared ≡ p → Runs file (cond p (shell.Opens opened) (shell.Ends (take o.length out))) k z l
-      go false p = refuses p
-      go true p = attends p (none p) (sym e ∙ ap (λ (b : Bool). cond b (shell.Opens opened) (shell.Ends (take o.length out))) p)
+      go : (x : Result Unit ℕ) → o.outcome ≡ x → Runs file (shell.outcome_in x out opened) k z l
+      go (Err n) p = refuses n p
+      go (Ok tt) p = attends p (sym e ∙ ap (λ (x : Result Unit ℕ). shell.outcome_in x out opened) p)

@@ -3,16 +3,17 @@
 use mathlib.Core.Path.{◌∙◌, ◌≡◌, ap, ap₂, refl, subst, sym}
 use mathlib.Core.Bool.{Bool, cond, false, true}
 use mathlib.Core.List.{List, [], ◌++◌, ◌∷◌, append_assoc}
-use Prim.Native.Nat.{◌+◌, ◌-◌, ◌<◌, ◌≤◌, suc, zero, ℕ}
+use Prim.Native.Nat.{◌+◌, ◌<◌, suc, zero, ℕ}
 use lib.Dec.{ltb}
 use lib.ListN.{length, length-append, take}
-use lib.Seq.{append_snoc, take_all}
+use lib.Seq.{append_snoc}
 use native.Mathlib.Omega.{arith}
 use Rattle.line_input.specs.Holds.{Holds}
 use Rattle.line_input.specs.Input.{Ends, NextLine, after-end, at-end, at-newline, in_order, newline, out_of_turns}
 use Rattle.line_input.specs.declared.Reader.{Reader}
 use Rattle.line_console.specs.Lines.{line_of}
-use Rattle.line_console.specs.declared.Line.{Line}
+use Rattle.std.specs.Prelude.{Option}
+use Rattle.unit_answers.specs.declared.Call.{Call}
 use Rattle.program_shell.specs.Answering.{Answers, Held, held_of}
 use Rattle.program_shell.specs.Session.{Turn}
 use Rattle.model.specs.Areas.{Areas}
@@ -24,12 +25,6 @@ use Rattle.program_serve.specs.Serving.{AnsweredTo, Served, Serving, Turns, answ
 use Rattle.program_serve.specs.declared.Talk.{Talk}
 
 -- ---- a text
-
-pub first-bytes : (k : ℕ) (out : List ℕ) → take (k - 0) out ≡ take k out
-first-bytes k out = let e : k - 0 ≡ k = omega arith in ap (λ (i : ℕ). take i out) e
-
-pub whole-area : (k : ℕ) (out : List ℕ) → length out ≤ k → out ≡ take k out
-whole-area k out h = sym (take_all k out h)
 
 -- as many bytes as a text has are that text
 same_text : (k said : ℕ) (out text : List ℕ) → text ≡ take k out → said ≡ length text → take said out ≡ take k out
@@ -135,7 +130,7 @@ loop_turn {card} {start} {chunk' = chunk'} {area' = area'} {h = h} {from = from}
     (record {
       line = refl;
       lent = refl;
-      answers = subst (λ (x : Line). Answers card (before (header_in on.header) a) l x left) says answers;
+      answers = subst (λ (x : Option Call). Answers card (before (header_in on.header) a) l x left) says answers;
     })
     t.next)
 

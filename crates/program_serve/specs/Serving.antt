@@ -1,6 +1,6 @@
 -- The program from its card to its last line: what is read, answered and printed. Definitions, and the theorem that follows from them.
 -- Assumes nothing.
-use Rattle.std.specs.Prelude.{◌≡◌, ◌⊎◌, false, true, List, [], ◌++◌, ◌∷◌, ℕ, length, take}
+use Rattle.std.specs.Prelude.{◌≡◌, ◌⊎◌, false, is_ok, true, List, [], ◌++◌, ◌∷◌, ℕ, length, take}
 use Rattle.std.proofs.Common.{subst, sym}
 use denote.Triple.Both.{Both}
 use Rattle.model.specs.Card.{card_map, map_on}
@@ -14,7 +14,7 @@ use Rattle.line_input.specs.Input.{AtStart, NextLine, in_order}
 use Rattle.line_input.specs.AllLines.{Lines, line-more, lines_of, no_more}
 use Rattle.line_input.specs.declared.Reader.{Reader}
 use Rattle.line_console.specs.Lines.{line_of}
-use Rattle.program_shell.specs.Opening.{Ends, Lends, Opening, Opens, opening}
+use Rattle.program_shell.specs.Opening.{Ends, Lends, Opening, Opens, opening, printed_in}
 use Rattle.program_shell.specs.Answering.{Answers, Held, held_of, holding}
 use Rattle.program_shell.specs.Session.{Conversed, Session, Turn, lines_in, machine_texts, texts_in}
 use Rattle.program_shell.specs.declared.Opened.{Opened}
@@ -68,9 +68,9 @@ AnswersLines card from a k out l =
 
 -- what a card leaves to begin with: where it opens, the input may be read
 pub record Begun (o : Opened) (l : Talk) : Type 0 where
-  pub reader : AtStart o.prepared l.reader
+  pub reader : AtStart (is_ok o.outcome) l.reader
   pub header : l.header ≡ o.header
-  pub said : l.said ≡ o.length
+  pub said : l.said ≡ printed_in o.outcome
 
 -- a card that does not open: its line is printed, "Each of these ends the program", and no step is made to read a line
 pub record Refuses (line : List ℕ) (z : Held) (l : Talk) : Type 0 where

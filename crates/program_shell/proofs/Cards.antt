@@ -1,6 +1,6 @@
 -- What a card comes to: the line that it is refused by, or the prepared areas. With the areas that the program lends, question 7 of
 -- preparing is asked of the program's limits, so preparing decides as document 01 says (`prepared-opens`). Assumes nothing.
-use mathlib.Core.Path.{◌∙◌, ◌≡◌, ap, ap₂, refl, subst, sym}
+use mathlib.Core.Path.{◌∙◌, ◌≡◌, ap, ap₂, refl, subst}
 use mathlib.Core.Logic.{◌⊎◌, ◌≢◌, inl, inr}
 use mathlib.Core.Bool.{Bool, cond, false, true}
 use mathlib.Core.Option.{Option, none, some}
@@ -89,13 +89,6 @@ refusal_length q = go (ℕ_discrete q.question 7)
     go (no h) = rw (line_plain q h) (answer-length (Refused q) [] (omega arith))
 
 -- ---- the line of a refused preparing
-
-module _ (q : Refusal) {k : ℕ} {out₀ out : List ℕ} where
-  pub larger-line : q.question ≡ 7 → Written out₀ unreadable_text out k → Written out₀ (refusal_line q) out k
-  larger-line h = subst (λ (t : List ℕ). Written out₀ t out k) (sym (line_seven q h))
-
-  pub refused-line : q.question ≢ 7 → Written out₀ (no_line q) out k → Written out₀ (refusal_line q) out k
-  refused-line h = subst (λ (t : List ℕ). Written out₀ t out k) (sym (line_plain q h))
 
 pub refused-way : (q : Refusal) {k : ℕ} {out₀ out : List ℕ} → out_room ≤ length out₀ → Written out₀ (refusal_line q) out k
     → Ends (take k out) ≡ Ends (refusal_line q)

@@ -10,29 +10,28 @@ use Rattle.model.specs.State.{Lent, State, answering}
 use Rattle.model.specs.Calls.{calling}
 use Rattle.model.specs.Promises.{CallContract}
 use Rattle.unit_answers.specs.Shape.{call_in}
-use Rattle.unit_answers.specs.declared.Call as unit
+use Rattle.std.specs.Prelude.{None, Option, Some}
+use Rattle.unit_answers.specs.declared.Call.{Call}
 use Rattle.line_console.specs.Lines.{line_of}
 use Rattle.line_texts.specs.Areas.{Written}
 use Rattle.line_console.specs.Texts.{answer_text, unreadable_text}
-use Rattle.line_console.specs.declared.Line as line
-use Rattle.line_console.specs.declared.Line.TheVariants.{Call, Unreadable}
 use Rattle.program_shell.specs.Limits.{junction_limit, out_room}
 use Rattle.program_shell.specs.Answering.{Answers, Roomy, holding}
 use Rattle.program_shell.proofs.Bounds.{answer-length, shown-text, unreadable-length}
 
 -- a line that says x is answered, from the state s with go's areas l; what is written stands first in `out`
-module _ (text : List ℕ) {x : line.Line} (says : x ≡ line_of text) {out₀ out : List ℕ} {k : ℕ} (large : out_room ≤ length out₀) where
-  pub unreadable-way : (card : List ℕ) (s : State) (l : Lent) → x ≡ Unreadable → Written out₀ unreadable_text out k
+module _ (text : List ℕ) {x : Option Call} (says : x ≡ line_of text) {out₀ out : List ℕ} {k : ℕ} (large : out_room ≤ length out₀) where
+  pub unreadable-way : (card : List ℕ) (s : State) (l : Lent) → x ≡ None → Written out₀ unreadable_text out k
       → Answers card s l (line_of text) (holding s l (take k out))
   unreadable-way card s l u w =
-      subst (λ (y : line.Line). Answers card s l y (holding s l (take k out))) (sym u ∙ says)
+      subst (λ (y : Option Call). Answers card s l y (holding s l (take k out))) (sym u ∙ says)
       (ap (holding s l) (shown-text unreadable-length large w))
 
-  pub call-way : {card : List ℕ} {s t : State} {l z : Lent} {c : unit.Call} {answer : Answer} → x ≡ Call c → Roomy l
+  pub call-way : {card : List ℕ} {s t : State} {l z : Lent} {c : Call} {answer : Answer} → x ≡ Some c → Roomy l
       → length z.route ≤ junction_limit → CallContract card s (calling (call_in c) l) (answering answer t z)
       → Written out₀ (answer_text answer z.route) out k → Answers card s l (line_of text) (holding t z (take k out))
   call-way {card} {s} {t} {l} {z} {c} {answer} u room h w v =
-      subst (λ (y : line.Line). Answers card s l y (holding t z (take k out))) (sym u ∙ says)
+      subst (λ (y : Option Call). Answers card s l y (holding t z (take k out))) (sym u ∙ says)
       (record {
         room = room;
         answer = answer;

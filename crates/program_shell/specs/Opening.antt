@@ -1,6 +1,6 @@
 -- What the program makes of its card. "The program reads `unit.card` (to 200 junctions, 800 roads) with room for 4,000 pairs".
 -- Definitions only.
-use Rattle.std.specs.Prelude.{◌≡◌, Bool, ◌||◌, cond, true, List, [], ◌/◌, min, suc, ℕ, eqb, ltb, length, take}
+use Rattle.std.specs.Prelude.{◌≡◌, Bool, ◌||◌, cond, Err, List, [], ◌/◌, min, Ok, Result, suc, ℕ, eqb, ltb, length, take}
 use Rattle.std.proofs.Math.Option.{Option, none, some}
 use denote.Triple.Both.{Both}
 use Rattle.graph.specs.Map.{Map}
@@ -67,8 +67,17 @@ Lends file a = lengths a ≡ lengths_for (junction_room file) pair_words (road_r
 
 -- ---- what the code hands back
 
+abbrev pub outcome_in : Result Unit ℕ → (out : List ℕ) → State → Opening
+outcome_in (Ok _) out s = Opens s
+outcome_in (Err n) out s = Ends (take n out)
+
+-- how many bytes are to be printed
+abbrev pub printed_in : Result Unit ℕ → ℕ
+printed_in (Ok _) = 0
+printed_in (Err n) = n
+
 abbrev pub opened_in : Opened → (out : List ℕ) → Areas → Opening
-opened_in r out a = cond r.prepared (Opens (before (header_in r.header) a)) (Ends (take r.length out))
+opened_in r out a = outcome_in r.outcome out (before (header_in r.header) a)
 
 -- the line of a refused preparing: by 7 the map is larger than the areas
 unfoldable pub refusal_line : model.Refusal → List ℕ
@@ -89,8 +98,7 @@ prepared file a =
     let p = prepare file a in
     unless_over (length file) (judged p.state.header p.answer p.state.areas)
 
--- the contract of `open_card`: for any areas; for those of `Lends`, what document 01 says; and nothing is printed where the card opens
+-- the contract of `open_card`: for any areas; for those of `Lends`, what document 01 says
 pub record OpensCard (file : List ℕ) (a : Both Areas Areas) (out : List ℕ) (r : Opened) : Type 0 where
   pub always : opened_in r out a.exit ≡ prepared file a.entry
   pub right : Lends file a.entry → opened_in r out a.exit ≡ opening file a.entry
-  pub quiet : r.prepared ≡ true → r.length ≡ 0

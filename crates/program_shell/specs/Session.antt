@@ -1,8 +1,9 @@
 -- Lines answered one after the other from a prepared card: what is printed is what the plain machine answers, and demand 3 holds of the
 -- calls of the readable lines. Assumes nothing.
 use Rattle.std.proofs.Common.{◌∙◌, ap, ap₂, subst, sym}
-use Rattle.std.specs.Prelude.{◌≡◌, refl, Bool, false, true, List, [], ◌++◌, ◌∷◌, map, ℕ, drop, get_or, length, take}
-use Rattle.std.proofs.Math.Option.{Option, none, some}
+use Rattle.std.specs.Prelude.{◌≡◌, refl, Bool, false, true, List, [], ◌++◌, ◌∷◌, map, ℕ, drop, get_or, length, take, None, Option, Some}
+use Rattle.std.proofs.Math.Option as math
+use Rattle.std.proofs.Math.Option.{none, some}
 use Rattle.std.proofs.Math.Seq.{take-length}
 use Rattle.graph.specs.Total.{Total}
 use Rattle.graph.specs.Search.{Problem, count_of, route_of}
@@ -24,8 +25,7 @@ use Rattle.unit_answers.specs.Shape.{call_in}
 use Rattle.line_console.specs.Lines.{line_of}
 use Rattle.line_answers.specs.Texts.{trip_text}
 use Rattle.line_console.specs.Texts.{answer_text, newline, unreadable_text}
-use Rattle.line_console.specs.declared.Line.{Line}
-use Rattle.line_console.specs.declared.Line.TheVariants.{Call, Unreadable}
+use Rattle.unit_answers.specs.declared.Call.{Call}
 use Rattle.program_shell.specs.Limits.{junction_limit}
 use Rattle.program_shell.specs.Answering.{Answers, Held, Roomy}
 
@@ -43,9 +43,9 @@ Session card s [] = Unit {0}
 Session card s (t ∷ l) = Answers card s t.lent (line_of t.line) t.left × Session card t.left.state l
 
 -- the calls of the readable lines
-abbrev pub call_on : Line → Lent → List calls.Call → List calls.Call
-call_on Unreadable l rest = rest
-call_on (Call c) l rest = calling (call_in c) l ∷ rest
+abbrev pub call_on : Option Call → Lent → List calls.Call → List calls.Call
+call_on None l rest = rest
+call_on (Some c) l rest = calling (call_in c) l ∷ rest
 
 abbrev pub calls_of : List Turn → List calls.Call
 calls_of [] = []
@@ -56,9 +56,9 @@ abbrev pub fed : Asked → (route log : ℕ) → Plain
 fed c r l = record { asked = c; route = r; log = l }
 
 -- the line that the plain machine's answer prints; an unreadable one prints `no 0` and changes nothing
-abbrev pub told_on : Line → CardMap → Machine → (Machine → List (List ℕ)) → List (List ℕ)
-told_on Unreadable C m rest = unreadable_text ∷ rest m
-told_on (Call c) C m rest =
+abbrev pub told_on : Option Call → CardMap → Machine → (Machine → List (List ℕ)) → List (List ℕ)
+told_on None C m rest = unreadable_text ∷ rest m
+told_on (Some c) C m rest =
     let t = machine_step C m (fed (call_in c) junction_limit junction_limit) in
     answer_text t.answer t.roads ∷ rest t.next
 
@@ -82,10 +82,10 @@ pub record Conversed (card : List ℕ) (turns : List Turn) : Type 0 where
 -- ---- the calls, one after the other
 
 -- each text is that of its call's answer, and go's areas have a word for each junction
-abbrev PrintsOn : Line → Turn → (List Step → Type 0) → List Step → Type 0
-PrintsOn Unreadable t rest r = (t.left.text ≡ unreadable_text) × rest r
-PrintsOn (Call c) t rest [] = ⊥
-PrintsOn (Call c) t rest (u ∷ r) = (t.left.text ≡ answer_text u.answer u.lent.route) × rest r × Roomy t.lent
+abbrev PrintsOn : Option Call → Turn → (List Step → Type 0) → List Step → Type 0
+PrintsOn None t rest r = (t.left.text ≡ unreadable_text) × rest r
+PrintsOn (Some c) t rest [] = ⊥
+PrintsOn (Some c) t rest (u ∷ r) = (t.left.text ≡ answer_text u.answer u.lent.route) × rest r × Roomy t.lent
 
 abbrev Prints : List Turn → List Step → Type 0
 Prints [] [] = Unit {0}
@@ -97,16 +97,16 @@ chained : (card : List ℕ) (turns : List Turn) (s : State) → Session card s t
 chained card [] s w = ([], tt, tt)
 chained card (t ∷ l) s w = on (line_of t.line) w.0 (chained card l t.left.state w.1)
   where
-    on : (x : Line) → Answers card s t.lent x t.left
+    on : (x : Option Call) → Answers card s t.lent x t.left
         → ((r : List Step) × Chain card t.left.state (calls_of l) r × Prints l r)
         → (r : List Step) × Chain card s (call_on x t.lent (calls_of l)) r × PrintsOn x t (Prints l) r
-    on Unreadable a rest =
+    on None a rest =
         let same = ap (λ (h : Held). h.state) a in (
           rest.0,
           subst (λ (z : State). Chain card z (calls_of l) rest.0) same rest.1,
           (ap (λ (h : Held). h.text) a, rest.2),
         )
-    on (Call c) a rest = (
+    on (Some c) a rest = (
       answering a.answer t.left.state t.left.lent ∷ rest.0,
       (a.meets, rest.1),
       (a.printed, rest.2, a.room),
@@ -114,14 +114,15 @@ chained card (t ∷ l) s w = on (line_of t.line) w.0 (chained card l t.left.stat
 
 -- ---- what the machine's answer prints
 
-unless-text : (x : Option Refusal) (m : Machine) (t : Told) (route : List ℕ)
+unless-text : (x : math.Option Refusal) (m : Machine) (t : Told) (route : List ℕ)
     → answer_text t.answer route ≡ answer_text t.answer t.roads
     → answer_text (unless_asked x m t).answer route ≡ answer_text (unless_asked x m t).answer (unless_asked x m t).roads
 unless-text none m t route h = h
 unless-text (some q) m t route h = refl
 
-go-text : (x : Option Refusal) (y : Total) (G : Problem) (m : Machine) (route : List ℕ) → let t = unless_asked x m (found_told y G m) in
-    take (length t.roads) route ≡ t.roads → answer_text t.answer route ≡ answer_text t.answer t.roads
+go-text : (x : math.Option Refusal) (y : Total) (G : Problem) (m : Machine) (route : List ℕ)
+    → let t = unless_asked x m (found_told y G m) in take (length t.roads) route ≡ t.roads
+    → answer_text t.answer route ≡ answer_text t.answer t.roads
 go-text (some q) y G m route h = refl
 go-text none none G m route h = refl
 go-text none (some t) G m route h = ap (λ (r : List ℕ). trip_text t (count_of G) r ++ newline) (h ∙ sym (take-length (route_of G)))
@@ -154,12 +155,12 @@ texts C [] m [] d p = refl
 texts C [] m (u ∷ r) d p = absurd p
 texts C (t ∷ l) m r d p = on (line_of t.line) r d p (λ n q e f. texts C l n q e f)
   where
-    on : (x : Line) (r : List Step) → Demand3 C m (call_on x t.lent (calls_of l)) r → PrintsOn x t (Prints l) r
+    on : (x : Option Call) (r : List Step) → Demand3 C m (call_on x t.lent (calls_of l)) r → PrintsOn x t (Prints l) r
         → ((n : Machine) (q : List Step) → Demand3 C n (calls_of l) q → Prints l q → texts_in l ≡ machine_texts (lines_in l) C n)
         → texts_in (t ∷ l) ≡ told_on x C m (machine_texts (lines_in l) C)
-    on Unreadable r d p more = ap₂ ◌∷◌ p.0 (more m r d p.1)
-    on (Call c) [] d p more = absurd p
-    on (Call c) (u ∷ r) d p more =
+    on None r d p more = ap₂ ◌∷◌ p.0 (more m r d p.1)
+    on (Some c) [] d p more = absurd p
+    on (Some c) (u ∷ r) d p more =
         let route = u.lent.route in
         let says = ap (λ (a : Answer). answer_text a route) d.0.same.answer in
         let same = machine-text C m (call_in c) (length t.lent.route) (length t.lent.log) route d.0.same.roads in

@@ -1,11 +1,11 @@
 // The program's steps on slices: what it makes of its card, and what it answers to a line.
 #![tactic(auto)]
 
-ghost use Rattle.std.specs.Prelude.{◌≡◌, true, List, ◌<◌, ◌≤◌, ℕ, length};
+ghost use Rattle.std.specs.Prelude.{◌≡◌, List, ◌<◌, ◌≤◌, ℕ, length};
 ghost use Rattle.model.specs.Areas.{Areas};
 ghost use Rattle.network.specs.Refusals.{refusal_in};
 ghost use Rattle.network.specs.Lending.{areas};
-ghost use Rattle.unit_questions.specs.Lending.{lent, mut};
+ghost use Rattle.unit_questions.specs.Lending.{areas_with, lent, mut};
 ghost use Rattle.unit_answers.specs.Shape.{answer_in};
 ghost use Rattle.unit.specs.Shape.{header_in};
 ghost use Rattle.line_console.specs.Lines.{line_of};
@@ -15,11 +15,10 @@ ghost use Rattle.program_shell.specs.Limits.{out_room};
 ghost use Rattle.program_shell.specs.Opening.{OpensCard, judged, junction_room, opened_in, refusal_line, road_room, room_in, unless_over};
 ghost use Rattle.program_shell.specs.Answering.{AnswersLine};
 
-use line_console::Line;
 use line_input::Part;
 use network::{Refusal, TimeWord};
 use unit::{Answered, Header};
-use unit_answers::Answer;
+use unit_questions::Prepared;
 
 // ---- limits: junctions and roads of the largest map that the program takes, the pairs that it has room for, and the largest card in bytes
 
@@ -49,12 +48,11 @@ pub struct Room {
     pub m: usize,
 }
 
-// What the program makes of its card: the number of bytes to print, and whether the unit is prepared; if so, its header.
+// What the program makes of its card: the unit's header, and where the unit is not prepared, the number of bytes to print.
 #[derive(Clone, Copy)]
 pub struct Opened {
     pub header: Header,
-    pub length: usize,
-    pub prepared: bool,
+    pub outcome: Result<(), usize>,
 }
 
 // As many records of a size as a body of so many bytes has, but at most so many.
@@ -62,8 +60,7 @@ fn records_in(bytes: usize, size: usize, most: usize) -> usize
     requires { 0 < size }
     ensures { result ≡ room_in bytes size most }
 {
-    let k = bytes / size;
-    if k < most { k } else { most }
+    (bytes / size).min(most)
 }
 
 // The lengths for a card, of which only the table of contents is looked at.
@@ -82,60 +79,34 @@ pub fn room_for(file: &[u8]) -> Room
 fn write_refusal(q: Refusal, out: &mut [u8]) -> usize
     ensures { Written out.old (refusal_line (refusal_in q)) out.new result }
 {
-    if q.question == Refusal::AREA_LENGTHS.question {
-        return line_console::write_unreadable(out);
+    match q {
+        Refusal::AreaLengths => line_console::write_unreadable(out),
+        _ => line_console::write_answer(Err(q), &[], out),
     }
-    let route = [0u32; 1];
-    line_console::write_answer(Answer::Refused(q), &route, out)
 }
 
 // What a preparing's answer comes to. A file that is too long prints `no 0`, whatever its preparing answers.
 fn judge(bytes: usize, answered: Answered, out: &mut [u8]) -> Opened
     requires { out_room ≤ length out.old }
-    ensures a_after { (a : Areas) → opened_in result out.new a
+    ensures { (a : Areas) → opened_in result out.new a
         ≡ unless_over bytes (judged (header_in answered.header) (answer_in answered.answer) a) }
-    ensures length_value { result.prepared ≡ true → result.length ≡ 0 }
 {
-    let header = answered.header;
-    let answer = answered.answer;
-    if CARD_SIZE < bytes {
-        return Opened {
-            header: header,
-            length: line_console::write_unreadable(out),
-            prepared: false,
-        };
-    }
-    match answer {
-        Answer::Refused(q) => Opened {
-            header: header,
-            length: write_refusal(q, out),
-            prepared: false,
-        },
-        Answer::Accepted => Opened {
-            header: header,
-            length: 0,
-            prepared: true,
-        },
-        Answer::Estimated(_) => Opened {
-            header: header,
-            length: 0,
-            prepared: true,
-        },
-        Answer::Gone(_, _, _) => Opened {
-            header: header,
-            length: 0,
-            prepared: true,
-        },
-        Answer::Previewed(_, _, _) => Opened {
-            header: header,
-            length: 0,
-            prepared: true,
-        },
+    let outcome = if CARD_SIZE < bytes {
+        Err(line_console::write_unreadable(out))
+    } else {
+        match answered.answer {
+            Ok(_) => Ok(()),
+            Err(q) => Err(write_refusal(q, out)),
+        }
+    };
+    Opened {
+        header: answered.header,
+        outcome,
     }
 }
 
 // Opens a card: its line stands first in `out`, or the areas are prepared and nothing is printed. Lent areas of other lengths than
-// `room_for` computes are judged as preparing judges them.
+// `room_for` computes are judged as preparing judges them. They are lent one by one, as `prepare` takes them.
 pub fn open_card(
     file: &[u8],
     ranks: &mut [u32],
@@ -165,14 +136,10 @@ pub fn open_card(
 pub fn kept_line(p: Part, area: &[u8]) -> &[u8]
     ensures { (xs : List ℕ) → 45 < length area.now → Holds p area.now xs → line_of result.now ≡ line_of xs }
 {
-    let kept = p.kept;
-    if p.long {
-        return area;
+    match p {
+        Part::Kept(n) => area.get(..n).unwrap_or(area),
+        Part::Long => area,
     }
-    if area.len() < kept {
-        return area;
-    }
-    &area[0..kept]
 }
 
 // What answering a line hands back: the header, and the number of bytes to print.
@@ -182,45 +149,32 @@ pub struct Reply {
     pub length: usize,
 }
 
-// Answers a line: `no 0` to an unreadable one, else the answer of its call. The text stands first in `out`.
+// Answers a line: `no 0` to an unreadable one, else the answer of its call. The text stands first in `out`. The areas that a call alters
+// are lent one by one, as `unit::call` takes them.
 pub fn answer_line(
     line: &[u8],
     header: Header,
-    card: &[u8],
-    ranks: &[u32],
-    pairs: &[u32; PAIRS_ROOM],
-    times: &[TimeWord; PAIRS_ROOM],
+    p: Prepared,
     live: &mut [TimeWord],
     down: &mut [TimeWord],
     estimates: &mut [TimeWord],
     elapsed: &mut [TimeWord],
-    leaving: &[u32],
-    groups: &[u32],
     route: &mut [u32; JUNCTIONS],
     log: &mut [u32; JUNCTIONS],
     out: &mut [u8; OUT_ROOM],
 ) -> Reply
-    ensures { AnswersLine card.now line.now header
-        (areas ranks pairs times (mut live) (mut down) (mut estimates) (mut elapsed) leaving groups) (lent (mut route) (mut log))
-        out.new result }
+    ensures { AnswersLine p.entry.card.now line.now header (areas_with p (mut live) (mut down) (mut estimates) (mut elapsed))
+        (lent (mut route) (mut log)) out.new result }
 {
-    match line_console::read_line(line) {
-        Line::Unreadable => Reply {
-            header: header,
+    let Some(c) = line_console::read_line(line) else {
+        return Reply {
+            header,
             length: line_console::write_unreadable(out),
-        },
-        Line::Call(c) => {
-            let called = unit::call(
-                header, card, ranks, pairs, times, live, down, estimates, elapsed, leaving, groups,
-                route, log, c,
-            );
-            let after = called.header;
-            let answer = called.answer;
-            let length = line_console::write_answer(answer, route, out);
-            Reply {
-                header: after,
-                length: length,
-            }
-        }
+        };
+    };
+    let called = unit::call(header, p, live, down, estimates, elapsed, route, log, c);
+    Reply {
+        header: called.header,
+        length: line_console::write_answer(called.answer, route, out),
     }
 }

@@ -40,7 +40,7 @@ use Rattle.search_junctions.specs.Asking.{Asked, asked-head, asked-start}
 use Rattle.search_junctions.specs.Ways.{step_back}
 use Rattle.search_junctions.specs.Facts.{codes, ready-time}
 use Rattle.search_run.specs.Runs.{Advanced, Written, written_of, back_in}
-use Rattle.search.specs.Searches.{Found, FoundTotal}
+use Rattle.search.specs.Searches.{Found}
 
 -- ---- who was asked: the definition's test
 module _ (g : Given) (s z : ℕ) (H : List Entry) where
@@ -184,10 +184,6 @@ module _ {g : Given} {s z : ℕ} (r : Ready g s z) {l l' : Written} {c : ℕ} {c
           (λ a la y f. true_false (true_any_below M.vertices (λ a. asked a && fills M a v) a la
           (true_and (asked a) (fills M a v) (asks_of g s z H a y) f)) q)
 
-  -- the total alone
-  pub answer-total : {total : ℕ} → total ≡ get_or l'.elapsed z 0 → FoundTotal g s z l.estimates l'.estimates total
-  answer-total {total} read = record { total-is = total-word total read; fits = total-fits; estimates_are = estimates_are }
-
   -- the start's time is its start time, and no other junction has one
   begins-is : (v t : ℕ) → time_in (history (go_given g s z)) v ≡ some t → eqb v s ≡ is ((go_given g s z).start v) t
   unfolding is
@@ -200,14 +196,15 @@ module _ {g : Given} {s z : ℕ} (r : Ready g s z) {l l' : Written} {c : ℕ} {c
           eq-eqb v s q ∙ sym (true_is ((go_given g s z).start v) t (e ∙ ap some (omega arith)))
       at (no q) = ne_eqb v s q ∙ sym (ap (λ (y : Total). is y t) ((codes r).start_elsewhere v q))
 
-  module _ {total : ℕ} (read : total ≡ get_or l'.elapsed z 0) {route₀ : List ℕ} where
+  module _ {time : ℕ} (read : time ≡ get_or l'.elapsed z 0) {route₀ : List ℕ} where
     -- what does not depend on the route
-    found_with : {number : ℕ} {route : List ℕ} → number ≡ length (route_of (go_given g s z))
+    found_with : {total : Total} {number : ℕ} {route : List ℕ} → total ≡ total_of (go_given g s z)
+        → number ≡ length (route_of (go_given g s z))
         → route ≡ go_route (total_of (go_given g s z)) (route_of (go_given g s z)) route₀
         → Found g s z (routed l route₀) (routed l' route) total c number
     unfolding log_of
-    found_with a b = record {
-      least = answer-total read;
+    found_with total-is a b = record {
+      least = record { total-is = total-is; fits = total-fits; estimates_are = estimates_are };
       count-is = x.count-is ∙ count-is (codes r).ok.well_formed;
       number_is = a;
       elapsed-is = elapsed-is;
@@ -216,29 +213,29 @@ module _ {g : Given} {s z : ℕ} (r : Ready g s z) {l l' : Written} {c : ℕ} {c
     }
 
     -- no path
-    pub answer-lost : eqb total none_word ≡ true → Found g s z (routed l route₀) (routed l' route₀) total c 0
+    pub answer-lost : eqb time none_word ≡ true → Found g s z (routed l route₀) (routed l' route₀) none c 0
     unfolding route_of
     answer-lost q =
-        let p = word_none total (total_of (go_given g s z)) (total-word total read) (λ t e. omega (arith, total-fits t e))
-        (eqb-true total none_word q) in
+        let p = word_none time (total_of (go_given g s z)) (total-word time read) (λ t e. omega (arith, total-fits t e))
+        (eqb-true time none_word q) in
         let w = way-lost (go_given g s z) z (codes r).goals (history (go_given g s z)) (total_of (go_given g s z))
         (end (codes r).ok.well_formed) p in
-        found_with (ap length (sym w)) (ap (λ (T : Total). go_route T (route_of (go_given g s z)) route₀) (sym p))
+        found_with (sym p) (ap length (sym w)) (ap (λ (T : Total). go_route T (route_of (go_given g s z)) route₀) (sym p))
 
     -- the route
-    pub answer-found : {number : ℕ} {route : List ℕ} → eqb total none_word ≡ false
+    pub answer-found : {number : ℕ} {route : List ℕ} → eqb time none_word ≡ false
         → number ≡ arcs_back (λ u. eqb u s) (back_in g.roads l'.ways g.sizes.n g.sizes.m) g.sizes.n z
         → route ≡ first
         (way_of (labels_in g.sizes.n l'.ways).vias (back_in g.roads l'.ways g.sizes.n g.sizes.m) number z)
         route₀
-        → Found g s z (routed l route₀) (routed l' route) total c number
+        → Found g s z (routed l route₀) (routed l' route) (some time) c number
     unfolding route_of
     answer-found {number} q a b =
         let k = codes r in
         let G = go_given g s z in
         let via = (labels_in g.sizes.n l'.ways).vias in
         let before = step_back g.roads via g.sizes.n g.sizes.m in
-        let p = word_some total (total_of G) (total-word total read) (eqb-false total none_word q) in
+        let p = word_some time (total_of G) (total-word time read) (eqb-false time none_word q) in
         let w : way_in G (history G) ≡ back G (history G) z = way-found G z k.goals (history G) (total_of G) (end k.ok.well_formed)
         p.0 p.1 in
         let h : time_in (history G) z ≡ some p.0 = total-time ∙ p.1 in
@@ -255,5 +252,5 @@ module _ {g : Given} {s z : ℕ} (r : Ready g s z) {l l' : Written} {c : ℕ} {c
         ∙ arcs-back k.ok.well_formed x.ways (λ v t lv e. begins-is v t e) steps g.sizes.n z p.0 lz h le in
         let u : way_of via before number z ≡ back G (history G) z =
         way-back_is k.ok.well_formed x.ways (λ v t lv e. begins-is v t e) steps number z p.0 lz h (sym y) in
-        found_with (y ∙ ap length (sym w))
+        found_with (ap some p.2 ∙ sym p.1) (y ∙ ap length (sym w))
         (b ∙ ap (λ (l : List ℕ). first l route₀) (u ∙ sym w) ∙ ap (λ (T : Total). go_route T (route_of G) route₀) (sym p.1))

@@ -2,6 +2,8 @@
 use mathlib.Core.Path.{◌∙◌, ◌≡◌, ap, refl, subst, subst₂, sym}
 use mathlib.Core.Bool.{Bool, ◌||◌, false, true}
 use mathlib.Core.List.{List, [], ◌++◌}
+use mathlib.Core.Option.{none, some}
+use Rattle.graph.specs.Total.{Total}
 use Prim.Native.Nat.{◌*◌, ◌-◌, ◌<◌, ◌≤◌, ℕ}
 use lib.Dec.{eqb}
 use lib.ListN.{drop, get_or, get_or-replicate, length, length-append, length-drop, length-replicate, replicate, take}
@@ -33,11 +35,11 @@ use Rattle.search_run.specs.Runs.{Advanced, Advances, BlankRoom, Within, Written
 use Rattle.search.specs.Searches.{AsLeft, FindsBoth, FindsTotal, Searches, at_times, seen_by}
 use Rattle.search.proofs.Answers.{answer-found, answer-lost, routed}
 
--- a room that is made for k junctions is blank, and large enough for n of them
-pub blank-room : (k : ℕ) {n : ℕ} → n ≤ k → BlankRoom n (replicate (3 * k) blank_word)
+-- a room that is made of k words is blank, and large enough for n junctions
+pub blank-room : (k : ℕ) {n : ℕ} → 3 * n ≤ k → BlankRoom n (replicate k blank_word)
 blank-room k le = record {
   words = simp length-replicate (omega arith);
-  blank = λ p lp. get_or-replicate (3 * k) p blank_word 0 (omega arith);
+  blank = λ p lp. get_or-replicate k p blank_word 0 (omega arith);
 }
 
 pub below-kept : {z n a b : ℕ} → z < n → b ≡ n → a ≡ b → z < a
@@ -56,9 +58,9 @@ pub record SameLengths (l l' : Written) : Type 0 where
   pub log-long : length l'.log ≡ length l.log
 
 -- the answer, by what the run leaves: l and l' hold the roads that gave the times, the route comes after
-module _ {g : Given} {leaving groups : List ℕ} {s z e t : ℕ} {l l' : Written} {c : ℕ} {complete : Bool} {total : ℕ}
+module _ {g : Given} {leaving groups : List ℕ} {s z e t : ℕ} {l l' : Written} {c : ℕ} {complete : Bool} {time : ℕ}
     (within : Within g leaving groups s z e t) (ran : Advances g leaving groups s z g.sizes.n l l' c complete)
-    (read : total ≡ get_or l'.elapsed z 0) where
+    (read : time ≡ get_or l'.elapsed z 0) where
   ready : AsLeft g leaving groups z l.estimates → Ready g s z
   ready left =
       let f = map-facts left.prepared.sound in
@@ -79,21 +81,21 @@ module _ {g : Given} {leaving groups : List ℕ} {s z e t : ℕ} {l l' : Written
       subst (λ (H : List Entry). Advanced g s z H l l' c complete) (whole r) (ran.exact r made left.aims)
 
   module _ {route₀ : List ℕ} where
-    pub searches_lost : eqb total none_word ≡ true → Searches g leaving groups s z (routed l route₀) (routed l' route₀) total c 0
+    pub searches_lost : eqb time none_word ≡ true → Searches g leaving groups s z (routed l route₀) (routed l' route₀) none c 0
     searches_lost q = record { kept = ran.kept; exact = λ left. answer-lost (ready left) (ended left) read q }
 
-    pub searches_found : {number : ℕ} {route : List ℕ} → eqb total none_word ≡ false
+    pub searches_found : {number : ℕ} {route : List ℕ} → eqb time none_word ≡ false
         → number ≡ arcs_back (λ u. eqb u s) (back_in g.roads l'.ways g.sizes.n g.sizes.m) g.sizes.n z
         → route ≡ first
         (way_of (labels_in g.sizes.n l'.ways).vias (back_in g.roads l'.ways g.sizes.n g.sizes.m) number z)
         route₀
-        → Searches g leaving groups s z (routed l route₀) (routed l' route) total c number
+        → Searches g leaving groups s z (routed l route₀) (routed l' route) (some time) c number
     searches_found q w y = record { kept = ran.kept; exact = λ left. answer-found (ready left) (ended left) read q w y }
 
 -- ---- the two searches of a preview
 
 -- of a search's answer, the total alone
-pub total_of_lem : {g : Given} {leaving groups : List ℕ} {s z : ℕ} {l l' : Written} {total count number : ℕ}
+pub total_of_lem : {g : Given} {leaving groups : List ℕ} {s z : ℕ} {l l' : Written} {total : Total} {count number : ℕ}
     → Searches g leaving groups s z l l' total count number
     → FindsTotal g leaving groups s z l.estimates l'.estimates total
 total_of_lem r = record { kept = r.kept; exact = λ left. (r.exact left).least }
@@ -174,7 +176,7 @@ aims-filled {M} {z} {down} {e₀} live s a q =
       entries = filled-entries M z (asks M live s z) e₀ (asks-closed M live s z) a.entries;
     })
 
-pub finds_both : {g : Given} {live' leaving groups : List ℕ} {s z : ℕ} {e₀ e₁ e₂ : List ℕ} {present new : ℕ}
+pub finds_both : {g : Given} {live' leaving groups : List ℕ} {s z : ℕ} {e₀ e₁ e₂ : List ℕ} {present new : Total}
     → FindsTotal g leaving groups s z e₀ e₁ present → FindsTotal (at_times g live') leaving groups s z e₁ e₂ new
     → FindsBoth g live' leaving groups s z e₀ e₂ present new
 finds_both {g} {live'} {s = s} {z} {e₀} one two = record {

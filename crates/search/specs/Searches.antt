@@ -1,6 +1,7 @@
 -- What a search answers and leaves (document 01: the search log), and the two searches of a preview (document 02, A2). Definitions only.
-use Rattle.std.specs.Prelude.{◌≡◌, true, List, ◌<◌, ◌≤◌, ℕ, length}
-use Rattle.std.proofs.Math.Option.{some}
+use Rattle.std.specs.Prelude.{◌≡◌, true, List, None, Option, Some, ◌<◌, ◌≤◌, ℕ, length}
+use Rattle.std.proofs.Math.Option.{none, some}
+use Rattle.graph.specs.Total.{Total}
 use Rattle.graph.specs.Search.{count_of, history, log_of, route_of, time_in, total_of, vertices}
 use Rattle.graph.specs.Map.{Map}
 use Rattle.model.specs.Limits.{most_total}
@@ -34,14 +35,19 @@ pub record AsLeft (g : Given) (leaving groups : List ℕ) (z : ℕ) (estimates :
 
 -- ---- the total alone
 
+-- a total, or none
+abbrev pub total_in : Option ℕ → Total
+total_in (Some t) = some t
+total_in None = none
+
 -- Total or none, and the estimates that the search fills. e₀ are those before, e those after.
-pub record FoundTotal (g : Given) (s z : ℕ) (e₀ e : List ℕ) (total : ℕ) : Type 0 where
-  pub total-is : total ≡ word (total_of (go_given g s z))
+pub record FoundTotal (g : Given) (s z : ℕ) (e₀ e : List ℕ) (total : Total) : Type 0 where
+  pub total-is : total ≡ total_of (go_given g s z)
   -- a total stays below the marks
   pub fits : (t : ℕ) → total_of (go_given g s z) ≡ some t → t ≤ most_total
   pub estimates_are : e ≡ filled (map_given g) z (asks (map_given g) g.live s z) e₀
 
-pub record FindsTotal (g : Given) (leaving groups : List ℕ) (s z : ℕ) (e₀ e : List ℕ) (total : ℕ) : Type 0 where
+pub record FindsTotal (g : Given) (leaving groups : List ℕ) (s z : ℕ) (e₀ e : List ℕ) (total : Total) : Type 0 where
   -- on any contents: what is filled stays
   pub kept : Kept e₀ e
   -- where the areas are as they were left
@@ -56,7 +62,7 @@ pub record LendsIn (g : Given) (leaving groups : List ℕ) (s z : ℕ) (l : Writ
 
 -- Total, count, number of roads; estimates, elapsed, route and log as go leaves them. l are the areas before, l' those after; ways are the
 -- route's.
-pub record Found (g : Given) (s z : ℕ) (l l' : Written) (total count number : ℕ) : Type 0 where
+pub record Found (g : Given) (s z : ℕ) (l l' : Written) (total : Total) (count number : ℕ) : Type 0 where
   pub least : FoundTotal g s z l.estimates l'.estimates total
   pub count-is : count ≡ count_of (go_given g s z)
   pub number_is : number ≡ length (route_of (go_given g s z))
@@ -64,7 +70,7 @@ pub record Found (g : Given) (s z : ℕ) (l l' : Written) (total count number : 
   pub route-is : l'.ways ≡ go_route (total_of (go_given g s z)) (route_of (go_given g s z)) l.ways
   pub log_is : l'.log ≡ first (vertices (log_of (go_given g s z))) l.log
 
-pub record Searches (g : Given) (leaving groups : List ℕ) (s z : ℕ) (l l' : Written) (total count number : ℕ) : Type 0 where
+pub record Searches (g : Given) (leaving groups : List ℕ) (s z : ℕ) (l l' : Written) (total : Total) (count number : ℕ) : Type 0 where
   pub kept : Kept l.estimates l'.estimates
   pub exact : AsLeft g leaving groups z l.estimates → Found g s z l l' total count number
 
@@ -84,13 +90,13 @@ pub record LendsBoth (g : Given) (leaving groups : List ℕ) (s z : ℕ) (estima
   pub work-is : length work ≡ work_size g.sizes.n
 
 -- The totals at the times given and at the times live', and the estimates that either fills.
-pub record FoundBoth (g : Given) (live' : List ℕ) (s z : ℕ) (e₀ e : List ℕ) (present new : ℕ) : Type 0 where
-  pub present_is : present ≡ word (total_of (go_given g s z))
+pub record FoundBoth (g : Given) (live' : List ℕ) (s z : ℕ) (e₀ e : List ℕ) (present new : Total) : Type 0 where
+  pub present_is : present ≡ total_of (go_given g s z)
   pub present_fits : (t : ℕ) → total_of (go_given g s z) ≡ some t → t ≤ most_total
-  pub new_is : new ≡ word (total_of (go_given (at_times g live') s z))
+  pub new_is : new ≡ total_of (go_given (at_times g live') s z)
   pub new-fits : (t : ℕ) → total_of (go_given (at_times g live') s z) ≡ some t → t ≤ most_total
   pub estimates_are : e ≡ filled (map_given g) z (either_asks (map_given g) g.live live' s z) e₀
 
-pub record FindsBoth (g : Given) (live' leaving groups : List ℕ) (s z : ℕ) (e₀ e : List ℕ) (present new : ℕ) : Type 0 where
+pub record FindsBoth (g : Given) (live' leaving groups : List ℕ) (s z : ℕ) (e₀ e : List ℕ) (present new : Total) : Type 0 where
   pub kept : Kept e₀ e
   pub exact : AsLeft g leaving groups z e₀ → Settable (map_given g) live' → FoundBoth g live' s z e₀ e present new

@@ -2,32 +2,34 @@
 // preview (document 02, A2): the total alone, twice.
 #![tactic(auto)]
 
+ghost use Rattle.std.specs.Prelude.{◌≡◌, ◌*◌, ◌≤◌};
+ghost use Rattle.model.specs.Limits.{most_junctions};
 ghost use Rattle.search_junctions.specs.Views.{met};
-ghost use Rattle.search_junctions.specs.State.{given, given_to};
+ghost use Rattle.search_junctions.specs.State.{given};
 ghost use Rattle.search_run.specs.Runs.{Lends, written};
-ghost use Rattle.search.specs.Searches.{FindsBoth, LendsBoth, LendsIn, Searches, seen_by};
+ghost use Rattle.search.specs.Searches.{FindsBoth, LendsBoth, LendsIn, Searches, seen_by, total_in};
 
-use network::{MOST_JUNCTIONS, Time, TimeWord};
-use search_junctions::{Trip, View};
-use search_queue::BLANK;
+use network::{JUNCTIONS, Time, TimeWord};
+use search_junctions::{Atlas, ByTail, Trip, View};
+use search_queue::{BLANK, Room};
 use search_run::{advance, way_back};
 
-// A search has a room of its own, three words for each of n junctions (search_labels). Of four rooms it takes the smallest that is large
-// enough: a fresh room is filled with blank words, and that takes time.
-const SMALL: usize = 256;
-
-const MIDDLE: usize = 1024;
-
-const LARGE: usize = 2560;
-
-const LARGEST: usize = MOST_JUNCTIONS as usize;
-
+// A search has a room of its own, three words for each of n junctions (search_labels). Of four rooms, for 256, 1,024, 2,560 and all
+// junctions, it takes the smallest that is large enough: a fresh room is filled with blank words, and that takes time.
 const WORDS: usize = 3;
 
-// The answer of a search: the total or none, the number of logged junctions (document 01: count), and of the route's roads.
+const SMALL: usize = WORDS * 256;
+
+const MIDDLE: usize = WORDS * 1024;
+
+const LARGE: usize = WORDS * 2560;
+
+const LARGEST: usize = WORDS * JUNCTIONS;
+
+// The answer of a search: the total, the number of logged junctions (document 01: count), and of the route's roads.
 #[derive(Clone, Copy)]
 pub struct Searched {
-    pub total: Time,
+    pub total: Option<TimeWord>,
     pub count: u32,
     pub roads: u32,
 }
@@ -35,104 +37,91 @@ pub struct Searched {
 // The search of a go, in a blank room.
 fn search_in(
     trip: Trip,
-    roads: &[u8],
-    order: &[u8],
-    ranks: &[u32],
-    pairs: &[u32],
-    times: &[TimeWord],
-    access: &[u8],
-    live: &[TimeWord],
-    down: &[TimeWord],
-    leaving: &[u32],
-    groups: &[u32],
+    atlas: &Atlas,
+    by_tail: ByTail,
     estimates: &mut [TimeWord],
     elapsed: &mut [TimeWord],
     route: &mut [u32],
     log: &mut [u32],
-    room: &mut [u64],
+    room: &mut Room,
 ) -> Searched
-    requires { LendsIn (given trip roads order ranks pairs times access live down) leaving.now groups.now
-        trip.start.0 trip.target.0 (written estimates elapsed route log) room.old }
-    ensures { Searches (given_to trip roads order ranks pairs times access live down) leaving.now groups.now
+    requires { LendsIn (given trip atlas.now) by_tail.leaving.now by_tail.groups.now
+        trip.start.0 trip.target.0 (written estimates elapsed route log) room.old.words.now × (room.old.n ≡ trip.sizes.n) }
+    ensures { Searches (given trip atlas.now) by_tail.entry.leaving.now by_tail.entry.groups.now
         trip.start.0 trip.target.0 (written estimates.entry elapsed.entry route.entry log.entry)
-        (written estimates.exit elapsed.exit route.exit log.exit) result.total.0 result.count result.roads }
+        (written estimates.exit elapsed.exit route.exit log.exit) (total_in result.total) result.count result.roads }
 {
-    let sizes = trip.sizes;
-    let target = trip.target;
     // no junction is logged twice
-    let budget = sizes.n;
-    let logged = advance(
-        trip, budget, roads, order, ranks, pairs, times, access, live, down, leaving, groups,
-        estimates, elapsed, log, room,
-    );
-    let z = target.0 as usize;
-    let total = Time::of_word(elapsed[z]);
+    let budget = trip.sizes.n;
+    let logged = advance(trip, budget, atlas, by_tail, estimates, elapsed, log, room);
+    let total = Time(elapsed[trip.target.0 as usize]);
     if total.is_none() {
         return Searched {
-            total: total,
+            total: None,
             count: logged.count,
             roads: 0,
         };
     }
-    let number = way_back(roads, room, sizes.n, sizes.m, trip.start, target, route);
+    let roads = way_back(trip, atlas, room, route);
     Searched {
-        total: total,
+        total: Some(total.0),
         count: logged.count,
-        roads: number,
+        roads,
     }
+}
+
+// The search of a go in a room of so many words.
+fn search_with<const ROOM: usize>(
+    trip: Trip,
+    atlas: &Atlas,
+    by_tail: ByTail,
+    estimates: &mut [TimeWord],
+    elapsed: &mut [TimeWord],
+    route: &mut [u32],
+    log: &mut [u32],
+) -> Searched
+    requires { Lends (given trip atlas.now) by_tail.leaving.now by_tail.groups.now
+        trip.start.0 trip.target.0 (written estimates elapsed route log) × (3 * trip.sizes.n ≤ ROOM) × (ROOM ≤ 3 * most_junctions) }
+    ensures { Searches (given trip atlas.now) by_tail.entry.leaving.now by_tail.entry.groups.now
+        trip.start.0 trip.target.0 (written estimates.entry elapsed.entry route.entry log.entry)
+        (written estimates.exit elapsed.exit route.exit log.exit) (total_in result.total) result.count result.roads }
+{
+    let mut words = [BLANK; ROOM];
+    let mut room = Room {
+        words: &mut words,
+        n: trip.sizes.n,
+    };
+    search_in(
+        trip, atlas, by_tail, estimates, elapsed, route, log, &mut room,
+    )
 }
 
 // The search of a go from the start to the target that was aimed at last.
 pub fn search(
     trip: Trip,
-    roads: &[u8],
-    order: &[u8],
-    ranks: &[u32],
-    pairs: &[u32],
-    times: &[TimeWord],
-    access: &[u8],
-    live: &[TimeWord],
-    down: &[TimeWord],
-    leaving: &[u32],
-    groups: &[u32],
+    atlas: &Atlas,
+    by_tail: ByTail,
     estimates: &mut [TimeWord],
     elapsed: &mut [TimeWord],
     route: &mut [u32],
     log: &mut [u32],
 ) -> Searched
-    requires { Lends (given trip roads order ranks pairs times access live down) leaving.now groups.now
+    requires { Lends (given trip atlas.now) by_tail.leaving.now by_tail.groups.now
         trip.start.0 trip.target.0 (written estimates elapsed route log) }
-    ensures { Searches (given_to trip roads order ranks pairs times access live down) leaving.now groups.now
+    ensures { Searches (given trip atlas.now) by_tail.entry.leaving.now by_tail.entry.groups.now
         trip.start.0 trip.target.0 (written estimates.entry elapsed.entry route.entry log.entry)
-        (written estimates.exit elapsed.exit route.exit log.exit) result.total.0 result.count result.roads }
+        (written estimates.exit elapsed.exit route.exit log.exit) (total_in result.total) result.count result.roads }
 {
-    let n = trip.sizes.n as usize;
-    if n <= SMALL {
-        let mut room = [BLANK; WORDS * SMALL];
-        return search_in(
-            trip, roads, order, ranks, pairs, times, access, live, down, leaving, groups,
-            estimates, elapsed, route, log, &mut room,
-        );
+    let words = WORDS * (trip.sizes.n as usize);
+    if words <= SMALL {
+        search_with::<SMALL>(trip, atlas, by_tail, estimates, elapsed, route, log)
+    } else if words <= MIDDLE {
+        search_with::<MIDDLE>(trip, atlas, by_tail, estimates, elapsed, route, log)
+    } else if words <= LARGE {
+        search_with::<LARGE>(trip, atlas, by_tail, estimates, elapsed, route, log)
+    } else {
+        search_with::<LARGEST>(trip, atlas, by_tail, estimates, elapsed, route, log)
     }
-    if n <= MIDDLE {
-        let mut room = [BLANK; WORDS * MIDDLE];
-        return search_in(
-            trip, roads, order, ranks, pairs, times, access, live, down, leaving, groups,
-            estimates, elapsed, route, log, &mut room,
-        );
-    }
-    if n <= LARGE {
-        let mut room = [BLANK; WORDS * LARGE];
-        return search_in(
-            trip, roads, order, ranks, pairs, times, access, live, down, leaving, groups,
-            estimates, elapsed, route, log, &mut room,
-        );
-    }
-    let mut room = [BLANK; WORDS * LARGEST];
-    search_in(
-        trip, roads, order, ranks, pairs, times, access, live, down, leaving, groups, estimates,
-        elapsed, route, log, &mut room,
-    )
 }
 
 // ---- the two searches of a preview
@@ -140,8 +129,8 @@ pub fn search(
 // The totals of a preview, each none where there is no chain.
 #[derive(Clone, Copy)]
 pub struct TwoTotals {
-    pub present: Time,
-    pub new: Time,
+    pub present: Option<TimeWord>,
+    pub new: Option<TimeWord>,
 }
 
 // The total of a trip at its times, and at those of another view: one search after the other, each with its half of the work area in
@@ -149,76 +138,41 @@ pub struct TwoTotals {
 pub fn totals(
     trip: Trip,
     view: View,
-    roads: &[u8],
-    order: &[u8],
-    ranks: &[u32],
-    pairs: &[u32],
-    times: &[TimeWord],
-    access: &[u8],
-    live: &[TimeWord],
-    down: &[TimeWord],
-    leaving: &[u32],
-    groups: &[u32],
+    atlas: &Atlas,
+    by_tail: ByTail,
     estimates: &mut [TimeWord],
     work: &mut [TimeWord],
 ) -> TwoTotals
-    requires { LendsBoth (given trip roads order ranks pairs times access live down) leaving.now groups.now
+    requires { LendsBoth (given trip atlas.now) by_tail.leaving.now by_tail.groups.now
         trip.start.0 trip.target.0 estimates.old work.old }
-    ensures { FindsBoth (given_to trip roads order ranks pairs times access live down)
-        (met (seen_by trip view) access.now live.now) leaving.now groups.now
-        trip.start.0 trip.target.0 estimates.old estimates.new result.present.0 result.new.0 }
+    ensures { FindsBoth (given trip atlas.now) (met (seen_by trip view) atlas.now.access.now atlas.now.live.now)
+        by_tail.entry.leaving.now by_tail.entry.groups.now
+        trip.start.0 trip.target.0 estimates.old estimates.new (total_in result.present) (total_in result.new) }
 {
-    let sizes = trip.sizes;
-    let start = trip.start;
-    let target = trip.target;
-    let n = sizes.n as usize;
-    let mut route = [0u32; LARGEST];
-    let mut log = [0u32; LARGEST];
+    let n = trip.sizes.n as usize;
+    let mut route = [0u32; JUNCTIONS];
+    let mut log = [0u32; JUNCTIONS];
     let present = search(
         trip,
-        roads,
-        order,
-        ranks,
-        pairs,
-        times,
-        access,
-        live,
-        down,
-        leaving,
-        groups,
+        atlas,
+        by_tail,
         estimates,
         &mut work[..n],
         &mut route,
         &mut log,
     );
-    let other = Trip {
-        sizes: sizes,
-        start: start,
-        target: target,
-        class: trip.class,
-        view: view,
-    };
+    let other = Trip { view, ..trip };
     let new = search(
         other,
-        roads,
-        order,
-        ranks,
-        pairs,
-        times,
-        access,
-        live,
-        down,
-        leaving,
-        groups,
+        atlas,
+        by_tail,
         estimates,
         &mut work[n..],
         &mut route,
         &mut log,
     );
-    let now = present.total;
-    let then = new.total;
     TwoTotals {
-        present: now,
-        new: then,
+        present: present.total,
+        new: new.total,
     }
 }

@@ -2,8 +2,8 @@
 -- (`first_of`, `next_of`). Assumes nothing.
 use mathlib.Core.Path.{◌∙◌, ◌≡◌, ap, refl, subst, sym}
 use mathlib.Core.List.{List, [], ◌∷◌}
-use Prim.Native.Nat.{◌*◌, ◌+◌, ◌-◌, ◌<◌, ◌≤◌, min, suc, zero, ℕ}
-use lib.ListN.{get_or-eq_default, drop, get_or, length, take}
+use Prim.Native.Nat.{◌*◌, ◌+◌, ◌<◌, ◌≤◌, suc, zero, ℕ}
+use lib.ListN.{get_or-eq_default, get_or, length}
 use native.Mathlib.Decide.{dec_lt}
 use native.Mathlib.Nat.{le_of_suc-le-suc, not-suc-le-zero}
 use native.Mathlib.Omega.{arith}
@@ -13,12 +13,7 @@ use Rattle.graph.proofs.ByTailLaws.{group_entry, size_gap, size-here, size-more,
 use Rattle.model.specs.Layout.{road_size}
 use Rattle.model.specs.Bytes.{word_at}
 use Rattle.road_groups.specs.Lending.{tail_in}
-use Rattle.search_junctions.specs.Groups.{IsGroup, part_of}
-
--- the part between the clamped ends
-pub part_at : (l : List ℕ) (a b : ℕ) {start end : ℕ} → end ≡ min b (length l) → start ≡ min a end
-    → take (end - start) (drop start l) ≡ part_of l a b
-part_at l a b end_is start_is = rw (start_is, end_is)
+use Rattle.search_junctions.specs.Groups.{IsGroup}
 
 -- ---- the roads of a group
 

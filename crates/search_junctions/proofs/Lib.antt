@@ -3,5 +3,4 @@ pub mod Seeing
 pub mod Opens
 pub mod Heads
 pub mod Roads
-pub mod Starts
 pub mod Steps

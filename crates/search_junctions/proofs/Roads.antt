@@ -1,5 +1,5 @@
 -- The roads of a logged junction, relaxed one after the other. Assumes nothing.
-use mathlib.Core.Path.{◌∙◌, ◌≡◌, ap, refl, subst, sym}
+use mathlib.Core.Path.{◌∙◌, ◌≡◌, ap, subst, sym}
 use mathlib.Core.Bool.{true}
 use mathlib.Core.Option.{none, some}
 use mathlib.Core.List.{List}
@@ -17,7 +17,7 @@ use Rattle.model.proofs.Word.{of_word-some}
 use Rattle.model.specs.Layout.{road_size}
 use Rattle.model.specs.Bytes.{word_at}
 use Rattle.network.specs.Width.{fit, fit_in}
-use Rattle.search_labels.specs.Labelling.{Room, Taken, labels_in}
+use Rattle.search_labels.specs.Labelling.{Ordered, Taken, labels_in}
 use Rattle.search_labels.specs.Relax.{labels-passed, labels-skip, labels-taken}
 use Rattle.search_junctions.specs.Groups.{IsGroup}
 use Rattle.search_junctions.specs.Relaxing.{Read, Relaxes, RelaxesGroup}
@@ -38,7 +38,7 @@ abbrev pub RelaxesRoad : (r : Read) (i from : ℕ) (l l' : List ℕ) → Type 0
 RelaxesRoad r i from = Relaxes r (word_at r.roads (road_size * i)) from i (i + 1)
 
 module _ {r : Read} {i from : ℕ} where
-  pub road-closed : {w : ℕ} {l : List ℕ} → i < r.sizes.m → w ≡ get_or r.live i 0 → eqb w none_word ≡ true → Room r.sizes.n l
+  pub road-closed : {w : ℕ} {l : List ℕ} → i < r.sizes.m → w ≡ get_or r.live i 0 → eqb w none_word ≡ true → Ordered r.sizes.n l
       → RelaxesRoad r i from l l
   road-closed {l = l} li w-is closed room = record {
     room = room;
@@ -48,7 +48,7 @@ module _ {r : Read} {i from : ℕ} where
   }
 
   pub road_far : {h : ℕ} {l : List ℕ} → i < r.sizes.m → h ≡ word_at r.roads (road_size * i + 4) → r.sizes.n ≤ h
-      → Room r.sizes.n l → RelaxesRoad r i from l l
+      → Ordered r.sizes.n l → RelaxesRoad r i from l l
   road_far li h-is far room =
       record { room = room; exact = λ G H ok reads reached logged known labels. absurd (none_far reads ok li h-is far) }
 
@@ -76,7 +76,7 @@ module _ {r : Read} {i from : ℕ} where
 
 module _ {r : Read} {u t : ℕ} where
   -- no road of u from k up to j - 1
-  pub relaxes-skip : {k j : ℕ} {l : List ℕ} → Room r.sizes.n l → FirstFrom r.roads r.sizes.m u k j → Relaxes r u t k j l l
+  pub relaxes-skip : {k j : ℕ} {l : List ℕ} → Ordered r.sizes.n l → FirstFrom r.roads r.sizes.m u k j → Relaxes r u t k j l l
   relaxes-skip {k} {j} {l} room f = record {
     room = room;
     exact = λ G H ok reads reached logged known.
@@ -103,19 +103,17 @@ module _ {r : Read} {u t : ℕ} where
 
 -- The loop stands at entry k of the group: there is room, and for the junction whose group it is, its roads before that entry are relaxed.
 pub record Relaxing (r : Read) (group : List ℕ) (t k : ℕ) (l l' : List ℕ) : Type 0 where
-  pub long : length l' ≡ length l
-  pub room : Room r.sizes.n l'
+  pub room : Ordered r.sizes.n l'
   pub relaxes : (u : ℕ) → IsGroup r.roads r.sizes.m u group → Relaxes r u t 0 (entry_at group r.sizes.m k) l l'
 
 module _ {r : Read} {group : List ℕ} {t : ℕ} where
-  pub relaxing_start : {l : List ℕ} → Room r.sizes.n l → Relaxing r group t 0 l l
-  relaxing_start room = record { long = refl; room = room; relaxes = λ u is. relaxes-skip room (first_of is) }
+  pub relaxing_start : {l : List ℕ} → Ordered r.sizes.n l → Relaxing r group t 0 l l
+  relaxing_start room = record { room = room; relaxes = λ u is. relaxes-skip room (first_of is) }
 
   module _ {k : ℕ} {l l' : List ℕ} (inside : k < length group) (relaxing : Relaxing r group t k l l') where
-    pub relaxing_turn : {l'' : List ℕ} → length l'' ≡ length l' → RelaxesRoad r (get_or group k 0) t l' l''
+    pub relaxing_turn : {l'' : List ℕ} → RelaxesRoad r (get_or group k 0) t l' l''
         → Relaxing r group t (k + 1) l l''
-    relaxing_turn {l''} long road = record {
-      long = long ∙ relaxing.long;
+    relaxing_turn {l''} road = record {
       room = road.room;
       relaxes = λ u is. relaxes-turn (entry_of is inside).leaves (next_of is inside) (relaxing.relaxes u is)
           (subst (λ (i : ℕ). RelaxesRoad r i t l' l'') (entry_read group r.sizes.m k inside) road);
@@ -124,7 +122,6 @@ module _ {r : Read} {group : List ℕ} {t : ℕ} where
     -- a number that is no road's is in no group
     pub relaxing_pass : r.sizes.m ≤ get_or group k 0 → Relaxing r group t (k + 1) l l'
     relaxing_pass high = record {
-      long = relaxing.long;
       room = relaxing.room;
       relaxes = λ u is. absurd (omega (arith, (entry_of is inside).below, entry_read group r.sizes.m k inside));
     }

@@ -10,6 +10,7 @@ use Rattle.model.specs.Areas.{record_size}
 use Rattle.model.specs.Estimate.{Kept}
 use Rattle.model.specs.Good.{AimFacts, Filled}
 use Rattle.network.specs.declared.Sizes.{Sizes}
+use Rattle.pairs_hierarchy.specs.Estimates.{Estimated}
 use Rattle.search_junctions.specs.Groups.{IsGroup}
 use Rattle.search_junctions.specs.State.{Given, Ready, go_given, map_given}
 
@@ -51,9 +52,16 @@ pub record PairsIn (z : Sizes) (order ranks pairs times down estimates : List �
   pub down_is : length down ≡ z.n
   pub estimates_are : length estimates ≡ z.n
 
--- these, and lengths of the roads and their times in force
+-- of what is given to the search: these lengths, and what an estimate of j answers and fills
+abbrev pub PairsOver : Given → (estimates : List ℕ) → Type 0
+PairsOver g = PairsIn g.sizes g.order g.ranks g.pairs g.times g.down
+
+abbrev pub EstimatedOver : Given → (e e' : List ℕ) (j v : ℕ) → Type 0
+EstimatedOver g = Estimated g.order g.ranks g.pairs g.times g.sizes.pairs g.down
+
+-- these lengths, and those of the roads and their times in force
 pub record EstimatesIn (g : Given) (e : List ℕ) : Type 0 where
-  pub over : PairsIn g.sizes g.order g.ranks g.pairs g.times g.down e
+  pub over : PairsOver g e
   pub m-high : g.sizes.m ≤ most_roads
   pub roads_are : length g.roads ≡ road_size * g.sizes.m
   pub live-is : length g.live ≡ g.sizes.m

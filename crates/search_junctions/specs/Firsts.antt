@@ -8,7 +8,7 @@ use Rattle.network.specs.declared.Sizes.{Sizes}
 use Rattle.network.specs.Bodies.{map_in}
 use Rattle.pairs_hierarchy.specs.Estimates.{Estimated, aim-estimated}
 use Rattle.search_queue.specs.Order.{no_key}
-use Rattle.search_labels.specs.Labelling.{Room, Taken, labels_in, no_time}
+use Rattle.search_labels.specs.Labelling.{Ordered, Taken, labels_in, no_time}
 use Rattle.search_labels.specs.Labelled.{Labels}
 use Rattle.search_labels.specs.Begun.{labels-started}
 use Rattle.search_junctions.specs.Asking.{Asked, Filling, PairsIn, asked-start}
@@ -19,7 +19,7 @@ use Rattle.search_junctions.specs.Fills.{asked-first, filling-more, filling-none
 -- before the first candidate: lengths, room, and no junction has a time or a key
 pub record Blank (z : Sizes) (order ranks pairs times down estimates l : List ℕ) : Type 0 where
   pub over : PairsIn z order ranks pairs times down estimates
-  pub room : Room z.n l
+  pub room : Ordered z.n l
   pub timeless : (v : ℕ) → v < z.n → (labels_in z.n l).times v ≡ no_time
   pub keyless : (v : ℕ) → v < z.n → (labels_in z.n l).keys v ≡ no_key
 
@@ -32,7 +32,7 @@ pub record Begun (roads order live down : List ℕ) (s z n : ℕ) (e e' l : List
 pub record Begins (n : Sizes) (order ranks pairs times down : List ℕ) (s : ℕ) (e e' l : List ℕ) : Type 0 where
   -- on any contents: what is filled stays, and there is room
   pub kept : Kept e e'
-  pub room : Room n.n l
+  pub room : Ordered n.n l
   -- in a state that is ready
   pub exact : (roads live : List ℕ) (z : ℕ) → Ready (given_of n roads order ranks pairs times live down) s z
       → AimFacts (map_in roads order) z down e → Begun roads order live down s z n.n e e' l

@@ -3,6 +3,7 @@ pub mod Groups
 pub mod Views
 pub mod State
 pub mod Asking
+pub mod Rooms
 pub mod Relaxing
 pub mod Ways
 pub mod Facts

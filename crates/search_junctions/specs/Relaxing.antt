@@ -1,5 +1,4 @@
 -- The roads of a logged junction, relaxed one after the other: each offers its head a time (document 01: the search log). Definitions only.
-use Rattle.std.specs.Borrow.{Bor}
 use Rattle.std.specs.Prelude.{◌≡◌, List, ◌*◌, ◌+◌, ◌<◌, ◌≤◌, ℕ, get_or, length}
 use Rattle.std.proofs.Math.Option.{some}
 use Rattle.graph.specs.Search.{Entry, Problem, time_in}
@@ -10,8 +9,9 @@ use Rattle.model.specs.Layout.{road_size}
 use Rattle.model.specs.Bytes.{word_at}
 use Rattle.model.specs.Go.{live_of}
 use Rattle.network.specs.declared.Sizes.{Sizes}
-use Rattle.search_labels.specs.Labelling.{Room, labels_in}
+use Rattle.search_labels.specs.Labelling.{Ordered, labels_in}
 use Rattle.search_labels.specs.Labelled.{Labels, Searchable}
+use Rattle.search_junctions.specs.declared.Atlas.{Atlas}
 use Rattle.search_junctions.specs.declared.Trip.{Trip}
 use Rattle.search_junctions.specs.Views.{met}
 use Rattle.search_junctions.specs.Groups.{IsGroup}
@@ -23,8 +23,8 @@ pub record Read : Type 0 where
   pub live : List ℕ
   pub estimates : List ℕ
 
-abbrev pub read_of : Trip → (roads access live estimates : Bor (List ℕ)) → Read
-read_of t a b c d = record { sizes = t.sizes; roads = a.now; live = met t b.now c.now; estimates = d.now }
+abbrev pub read_of : Trip → Atlas → (estimates : List ℕ) → Read
+read_of t a e = record { sizes = t.sizes; roads = a.roads.now; live = met t a.access.now a.live.now; estimates = e }
 
 -- lengths of what is read
 pub record ReadIn (r : Read) : Type 0 where
@@ -49,7 +49,7 @@ Known G e u = (i d : ℕ) → i < G.net.arcs → G.net.tail i ≡ u → G.net.co
 -- The roads of u, whose time is t, are relaxed from number k up to j.
 pub record Relaxes (r : Read) (u t k j : ℕ) (l l' : List ℕ) : Type 0 where
   -- on any contents: there is room
-  pub room : Room r.sizes.n l'
+  pub room : Ordered r.sizes.n l'
   -- for any problem whose arcs are these roads: from the labels before these roads to those after them
   pub exact : (G : Problem) (H : List Entry) → Searchable G → Reads G r.sizes r.roads r.live → Reached G H → time_in H u ≡ some t
       → Known G r.estimates u → Labels G H u k (labels_in r.sizes.n l) → Labels G H u j (labels_in r.sizes.n l')
@@ -57,6 +57,6 @@ pub record Relaxes (r : Read) (u t k j : ℕ) (l l' : List ℕ) : Type 0 where
 -- A group of roads, relaxed for a junction whose time is t.
 pub record RelaxesGroup (r : Read) (group : List ℕ) (t : ℕ) (l l' : List ℕ) : Type 0 where
   -- on any contents: there is room
-  pub room : Room r.sizes.n l'
+  pub room : Ordered r.sizes.n l'
   -- where the group is u's: all its roads are relaxed
   pub exact : (u : ℕ) → IsGroup r.roads r.sizes.m u group → Relaxes r u t 0 r.sizes.m l l'

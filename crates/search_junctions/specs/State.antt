@@ -1,5 +1,4 @@
 -- What is given to the search, and what it relies on. Definitions only.
-use Rattle.std.specs.Borrow.{Bor}
 use Rattle.std.specs.Prelude.{◌≡◌, true, List, ◌*◌, ◌<◌, ◌≤◌, ℕ, length}
 use Rattle.model.specs.Layout.{place_size, road_size}
 use Rattle.graph.specs.Search.{Problem}
@@ -8,9 +7,9 @@ use Rattle.model.specs.Limits.{most_junctions, most_pairs, most_roads}
 use Rattle.model.specs.Areas.{record_size}
 use Rattle.model.specs.Set.{settable}
 use Rattle.model.specs.Go.{live_of, search_of}
-use Rattle.network.specs.Lending.{Slice}
 use Rattle.network.specs.declared.Sizes.{Sizes}
 use Rattle.network.specs.Bodies.{Prepared, map_in}
+use Rattle.search_junctions.specs.declared.Atlas.{Atlas}
 use Rattle.search_junctions.specs.declared.Trip.{Trip}
 use Rattle.search_junctions.specs.Views.{met}
 
@@ -30,13 +29,10 @@ pub record Given : Type 0 where
 abbrev pub given_of : Sizes → (roads order ranks pairs times live down : List ℕ) → Given
 given_of n a b c d t e f = record { sizes = n; roads = a; order = b; ranks = c; pairs = d; times = t; live = e; down = f }
 
--- the same of what is lent to a function, at the times that the trip goes by
-abbrev pub given : Trip → (roads order ranks pairs times access live down : Bor (List ℕ)) → Given
-given t a b c d p x e f = given_of t.sizes a.now b.now c.now d.now p.now (met t x.now e.now) f.now
-
--- the same of what it was lent, as its `ensures` names it
-abbrev pub given_to : Trip → (roads order ranks pairs times access live down : Slice) → Given
-given_to t a b c d p x e f = given t a.entry b.entry c.entry d.entry p.entry x.entry e.entry f.entry
+-- the same of what is lent to a trip, at the times that it goes by
+abbrev pub given : Trip → Atlas → Given
+given t a =
+    given_of t.sizes a.roads.now a.order.now a.ranks.now a.records.pairs.now a.records.times.now (met t a.access.now a.live.now) a.down.now
 
 -- the map that the bodies hold, and document 01's search on it
 abbrev pub map_given : Given → Map

@@ -1,11 +1,7 @@
 -- A label in its two words, and a label that an offer takes over. Assumes nothing.
-use mathlib.Core.Path.{◌∙◌, ◌≡◌, ap, refl, sym}
-use mathlib.Core.List.{List}
-use Prim.Native.Nat.{◌*◌, ◌+◌, ◌/◌, ◌<◌, ◌≤◌, ℕ}
-use lib.ListN.{get_or, length, length-set, set}
-use lib.Seq.{get_or-set_other, get_or-set_same}
-use native.Mathlib.Decide.{dec_lt, ℕ_discrete}
-use native.Mathlib.Omega.{arith}
+use Rattle.std.proofs.Common.{◌*◌, ◌+◌, ◌/◌, ◌<◌, ◌∙◌, ◌≡◌, ◌≤◌, List, ap, arith, get_or, get_or-set_other, get_or-set_same, length}
+use Rattle.std.proofs.Common.{length-set, min, refl, set, sym, ℕ}
+use Rattle.std.proofs.Math.Decide.{dec_lt, ℕ_discrete}
 use Rattle.graph.specs.Total.{◌⊕◌}
 use Rattle.graph.proofs.Total.{⊕-none}
 use Rattle.model.specs.Word.{Reads, none_word, nothing, number, of_word, word}
@@ -15,7 +11,7 @@ use Rattle.network.specs.Width as width
 use Rattle.search_queue.specs.Order.{by_key, key_in, key_unit, most_nodes, settled_key, tie_in}
 use Rattle.search_queue.specs.Tree.{Changed, Put, word_of}
 use Rattle.search_queue.specs.Laws.{tournament_kept, word-key, word_number}
-use Rattle.search_labels.specs.Labelling.{Fits, Improved, Room, SameLabel, Taken, behind, earlier, labels_in, later, lost}
+use Rattle.search_labels.specs.Labelling.{Fits, Improved, Ordered, SameLabel, Taken, behind, earlier, labels_in, later, lost}
 use Rattle.search_labels.specs.Labelling.{settled, tied}
 
 -- ---- the key x, as code adds up the offer w and the estimate e: their sum, or both are above all keys
@@ -40,15 +36,23 @@ module _ (w e : ℕ) {x : ℕ} (x-is : x ≡ word (fit (of_word w ⊕ of_word e)
           omega arith
       go (no h) = omega arith
 
-  -- the time y is the offer, a smaller one than t
-  module _ {i t q j y : ℕ} (y-is : y ≡ w) (waits : q ≡ settled_key → ⊥) (smaller : y < t) where
-    pub takes_over : w ≤ none_word → e ≤ none_word → x < settled_key → Improved w e i t q j y x i
+  -- the offer is a smaller one than t
+  module _ {i t q j : ℕ} (waits : q ≡ settled_key → ⊥) (smaller : w < t) where
+    pub takes_over : w ≤ none_word → e ≤ none_word → x < settled_key → Improved w e i t q j w x i
     takes_over w-low e-low l =
         let sum = key-is w-low e-low l in
-        rw (y-is, sum) (earlier waits (omega arith) (omega arith))
+        rw sum (earlier waits smaller (omega arith))
 
     pub stays-lost : settled_key ≤ x → Improved w e i t q j t q j
-    stays-lost l = lost waits (omega arith) (key-high l)
+    stays-lost l = lost waits smaller (key-high l)
+
+-- the offer is the time that the label has: the smaller number stays
+pub smaller_stays : {w e i t q j y : ℕ} → (q ≡ settled_key → ⊥) → w ≡ t → y ≡ min j i → Improved w e i t q j t q y
+smaller_stays {w} {e} {i} {t} {q} {j} {y} waits same y-is = go (dec_lt i j)
+  where
+    go : Dec (i < j) → Improved w e i t q j t q y
+    go (yes l) = let at : y ≡ i = omega arith in rw at (tied waits same l)
+    go (no l) = let at : y ≡ j = omega arith in rw at (behind waits same (omega arith))
 
 -- where the time stays, so does the key
 key-stays : {w e i a b c t q j : ℕ} → Improved w e i a b c t q j → t ≡ a → q ≡ b
@@ -60,7 +64,7 @@ key-stays (tied y l m) same = refl
 key-stays (behind y l m) same = refl
 
 -- ---- the word of a label is written
-module _ {n v : ℕ} (lv : v < n) (room : List ℕ) (r : Room n room) (x : ℕ) where
+module _ {n v : ℕ} (lv : v < n) (room : List ℕ) (r : Ordered n room) (x : ℕ) where
   abbrev relabelled : List ℕ
   relabelled = set room (2 * n + v) x
 
@@ -92,7 +96,7 @@ module _ {n v : ℕ} (lv : v < n) (room : List ℕ) (r : Room n room) (x : ℕ) 
   }
 
   -- it is right where the time of v stays
-  pub room-relabelled : x / most_nodes ≡ tie_in n room v → Room n relabelled
+  pub room-relabelled : x / most_nodes ≡ tie_in n room v → Ordered n relabelled
   room-relabelled same = record {
     n-high = r.n-high;
     words = simp length-set r.words;
@@ -106,7 +110,7 @@ module _ {n v : ℕ} (lv : v < n) (room : List ℕ) (r : Room n room) (x : ℕ) 
       at u l (no ne) = times_stay u l ne
 
 -- ---- the label of v takes an offer, and is (t, q, j) then; x is the word of its time and its arc
-module _ {n v t q j x : ℕ} (lv : v < n) (room : List ℕ) (r : Room n room) (fits : Fits t q j) (x-is : x ≡ word_of t j) where
+module _ {n v t q j x : ℕ} (lv : v < n) (room : List ℕ) (r : Ordered n room) (fits : Fits t q j) (x-is : x ≡ word_of t j) where
   same_after : (u : ℕ) → u < n → (u ≡ v → ⊥) → SameLabel n u room (set room (2 * n + v) x)
   same_after u lu ne = record {
     key-word = label_apart lv room r x (n + u) (λ d. absurd (omega arith));
@@ -133,10 +137,10 @@ module _ {n v t q j x : ℕ} (lv : v < n) (room : List ℕ) (r : Room n room) (f
   }
 
   -- it changes
-  pub taken-put : {w e i a b c : ℕ} {room' : List ℕ} → length room' ≡ length (set room (2 * n + v) x)
-      → Put n v q (set room (2 * n + v) x) room' → a ≡ (labels_in n room).times v → b ≡ (labels_in n room).keys v
-      → c ≡ (labels_in n room).vias v → Improved w e i a b c t q j → Taken w e i n v room room'
-  taken-put {room' = room'} long put ea eb ec h = record {
+  pub taken-put : {w e i a b c : ℕ} {room' : List ℕ} → 3 * n ≤ length room' → Put n v q (set room (2 * n + v) x) room'
+      → a ≡ (labels_in n room).times v → b ≡ (labels_in n room).keys v → c ≡ (labels_in n room).vias v → Improved w e i a b c t q j
+      → Taken w e i n v room room'
+  taken-put {room' = room'} sized put ea eb ec h = record {
     improves =
         read_again room' (put.others (2 * n + v) (omega arith) (λ d. absurd (omega arith)) ∙ label_own lv room r x)
         put.own ea eb ec h;
@@ -146,7 +150,7 @@ module _ {n v t q j x : ℕ} (lv : v < n) (room : List ℕ) (r : Room n room) (f
     };
     room = record {
       n-high = r.n-high;
-      words = omega (arith, r.words, long ∙ length-set room (2 * n + v) x);
+      words = sized;
       right = put.right;
     };
   }

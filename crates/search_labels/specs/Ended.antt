@@ -1,12 +1,9 @@
 -- What the labels of a search give: the way back. Assumes nothing.
-use Rattle.std.proofs.Common.{◌∙◌, inl, inr}
+use Rattle.std.proofs.Common.{◌++◌, ◌+◌, ◌<◌, ◌∙◌, ◌∷◌, ◌≤◌, List, [], arith, inl, inr, suc, zero, ℕ}
 use Rattle.std.specs.Prelude.{◌≡◌, Bool, false, true}
 use Rattle.std.proofs.Math.Path.{ap, refl, sym}
 use Rattle.std.proofs.Math.Option.{some}
-use mathlib.Core.List.{List, [], ◌++◌, ◌∷◌}
-use Prim.Native.Nat.{◌+◌, ◌<◌, ◌≤◌, suc, zero, ℕ}
 use Rattle.std.proofs.Math.ListN.{length, length-append}
-use native.Mathlib.Omega.{arith}
 use Rattle.graph.proofs.Total.{none-some}
 use Rattle.graph.specs.Search.{Entry, Problem, back, is, time_in}
 use Rattle.graph.specs.Walk.{TimeIs, WellFormed, by_start}

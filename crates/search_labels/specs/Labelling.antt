@@ -27,7 +27,7 @@ abbrev pub order_of : (n : ℕ) (room : List ℕ) → Order
 order_of = by_key
 
 -- there is room for n nodes, and the tournament is that of their order
-pub record Room (n : ℕ) (room : List ℕ) : Type 0 where
+pub record Ordered (n : ℕ) (room : List ℕ) : Type 0 where
   pub n-high : n ≤ most_nodes
   pub words : 3 * n ≤ length room
   pub right : Tournament (order_of n room) n room
@@ -59,4 +59,4 @@ pub record Taken (w e i n v : ℕ) (l l' : List ℕ) : Type 0 where
   pub improves : Improved w e i ((labels_in n l).times v) ((labels_in n l).keys v) ((labels_in n l).vias v)
       ((labels_in n l').times v) ((labels_in n l').keys v) ((labels_in n l').vias v)
   pub others : (u : ℕ) → u < n → (u ≡ v → ⊥) → SameLabel n u l l'
-  pub room : Room n l'
+  pub room : Ordered n l'

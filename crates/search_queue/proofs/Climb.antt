@@ -1,17 +1,11 @@
 -- One node's key has changed, and the places above it are decided anew, from its own place up. Assumes nothing.
-use mathlib.Core.Path.{◌∙◌, ◌≡◌, ap, refl, subst, sym}
-use mathlib.Core.Logic.{◌⊎◌, inl, inr}
-use mathlib.Core.Bool.{false, true}
-use mathlib.Core.List.{List}
-use Prim.Native.Nat.{◌%◌, ◌*◌, ◌+◌, ◌-◌, ◌/◌, ◌<◌, ◌≤◌, ℕ}
-use lib.ListN.{get_or, length, length-set, set}
-use lib.Seq.{get_or-set_other, get_or-set_same}
-use native.Mathlib.Decide.{dec_lt, ℕ_discrete}
-use native.Mathlib.Omega.{arith}
+use Rattle.std.proofs.Common.{◌%◌, ◌*◌, ◌+◌, ◌-◌, ◌/◌, ◌<◌, ◌∙◌, ◌≡◌, ◌≤◌, ◌⊎◌, List, ap, arith, false, get_or, get_or-set_other}
+use Rattle.std.proofs.Common.{get_or-set_same, inl, inr, length, length-set, refl, set, subst, sym, true, ℕ}
+use Rattle.std.proofs.Math.Decide.{dec_lt, ℕ_discrete}
 use Rattle.graph.specs.Total.{Tested}
 use Rattle.graph.proofs.Total.{decide}
 use Rattle.search_queue.specs.Order.{Alike, Before, Order, SameBut, Waiting, by_key, key_unit, most_nodes, settled_key, tie_in}
-use Rattle.search_queue.specs.Tree.{Above, Changed, Holds, NodeIn, Own, Put, Tells, before, better, here, nobody, part_of, placed_of}
+use Rattle.search_queue.specs.Tree.{Above, Changed, Holds, Own, Put, Tells, before, better, here, nobody, part_of, placed_of}
 use Rattle.search_queue.specs.Tree.{somebody}
 use Rattle.search_queue.specs.Laws.{placed-key, placed-number, placed-part, tournament_kept}
 use Rattle.search_queue.proofs.Orders.{before-new, before_self, before_trans, same-put, waiting-new, waiting-old}
@@ -127,23 +121,24 @@ pub record Climb (o : Order) (n : ℕ) (room₀ room : List ℕ) (at w : ℕ) : 
   pub done : (q : ℕ) → 0 < q → q < 2 * n → (Above q at → q < at → ⊥) → Holds o n q (get_or room q 0)
 
 -- the word of v is written at its own place
-module _ {n v : ℕ} (key : ℕ) {room : List ℕ} {x : ℕ} (node : NodeIn n v room) (x-is : Own n v key room x) where
+module _ {n v : ℕ} (key : ℕ) {room : List ℕ} {x : ℕ} (inside : v < n) (few : n ≤ most_nodes) (sized : 3 * n ≤ length room)
+    (x-is : Own n v key room x) where
   abbrev written : List ℕ
   written = set room (n + v) x
 
   own-word : get_or written (n + v) 0 ≡ x
-  own-word = get_or-set_same room (n + v) x 0 (omega (arith, node.inside, node.words))
+  own-word = get_or-set_same room (n + v) x 0 (omega arith)
 
   pub climb-start : Changed (by_key n room) n v room → Climb (by_key n written) n written written (n + v) x
   climb-start c = record {
-    low = omega (arith, node.inside);
-    high = omega (arith, node.inside);
-    words = simp length-set node.words;
+    low = omega arith;
+    high = omega arith;
+    words = simp length-set sized;
     long = refl;
     kept = λ q l. refl;
     word = leaf;
     done = λ q low high f.
-        holds-written o n room (n + v) x q (omega (arith, node.inside, node.words)) leaf
+        holds-written o n room (n + v) x q (omega arith) leaf
         (λ ne. holds-apart same (other q ne f) (c.right q low high));
   }
     where
@@ -151,14 +146,14 @@ module _ {n v : ℕ} (key : ℕ) {room : List ℕ} {x : ℕ} (node : NodeIn n v 
       o = by_key n written
 
       same : SameBut n v c.old o
-      same = same-put node.inside room x c.same
+      same = same-put inside room x c.same
 
       leaf : Holds o n (n + v) x
       leaf =
           let k : o.key v ≡ key = ap (λ (w : ℕ). w / key_unit) own-word ∙ x-is.key-is in
           let t : o.tie v ≡ tie_in n room v =
-          ap (λ (w : ℕ). w / most_nodes) (get_or-set_other room (n + v) (2 * n + v) x 0 (λ e. absurd (omega (arith, node.inside)))) in
-          holds-leaf o node.inside (x-is.key-is ∙ sym k) (λ l. rw (k, t) (x-is.placed (rw k at l)))
+          ap (λ (w : ℕ). w / most_nodes) (get_or-set_other room (n + v) (2 * n + v) x 0 (λ e. absurd (omega arith))) in
+          holds-leaf o inside (x-is.key-is ∙ sym k) (λ l. rw (k, t) (x-is.placed (rw k at l)))
 
       other : (q : ℕ) → (q ≡ n + v → ⊥) → (Above q (n + v) → q < n + v → ⊥) → (u : ℕ) → Above q (n + u) → u ≡ v → ⊥
       other q ne f u a e =

@@ -1,10 +1,5 @@
 -- The order of choice: that it is an order, and that it stays between nodes that did not change. Assumes nothing.
-use mathlib.Core.Path.{◌∙◌, ◌≡◌, ap}
-use mathlib.Core.List.{List}
-use Prim.Native.Nat.{◌*◌, ◌+◌, ◌/◌, ◌<◌, ℕ}
-use lib.ListN.{set}
-use lib.Seq.{get_or-set_other}
-use native.Mathlib.Omega.{arith}
+use Rattle.std.proofs.Common.{◌*◌, ◌+◌, ◌/◌, ◌<◌, ◌∙◌, ◌≡◌, List, ap, arith, get_or-set_other, set, ℕ}
 use Rattle.search_queue.specs.Order.{Before, Order, SameBut, Waiting, by_key, key_unit, most_nodes}
 
 -- ---- any order

@@ -1,18 +1,14 @@
 -- The root of a tournament tells what is chosen, and where every candidate's sum is kept that is what the definition logs next. Assumes
 -- nothing.
-use mathlib.Core.Path.{◌∙◌, ◌≡◌, ap, refl}
-use mathlib.Core.List.{List}
-use Prim.Native.Nat.{◌%◌, ◌+◌, ◌/◌, ◌<◌, ◌≤◌, suc, zero, ℕ}
-use lib.ListN.{get_or}
-use native.Mathlib.Decide.{dec_lt}
-use native.Mathlib.Nat.{not-suc-le-zero}
-use native.Mathlib.Omega.{arith}
+use Rattle.std.proofs.Common.{◌%◌, ◌+◌, ◌/◌, ◌<◌, ◌∙◌, ◌≡◌, ◌≤◌, List, ap, arith, get_or, refl, suc, zero, ℕ}
+use Rattle.std.proofs.Math.Decide.{dec_lt}
+use Rattle.std.specs.Prelude.{None, Some}
 use Rattle.graph.proofs.Total.{some-some}
 use Rattle.graph.specs.Search.{Entry, Problem, offered}
 use Rattle.graph.specs.Choice.{Candidate, Prior, chosen, finished}
 use Rattle.search_queue.specs.Order.{Chosen, FirstOf, Order, first-is, key_unit, most_nodes, none_left, settled_key}
 use Rattle.search_queue.specs.Tree.{Above, Holds, Tournament, here, higher, nobody, somebody}
-use Rattle.search_queue.specs.Sums.{Choice, NextAt, SumsKept, entry_in, next-at, no-next}
+use Rattle.search_queue.specs.Sums.{Choice, NextAt, Picks, SumsKept, entry_in, next-at, no-next}
 use Rattle.search_queue.specs.Laws.{placed-key, placed-number}
 
 -- the root is above every place
@@ -20,7 +16,7 @@ above_root : (p : ℕ) → 0 < p → Above 1 p
 above_root p l = below (suc p) p (omega arith) l
   where
     below : (d q : ℕ) → q < d → 0 < q → Above 1 q
-    below zero q lt low = absurd (not-suc-le-zero lt)
+    below zero q lt low = absurd (omega arith)
     below (suc d) q lt low = go (dec_lt 1 q) (λ m. below d (q / 2) (omega arith) (omega arith))
       where
         go : Dec (1 < q) → (1 < q → Above 1 (q / 2)) → Above 1 q
@@ -67,18 +63,24 @@ choice_of ch = record {
 
 -- ---- the root's word is no candidate's, or tells a number
 module _ {n : ℕ} (room : List ℕ) where
-  pub root_nobody : settled_key ≤ get_or room 1 0 / key_unit → Choice n room n
-  root_nobody q = choice_of (λ o l high t. go o l high (t 1 (omega arith) (omega arith)))
+  pub root_nobody : settled_key ≤ get_or room 1 0 / key_unit → Picks n room None
+  root_nobody q = record { choice = choice_of (λ o l high t. go o l high (t 1 (omega arith) (omega arith))); inside = λ o l high t. tt }
     where
       go : (o : Order) → 0 < n → n ≤ most_nodes → Holds o n 1 (get_or room 1 0) → Chosen o n n
       go o l high (nobody e f) = none_left (λ v lv w. f v lv (above_root (n + v) (omega arith)) w)
       go o l high (somebody u e lu a w best) = let z = placed-key (o.key u) (o.tie u) (omega arith) e in absurd (omega arith)
 
-  pub root_number : get_or room 1 0 / key_unit < settled_key → Choice n room (get_or room 1 0 % most_nodes)
-  root_number q = choice_of (λ o l high t. go o l high (t 1 (omega arith) (omega arith)))
+  pub root_number : get_or room 1 0 / key_unit < settled_key → Picks n room (Some (get_or room 1 0 % most_nodes))
+  root_number q = record {
+    choice = choice_of (λ o l high t. first-is (first o l high t));
+    inside = λ o l high t. (first o l high t).inside;
+  }
     where
-      go : (o : Order) → 0 < n → n ≤ most_nodes → Holds o n 1 (get_or room 1 0) → Chosen o n (get_or room 1 0 % most_nodes)
+      go : (o : Order) → 0 < n → n ≤ most_nodes → Holds o n 1 (get_or room 1 0) → FirstOf o n (get_or room 1 0 % most_nodes)
       go o l high (nobody e f) = absurd (omega arith)
       go o l high (somebody u e lu a w best) =
           rw (placed-number (o.key u) (o.tie u) (omega arith) e)
-          (first-is (record { inside = lu; waits = w; best = λ v lv wv. best v lv (above_root (n + v) (omega arith)) wv }))
+          (record { inside = lu; waits = w; best = λ v lv wv. best v lv (above_root (n + v) (omega arith)) wv })
+
+      first : (o : Order) → 0 < n → n ≤ most_nodes → Tournament o n room → FirstOf o n (get_or room 1 0 % most_nodes)
+      first o l high t = go o l high (t 1 (omega arith) (omega arith))

@@ -1,11 +1,9 @@
 -- The better of two words: what the test says of their candidates, and which it is by the tests of the code. Assumes nothing.
-use mathlib.Core.Path.{◌∙◌, ◌≡◌, refl, sym}
-use mathlib.Core.Bool.{Bool, false, true}
-use Prim.Native.Nat.{◌%◌, ◌/◌, ◌<◌, ◌≤◌, ℕ}
-use borrow.Author.Tests.{eq-eqb, le-leb, le-ltb, leb-false, leb-true, lt-leb, lt-ltb, ne_eqb}
-use lib.Dec.{leb}
-use native.Mathlib.Decide.{dec_lt, ℕ_discrete}
-use native.Mathlib.Omega.{arith}
+use Rattle.std.proofs.Common.{◌%◌, ◌/◌, ◌<◌, ◌∙◌, ◌≡◌, ◌≤◌, Bool, arith, eq-eqb, false, le-leb, le-ltb, leb-false, leb-true}
+use Rattle.std.proofs.Common.{lt-ltb, min, ne_eqb, refl, sym, true, ℕ}
+use Rattle.std.proofs.Math.Decide.{dec_lt, ℕ_discrete}
+use Rattle.std.specs.Prelude.{leb}
+use Rattle.std.proofs.lemmas.Bool.{lt-leb}
 use Rattle.graph.specs.Search.{below_or}
 use Rattle.graph.proofs.Choice.{below_or_false, below_or_true}
 use Rattle.search_queue.specs.Order.{Before, Order, Waiting, key_unit, most_nodes, settled_key}
@@ -88,6 +86,14 @@ module _ (a b : ℕ) (t : Bool) where
   unfolding below_or
   or_equal e = rw (le-ltb a b (omega arith), eq-eqb a b e)
 
+-- what holds of each where it is the smaller holds of the smaller
+smaller-is : {x y z m : ℕ} → m ≡ min x y → (x ≤ y → x ≡ z) → (y < x → y ≡ z) → m ≡ z
+smaller-is {x} {y} {z} {m} m-is f g = go (dec_lt y x)
+  where
+    go : Dec (y < x) → m ≡ z
+    go (yes l) = let e : m ≡ y = omega arith in e ∙ g l
+    go (no l) = let e : m ≡ x = omega arith in e ∙ f (omega arith)
+
 module _ (tie : ℕ → ℕ) (x y : ℕ) where
   -- of one key: that of no candidate, and that of two
   rests_is : x / key_unit ≡ y / key_unit → settled_key ≤ x / key_unit → before tie x y ≡ leb (x / most_nodes) (y / most_nodes)
@@ -101,7 +107,7 @@ module _ (tie : ℕ → ℕ) (x y : ℕ) where
 
   -- key or part differ
   module _ {n : ℕ} (tells-x : Tells n tie x) (tells-y : Tells n tie y) (ne : x / most_nodes ≡ y / most_nodes → ⊥) where
-    pub better_lower : x < y → x ≡ better tie x y
+    better_lower : x ≤ y → x ≡ better tie x y
     unfolding before
     better_lower l = sym (better-first tie x y (go (ℕ_discrete (x / key_unit) (y / key_unit)) (dec_lt (x / key_unit) settled_key)))
       where
@@ -113,7 +119,7 @@ module _ (tie : ℕ → ℕ) (x y : ℕ) where
             let (_, part-y) = tells-y (omega arith) in
             tied_is same waits ∙ or_below (tie (x % most_nodes)) (tie (y % most_nodes)) _ (omega arith)
 
-    pub better-higher : y ≤ x → y ≡ better tie x y
+    better-higher : y < x → y ≡ better tie x y
     unfolding before
     better-higher l = sym (better-second tie x y (go (ℕ_discrete (x / key_unit) (y / key_unit)) (dec_lt (x / key_unit) settled_key)))
       where
@@ -124,6 +130,9 @@ module _ (tie : ℕ → ℕ) (x y : ℕ) where
             let (_, part-x) = tells-x waits in
             let (_, part-y) = tells-y (omega arith) in
             tied_is same waits ∙ or_above (tie (x % most_nodes)) (tie (y % most_nodes)) _ (omega arith)
+
+    pub better_apart : {m : ℕ} → m ≡ min x y → m ≡ better tie x y
+    better_apart m-is = smaller-is m-is better_lower better-higher
 
   -- they are one
   module _ (same : x / most_nodes ≡ y / most_nodes) where
@@ -149,8 +158,8 @@ module _ (tie : ℕ → ℕ) (x y : ℕ) where
         numbers : before tie x y ≡ leb (x % most_nodes) (y % most_nodes)
         numbers = tied ∙ or_equal (tie (x % most_nodes)) (tie (y % most_nodes)) _ alike
 
-        pub better-number : x ≤ y → x ≡ better tie x y
-        better-number l = sym (better-first tie x y (numbers ∙ le-leb (x % most_nodes) (y % most_nodes) (omega arith)))
-
-        pub better-other : y < x → y ≡ better tie x y
-        better-other l = sym (better-second tie x y (numbers ∙ lt-leb (x % most_nodes) (y % most_nodes) (omega arith)))
+        pub better-number : {m : ℕ} → m ≡ min x y → m ≡ better tie x y
+        better-number m-is =
+            smaller-is m-is
+            (λ l. sym (better-first tie x y (numbers ∙ le-leb (x % most_nodes) (y % most_nodes) (omega arith))))
+            (λ l. sym (better-second tie x y (numbers ∙ lt-leb (x % most_nodes) (y % most_nodes) (omega arith))))

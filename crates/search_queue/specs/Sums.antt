@@ -1,6 +1,6 @@
 -- The sums that are kept of a search (document 02, A4: "each kept sum is proved to be its candidate's key at every choice"). Definitions
 -- only.
-use Rattle.std.specs.Prelude.{◌≡◌, List, ◌<◌, ◌≤◌, ℕ}
+use Rattle.std.specs.Prelude.{◌≡◌, IfSome, List, None, Option, Some, ◌<◌, ◌≤◌, ℕ}
 use Rattle.std.proofs.Math.Option.{none, some}
 use Rattle.graph.specs.Search.{Entry, Problem}
 use Rattle.graph.specs.Choice.{Candidate, NextIs}
@@ -29,3 +29,13 @@ pub record Choice (n : ℕ) (room : List ℕ) (v : ℕ) : Type 0 where
   -- given that every candidate's sum is kept, it is what the definition logs next
   pub by-sums : (G : Problem) (H : List Entry) (times : ℕ → ℕ) (o : Order) → G.size ≡ n → 0 < n → n ≤ most_nodes → Tournament o n room
       → SumsKept G H times o → NextAt G H times o n v
+
+-- the node that is picked, or n
+abbrev pub picked : (n : ℕ) → Option ℕ → ℕ
+picked n None = n
+picked n (Some v) = v
+
+-- What is picked of n nodes, if one is left: the choice, and in a tournament that is right it is one of the n.
+pub record Picks (n : ℕ) (room : List ℕ) (r : Option ℕ) : Type 0 where
+  pub choice : Choice n room (picked n r)
+  pub inside : (o : Order) → 0 < n → n ≤ most_nodes → Tournament o n room → IfSome r (λ v. v < n)

@@ -1,7 +1,7 @@
 -- The tournament of the candidates, a tree over n nodes in the first 2 n places of a room: place 1 is the root, under place p are 2 p and
 -- 2 p + 1, and node v has place n + v. A place holds a word: that of the first candidate under it, or a word that is no candidate's.
 -- Behind these places stands a word for each node, which decides between equal keys. Definitions only.
-use Rattle.std.specs.Prelude.{◌≡◌, Bool, cond, List, ◌%◌, ◌*◌, ◌+◌, ◌/◌, ◌<◌, ◌≤◌, min, ℕ, leb, get_or, length}
+use Rattle.std.specs.Prelude.{◌≡◌, Bool, cond, List, ◌%◌, ◌*◌, ◌+◌, ◌/◌, ◌<◌, ◌≤◌, min, ℕ, leb, get_or}
 use Rattle.graph.specs.Search.{below_or}
 use Rattle.search_queue.specs.Order.{Before, Order, SameBut, Waiting, by_key, key_in, key_unit, most_nodes, settled_key, tie_in}
 
@@ -47,12 +47,6 @@ pub data Holds (o : Order) (n p : ℕ) : ℕ → Type 0 where
 -- every place holds what it should
 abbrev pub Tournament : (o : Order) (n : ℕ) (room : List ℕ) → Type 0
 Tournament o n room = (p : ℕ) → 0 < p → p < 2 * n → Holds o n p (get_or room p 0)
-
--- v is one of n nodes, and there is room for their tournament and a word for each
-pub record NodeIn (n v : ℕ) (room : List ℕ) : Type 0 where
-  pub inside : v < n
-  pub n-high : n ≤ most_nodes
-  pub words : 3 * n ≤ length room
 
 -- if the word w is a candidate's, it tells one of n nodes, and a part of its tie
 abbrev pub Tells : (n : ℕ) (tie : ℕ → ℕ) (w : ℕ) → Type 0

@@ -2,13 +2,14 @@
 // is not known here. The choice is a tournament, a tree in which each inner place holds the better of the two under it; a node's own place
 // holds its key. It stands in the first 2 n places of a room; behind them the room has a word for each node, whose upper part, the node's
 // time, decides between equal keys. A part of that time stands in the words of the tree too, between key and number, so that one comparison
-// of words nearly always decides.
+// of words nearly always decides. So words are plain numbers, and what is no candidate's key is a mark above all keys: an option, or a
+// struct of the parts, would be compared part by part.
 #![tactic(auto)]
 
-ghost use Rattle.std.specs.Prelude.{◌≡◌, ◌%◌, ◌*◌, ◌/◌, ◌<◌, ◌≤◌, min, length};
+ghost use Rattle.std.specs.Prelude.{◌≡◌, ◌%◌, ◌*◌, ◌/◌, ◌<◌, ◌≤◌, ℕ, length};
 ghost use Rattle.search_queue.specs.Order.{by_key, key_in, key_unit, most_nodes, most_upper, no_key, settled_key, tie_in};
-ghost use Rattle.search_queue.specs.Tree.{Changed, NodeIn, Own, Put, Tells, better, word_of};
-ghost use Rattle.search_queue.specs.Sums.{Choice};
+ghost use Rattle.search_queue.specs.Tree.{Changed, Own, Put, Tells, better, word_of};
+ghost use Rattle.search_queue.specs.Sums.{Picks};
 
 // The key of a node that never was a candidate, and that of a logged one. The key of a candidate is below both.
 pub const NO_KEY: u64 = 274877906943;
@@ -17,6 +18,16 @@ pub const SETTLED: u64 = 274877906942;
 
 // Every word of a fresh room: no node has a key.
 pub const BLANK: u64 = 18446744073709551615;
+
+// ---- the room
+
+// A room for n nodes: three words for each.
+#[derive(Drop)]
+pub struct Room<'a> {
+    pub words: &'a mut [u64],
+    pub n: u32,
+    pub ghost sized: { 3 * n ≤ length words.now },
+}
 
 // ---- words
 
@@ -33,7 +44,7 @@ pub fn word_of(upper: u64, lower: u32) -> u64
     requires { (upper ≤ most_upper) × (lower < most_nodes) }
     ensures { result ≡ word_of upper lower }
 {
-    upper * NUMBERS + lower as u64
+    upper * NUMBERS + u64::from(lower)
 }
 
 pub fn upper_of(word: u64) -> u64
@@ -55,101 +66,115 @@ fn key_in(word: u64) -> u64
     word / (PARTS * NUMBERS)
 }
 
-// The part that a word of the tree has of a number: the number, or the largest part if it is larger.
-fn part_of(number: u64) -> u64
-    ensures { result ≡ min number 4095 }
-{
-    if number < PARTS { number } else { PARTS - 1 }
-}
-
 // ---- the queue
 
-// The key that is kept for v.
-pub fn key_of(room: &[u64], n: u32, v: u32) -> u64
-    requires { NodeIn n v room.now }
-    ensures { (result ≡ key_in n room.now v) × (result ≤ no_key) }
-{
-    let at = n as usize + v as usize;
-    key_in(room[at])
+impl Room<'_> {
+    // The key that is kept for v.
+    pub fn key_of(&self, v: u32) -> u64
+        requires { v < self.now.n }
+        ensures { (result ≡ key_in self.now.n self.now.words.now v) × (result ≤ no_key) }
+    {
+        let at = self.n as usize + v as usize;
+        key_in(self.words[at])
+    }
+
+    // The time of the node of a word.
+    fn time_in(&self, word: u64) -> u64
+        requires { word % most_nodes < self.now.n }
+        ensures { result ≡ tie_in self.now.n self.now.words.now (word % most_nodes) }
+    {
+        let at = 2 * (self.n as usize) + lower_of(word) as usize;
+        upper_of(self.words[at])
+    }
+
+    // Of the words of two candidates with one key, the one that comes first: by the smaller time, then by the smaller number.
+    fn better_tied(&self, x: u64, y: u64) -> u64
+        requires { (x % most_nodes < self.now.n) × (y % most_nodes < self.now.n) }
+        ensures { x / most_nodes ≡ y / most_nodes → x / key_unit < settled_key
+            → result ≡ better (tie_in self.now.n self.now.words.now) x y }
+    {
+        let a = self.time_in(x);
+        let b = self.time_in(y);
+        if a < b {
+            x
+        } else if b < a {
+            y
+        } else {
+            x.min(y)
+        }
+    }
+
+    // Of two words, the one that comes first. They are compared as they are, and times looked up only where key and part are one.
+    fn better_of(&self, x: u64, y: u64) -> u64
+        requires { Tells self.now.n (tie_in self.now.n self.now.words.now) x × Tells self.now.n (tie_in self.now.n self.now.words.now) y }
+        ensures { result ≡ better (tie_in self.now.n self.now.words.now) x y }
+    {
+        if upper_of(x) != upper_of(y) {
+            return x.min(y);
+        }
+        if SETTLED <= key_in(x) {
+            return x;
+        }
+        self.better_tied(x, y)
+    }
+
+    // The word of v with that key, for v's own place. A candidate's has a part of its time. The words of others, which are never chosen,
+    // have one of their number: so, of 4,096 nodes, no two are alike above the number, and comparing words decides between them too.
+    fn own_word(&self, v: u32, key: u64) -> u64
+        requires { (v < self.now.n) × (self.now.n ≤ most_nodes) × (key ≤ no_key) }
+        ensures { Own self.now.n v key self.now.words.now result }
+    {
+        let at = 2 * (self.n as usize) + v as usize;
+        let part = if key < SETTLED {
+            upper_of(self.words[at]) / PART_TIMES
+        } else {
+            u64::from(v)
+        };
+        word_of(key * PARTS + part.min(PARTS - 1), v)
+    }
+
+    // The key of v becomes `key`, with SETTLED it is a candidate no more; the places above v are decided anew. (To stop where a place stays
+    // as it was costs more than it saves.)
+    pub fn put(&mut self, v: u32, key: u64)
+        requires { (v < self.old.n) × (self.old.n ≤ most_nodes) × (key ≤ no_key)
+            × Changed (by_key self.old.n self.old.words.now) self.old.n v self.old.words.now }
+        ensures put { Put self.old.n v key self.old.words.now self.new.words.now }
+        ensures n_is { self.new.n ≡ self.old.n }
+        ensures long { length self.new.words.now ≡ length self.old.words.now }
+        ensures lent { self.new.words.ghost_name ≡ self.old.words.ghost_name }
+    {
+        let mut w = self.own_word(v, key);
+        let mut at = self.n as usize + v as usize;
+        self.words[at] = w;
+        // a climb, in which the place halves each turn
+        while 1 < at {
+            let up = at / 2;
+            // the other place under `up`
+            let beside = 4 * up + 1 - at;
+            w = self.better_of(w, self.words[beside]);
+            self.words[up] = w;
+            at = up;
+        }
+    }
+
+    // The candidate that comes first, if one is left.
+    pub fn choose(&self) -> Option<u32>
+        requires { 1 < length self.now.words.now }
+        ensures { Picks self.now.n self.now.words.now result }
+    {
+        choose(self.words)
+    }
 }
 
-// The time of the node of a word.
-fn time_in(room: &[u64], n: u32, word: u64) -> u64
-    requires { (word % most_nodes < n) × (3 * n ≤ length room.now) }
-    ensures { result ≡ tie_in n room.now (word % most_nodes) }
+// The same of a tournament of any number of nodes, in words that need be no room: the root alone tells it.
+pub fn choose(words: &[u64]) -> Option<u32>
+    requires { 1 < length words.now }
+    ensures { (n : ℕ) → Picks n words.now result }
 {
-    let at = 2 * (n as usize) + lower_of(word) as usize;
-    upper_of(room[at])
-}
-
-// Of the words of two candidates with one key, the one that comes first: by the smaller time, then by the smaller number.
-fn better_tied(room: &[u64], n: u32, x: u64, y: u64) -> u64
-    requires { (x % most_nodes < n) × (y % most_nodes < n) × (3 * n ≤ length room.now) }
-    ensures { x / most_nodes ≡ y / most_nodes → x / key_unit < settled_key → result ≡ better (tie_in n room.now) x y }
-{
-    let a = time_in(room, n, x);
-    let b = time_in(room, n, y);
-    if a < b {
-        return x;
+    let w = words[1];
+    if key_in(w) < SETTLED {
+        Some(lower_of(w))
+    } else {
+        None
     }
-    if b < a {
-        return y;
-    }
-    if x <= y { x } else { y }
-}
-
-// Of two words, the one that comes first. They are compared as they are, and times looked up only where key and part are one.
-fn better_of(room: &[u64], n: u32, x: u64, y: u64) -> u64
-    requires { Tells n (tie_in n room.now) x × Tells n (tie_in n room.now) y × (3 * n ≤ length room.now) }
-    ensures { result ≡ better (tie_in n room.now) x y }
-{
-    if upper_of(x) != upper_of(y) {
-        return if x < y { x } else { y };
-    }
-    if SETTLED <= key_in(x) {
-        return x;
-    }
-    better_tied(room, n, x, y)
-}
-
-// The word of v with that key, for v's own place. A candidate's has a part of its time. The words of others, which are never chosen, have
-// one of their number: so, of 4,096 nodes, no two are alike above the number, and comparing words decides between them too.
-fn own_word(room: &[u64], n: u32, v: u32, key: u64) -> u64
-    requires { NodeIn n v room.now × (key ≤ no_key) }
-    ensures { Own n v key room.now result }
-{
-    if key < SETTLED {
-        let at = 2 * (n as usize) + v as usize;
-        let time = upper_of(room[at]);
-        return word_of(key * PARTS + part_of(time / PART_TIMES), v);
-    }
-    word_of(key * PARTS + part_of(v as u64), v)
-}
-
-// The key of v becomes `key`, with SETTLED it is a candidate no more; the places above v are decided anew. (To stop where a place stays as
-// it was costs more than it saves.)
-pub fn put(room: &mut [u64], n: u32, v: u32, key: u64)
-    requires { NodeIn n v room.old × (key ≤ no_key) × Changed (by_key n room.old) n v room.old }
-    ensures { Put n v key room.old room.new }
-{
-    let mut w = own_word(room, n, v, key);
-    let mut at = n as usize + v as usize;
-    room[at] = w;
-    while 1 < at {
-        let up = at / 2;
-        // the other place under `up`
-        let beside = 4 * up + 1 - at;
-        w = better_of(room, n, w, room[beside]);
-        room[up] = w;
-        at = up;
-    }
-}
-
-// The candidate of n nodes that comes first, or n where none is left.
-pub fn choose(room: &[u64], n: u32) -> u32
-    requires { 1 < length room.now }
-    ensures { Choice n room.now result }
-{
-    let w = room[1];
-    if key_in(w) < SETTLED { lower_of(w) } else { n }
 }

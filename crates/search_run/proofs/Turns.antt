@@ -24,7 +24,7 @@ use Rattle.model.proofs.Ends.{first_snoc, listed-is}
 use Rattle.search_queue.specs.Order.{Waiting, settled_key}
 use Rattle.search_queue.specs.Tree.{Put}
 use Rattle.search_queue.specs.Sums.{Choice, NextAt, SumsKept, entry_in, next-at, no-next}
-use Rattle.search_labels.specs.Labelling.{Room, labels_in, order_of}
+use Rattle.search_labels.specs.Labelling.{Ordered, labels_in, order_of}
 use Rattle.search_labels.specs.Labelled.{Labels}
 use Rattle.search_labels.specs.Log.{labels-log, sums_kept}
 use Rattle.search_junctions.specs.State.{Given, Ready, go_given, map_given}
@@ -140,7 +140,7 @@ record Logs (n : ℕ) (G : Problem) (H : List Entry) (E : Entry) (room : List �
 module _ {g : Given} {s z : ℕ} (r : Ready g s z) where
   -- what is chosen, given that every candidate's sum is kept; all arcs are relaxed and no goal is logged
   next_of : {H : List Entry} {room : List ℕ} {c k v : ℕ} → Labels (go_given g s z) H c k (labels_in g.sizes.n room)
-      → (go_given g s z).net.arcs ≤ k → has_goal (go_given g s z) H ≡ false → 0 < g.sizes.n → Room g.sizes.n room
+      → (go_given g s z).net.arcs ≤ k → has_goal (go_given g s z) H ≡ false → 0 < g.sizes.n → Ordered g.sizes.n room
       → Choice g.sizes.n room v → Next g.sizes.n (go_given g s z) H room v
   next_of {H} {room} {c} {k} {v} labels full free low x choice =
       at (choice.by-sums G H (labels_in n room).times (order_of n room) (codes r).reads.size_is low x.n-high x.right sums)
@@ -160,7 +160,7 @@ module _ {g : Given} {s z : ℕ} (r : Ready g s z) where
       at (next-at inside waits next-is) = on c k labels full free sums inside waits next-is
 
   pub going_start : {e e' elapsed log room : List ℕ} {v : ℕ} → Begun g.roads g.order g.live g.down s z g.sizes.n e e' room
-      → elapsed ≡ replicate g.sizes.n none_word → 0 < g.sizes.n → Room g.sizes.n room → Choice g.sizes.n room v
+      → elapsed ≡ replicate g.sizes.n none_word → 0 < g.sizes.n → Ordered g.sizes.n room → Choice g.sizes.n room v
       → Going g s z e log (stand_of e' elapsed log room 0 v)
   unfolding has_goal vertices
   going_start b cleared low x choice = record {
@@ -196,7 +196,7 @@ module _ {g : Given} {s z : ℕ} (r : Ready g s z) where
       })) ∙ ap word (sym (k.pots h))
 
   -- v is logged: what the definition does
-  logs : {e₀ log₀ : List ℕ} {a : Stand} (d : Going g s z e₀ log₀ a) → a.next < g.sizes.n → Room g.sizes.n a.room
+  logs : {e₀ log₀ : List ℕ} {a : Stand} (d : Going g s z e₀ log₀ a) → a.next < g.sizes.n → Ordered g.sizes.n a.room
       → {room : List ℕ} → Put g.sizes.n a.next settled_key a.room room
       → Logs g.sizes.n (go_given g s z) d.past (entry_of g.sizes.n a.room a.next) room
   logs {a = a} d lv x {room} put = at d.next
@@ -221,7 +221,7 @@ module _ {g : Given} {s z : ℕ} (r : Ready g s z) where
 
   -- one turn: the next node is logged, and is settled in the room
   module _ {e₀ log₀ : List ℕ} {a : Stand} (d : Going g s z e₀ log₀ a) (lv : a.next < g.sizes.n) (lc : a.count < length log₀)
-      (x : Room g.sizes.n a.room) {room : List ℕ} (put : Put g.sizes.n a.next settled_key a.room room) where
+      (x : Ordered g.sizes.n a.room) {room : List ℕ} (put : Put g.sizes.n a.next settled_key a.room room) where
     abbrev entry : Entry
     entry = entry_of g.sizes.n a.room a.next
 

@@ -1,17 +1,18 @@
 -- A run from its beginning to its end, by its turns. Assumes nothing.
 use mathlib.Core.Path.{◌∙◌, ◌≡◌, ap, refl, subst, sym}
 use mathlib.Core.Logic.{◌⊎◌, inl, inr}
-use mathlib.Core.Bool.{◌&&◌, false, true}
+use mathlib.Core.Bool.{Bool, false, not, true}
 use mathlib.Core.Option.{some}
+use Rattle.std.specs.Prelude.{IfSome, None, Option, Some, is_some}
 use mathlib.Core.List.{List, []}
 use Prim.Native.Nat.{◌*◌, ◌+◌, ◌-◌, ◌<◌, ◌≤◌, min, suc, ℕ}
-use borrow.Author.Tests.{eq-eqb, eqb-false, eqb-true, lt-ltb, ltb-true}
-use lib.Dec.{eqb, ltb}
+use borrow.Author.Tests.{eq-eqb, eqb-false, eqb-true, ne_eqb, not-true}
+use lib.Dec.{eqb}
 use lib.ListN.{drop, get_or, length, length-set, replicate, set, take}
 use native.Mathlib.Decide.{dec_lt}
 use native.Mathlib.Numerals.{add-one}
 use native.Mathlib.Omega.{arith}
-use Rattle.graph.proofs.Total.{and_true, true_false}
+use Rattle.graph.proofs.Total.{true_false}
 use Rattle.graph.specs.ByTail.{start_of}
 use Rattle.graph.proofs.ByTailLaws.{group_part}
 use Rattle.graph.specs.Search.{Entry, Problem, has_goal, run}
@@ -29,9 +30,9 @@ use Rattle.network.specs.declared.Sizes.{Sizes}
 use Rattle.road_groups.specs.Lending.{GroupsMade, tail_in}
 use Rattle.search_queue.specs.Order.{settled_key}
 use Rattle.search_queue.specs.Tree.{Put}
-use Rattle.search_queue.specs.Sums.{Choice, SumsKept}
+use Rattle.search_queue.specs.Sums.{Choice, SumsKept, picked}
 use Rattle.search_queue.specs.Laws.{chosen-inside, fresh-room}
-use Rattle.search_labels.specs.Labelling.{Room, labels_in, order_of}
+use Rattle.search_labels.specs.Labelling.{Ordered, labels_in, order_of}
 use Rattle.search_labels.specs.Labelled.{Labels}
 use Rattle.search_labels.specs.Ended.{way_at}
 use Rattle.search_junctions.specs.Groups.{IsGroup, part_of}
@@ -63,7 +64,7 @@ not_complete {E = E} free (chosen k p) (inr (finished n)) = n E k
 -- ---- what is lent on
 
 -- the first candidate is a node, or there is none
-pub first-inside : {n v : ℕ} {room : List ℕ} → Room n room → 0 < n → Choice n room v → v ≤ n
+pub first-inside : {n v : ℕ} {room : List ℕ} → Ordered n room → 0 < n → Choice n room v → v ≤ n
 first-inside {n} {room = room} x low choice = chosen-inside (choice.by_order (order_of n room) low x.n-high x.right)
 
 -- lengths of what is read, and of the estimates
@@ -91,7 +92,7 @@ reading x q = record { m-high = x.m-high; roads_are = x.roads_are; live-is = x.l
 
 -- a room of blank words: no node has a time or a key, and nobody is at any place of the tournament
 module _ {n : ℕ} {room : List ℕ} (high : n ≤ most_junctions) (b : BlankRoom n room) where
-  pub room-blank : Room n room
+  pub room-blank : Ordered n room
   room-blank = record {
     n-high = omega arith;
     words = b.words;
@@ -135,18 +136,22 @@ pub record Turn (v n c most : ℕ) : Type 0 where
   pub node_in : v < n
   pub count_in : c < most
 
-pub turn-taken : {v n c most : ℕ} → ltb v n && ltb c most ≡ true → Turn v n c most
-turn-taken {v} {n} {c} {most} h =
-    let (node, count) = and_true (ltb v n) (ltb c most) h in
-    record { node_in = ltb-true v n node; count_in = ltb-true c most count }
+pub turn_of : {v n c most : ℕ} → v < n → c ≤ most → (c ≡ most → ⊥) → Turn v n c most
+turn_of lv le ne = record { node_in = lv; count_in = omega (arith, ne) }
 
-turn-left : {v n c most : ℕ} → ltb v n && ltb c most ≡ false → Turn v n c most → ⊥
-turn-left {v} {n} {c} {most} h t = true_false refl (rw (lt-ltb v n t.node_in, lt-ltb c most t.count_in) at h)
+-- what is picked is none of the n only where nothing is picked
+pub picked-none : (n : ℕ) (r : Option ℕ) {b : Bool} → IfSome r (λ v. v < n) → is_some r ≡ not b → b ≡ eqb (picked n r) n
+picked-none n (Some v) {b} lv h = not-true b (sym h) ∙ sym (ne_eqb v n (λ q. omega (arith, lv, q)))
+picked-none n None {b} lv h = at b h
+  where
+    at : (b : Bool) → false ≡ not b → b ≡ eqb n n
+    at true h = sym (eq-eqb n n refl)
+    at false h = absurd (true_false refl (sym h))
 
 -- v is settled, and its place in the queue renewed
-pub room_settled : {n v : ℕ} {room room' : List ℕ} → length room' ≡ length room → Put n v settled_key room room' → Room n room
-    → Room n room'
-room_settled long put x = record { n-high = x.n-high; words = omega (arith, x.words, long); right = put.right }
+pub room_settled : {n v : ℕ} {room room' : List ℕ} → 3 * n ≤ length room' → Put n v settled_key room room' → Ordered n room
+    → Ordered n room'
+room_settled long put x = record { n-high = x.n-high; words = long; right = put.right }
 
 -- From where the run stands at the beginning of the loop, a, to where it stands now, b.
 pub record Running (g : Given) (leaving groups : List ℕ) (s z most : ℕ) (a b : Stand) : Type 0 where
@@ -155,14 +160,13 @@ pub record Running (g : Given) (leaving groups : List ℕ) (s z most : ℕ) (a b
   pub estimates-long : length b.estimates ≡ length a.estimates
   pub elapsed-long : length b.elapsed ≡ length a.elapsed
   pub log-long : length b.log ≡ length a.log
-  pub room-long : length b.room ≡ length a.room
-  pub right : Room g.sizes.n b.room
+  pub right : Ordered g.sizes.n b.room
   pub kept : Kept a.estimates b.estimates
   pub goes : (e₀ log₀ : List ℕ) → Ready g s z → GroupsMade g.roads g.sizes.n g.sizes.m leaving groups → most ≤ length log₀
       → Going g s z e₀ log₀ a → Going g s z e₀ log₀ b
 
 module _ {g : Given} {leaving groups : List ℕ} {s z most : ℕ} where
-  pub running_start : {e t log room : List ℕ} {v : ℕ} → v ≤ g.sizes.n → Room g.sizes.n room
+  pub running_start : {e t log room : List ℕ} {v : ℕ} → v ≤ g.sizes.n → Ordered g.sizes.n room
       → Running g leaving groups s z most (stand_of e t log room 0 v) (stand_of e t log room 0 v)
   running_start le x = record {
     count-le = omega arith;
@@ -170,7 +174,6 @@ module _ {g : Given} {leaving groups : List ℕ} {s z most : ℕ} where
     estimates-long = refl;
     elapsed-long = refl;
     log-long = refl;
-    room-long = refl;
     right = x;
     kept = kept_refl;
     goes = λ e₀ log₀ r made le d. d;
@@ -178,7 +181,7 @@ module _ {g : Given} {leaving groups : List ℕ} {s z most : ℕ} where
 
   -- b's next node is logged with its time t and settled
   module _ {a b : Stand} (x : Running g leaving groups s z most a b) (turn : Turn b.next g.sizes.n b.count most) {t : ℕ}
-      (t-is : t ≡ time_at g.sizes.n b) {room : List ℕ} (long : length room ≡ length b.room)
+      (t-is : t ≡ time_at g.sizes.n b) {room : List ℕ} (long : 3 * g.sizes.n ≤ length room)
       (put : Put g.sizes.n b.next settled_key b.room room) where
     elapsed-kept : length (set b.elapsed b.next t) ≡ length a.elapsed
     elapsed-kept = length-set b.elapsed b.next t ∙ x.elapsed-long
@@ -194,7 +197,6 @@ module _ {g : Given} {leaving groups : List ℕ} {s z most : ℕ} where
       estimates-long = x.estimates-long;
       elapsed-long = elapsed-kept;
       log-long = log-kept;
-      room-long = long ∙ x.room-long;
       right = room_settled long put x.right;
       kept = x.kept;
       goes = λ e₀ log₀ r made le d.
@@ -206,17 +208,16 @@ module _ {g : Given} {leaving groups : List ℕ} {s z most : ℕ} where
     -- it is not: the group of its roads is relaxed from that time
     pub running_on : {group e room' : List ℕ} {from v : ℕ} → eqb b.next z ≡ false
         → group ≡ part_of leaving (get_or groups b.next 0) (get_or groups (b.next + 1) 0) → length e ≡ length b.estimates
-        → length room' ≡ length room → AsksGroup g group b.estimates e
+        → AsksGroup g group b.estimates e
         → from ≡ time_at g.sizes.n b
         → RelaxesGroup (record { sizes = g.sizes; roads = g.roads; live = g.live; estimates = e }) group from room room'
         → Choice g.sizes.n room' v → Running g leaving groups s z most a (logged b t e room' v)
-    running_on q group_is le long' asks from_is relaxes choice = record {
+    running_on q group_is le asks from_is relaxes choice = record {
       count-le = omega (arith, turn.count_in);
       next_le = first-inside relaxes.room (omega (arith, turn.node_in)) choice;
       estimates-long = le ∙ x.estimates-long;
       elapsed-long = elapsed-kept;
       log-long = log-kept;
-      room-long = long' ∙ long ∙ x.room-long;
       right = relaxes.room;
       kept = kept_trans x.kept asks.kept;
       goes = λ e₀ log₀ r made le d.
@@ -305,15 +306,16 @@ pub advances : {g : Given} {leaving groups : List ℕ} {s z budget most : ℕ} {
     → LendsRoom g leaving groups s z l₀ → Begins g.sizes g.order g.ranks g.pairs g.times g.down s l₀.estimates e₁ room₁
     → t₁ ≡ replicate (length l₀.elapsed) none_word → Choice g.sizes.n room₁ v₁ → most ≡ min budget g.sizes.n
     → Running g leaving groups s z most (stand_of e₁ t₁ l₀.log room₁ 0 v₁) a
-    → ltb a.next g.sizes.n && ltb a.count most ≡ false
-    → Advances g leaving groups s z budget l₀ (leaves a) a.count (eqb a.next g.sizes.n)
-advances {g} {budget = budget} {most} {l₀} lends begun cleared choice most-is x left = record {
+    → (Turn a.next g.sizes.n a.count most → ⊥) → {complete : Bool} → complete ≡ eqb a.next g.sizes.n
+    → Advances g leaving groups s z budget l₀ (leaves a) a.count complete
+advances {g} {budget = budget} {most} {l₀} {a = a} lends begun cleared choice most-is x left complete-is = record {
   kept = kept_trans begun.kept x.kept;
   count-le = omega (arith, x.count-le);
-  exact = λ r made a.
+  exact = λ r made aims.
       let none = cleared ∙ ap (λ (k : ℕ). replicate k none_word) lends.within.sized.elapsed-is in
       let d = x.goes l₀.estimates l₀.log r made (omega (arith, lends.log-long))
-      (going_start r (begun.exact g.roads g.live _ r a) none (omega (arith, lends.within.start_in)) begun.room choice) in
-      advanced r d budget (omega (arith, x.count-le))
-      (λ t. turn-left {most = most} left (record { node_in = t.node_in; count_in = omega (arith, t.count_in) }));
+      (going_start r (begun.exact g.roads g.live _ r aims) none (omega (arith, lends.within.start_in)) begun.room choice) in
+      let upto : Turn a.next g.sizes.n a.count (min budget g.sizes.n) → ⊥ =
+      λ t. left (record { node_in = t.node_in; count_in = omega (arith, t.count_in) }) in
+      rw complete-is (advanced r d budget (omega (arith, x.count-le)) upto);
 }

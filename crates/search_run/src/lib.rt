@@ -6,15 +6,15 @@ ghost use Rattle.std.specs.Prelude.{◌≡◌, ◌*◌, ◌<◌, ◌≤◌, eqb,
 ghost use Rattle.model.specs.Layout.{road_size};
 ghost use Rattle.model.specs.State.{first};
 ghost use Rattle.search_labels.specs.Ways.{arcs_back, way_of};
-ghost use Rattle.search_junctions.specs.State.{given, given_to};
+ghost use Rattle.search_junctions.specs.State.{given};
+ghost use Rattle.search_junctions.specs.Rooms.{SameRoom};
 ghost use Rattle.search_labels.specs.Labelling.{labels_in};
 ghost use Rattle.search_run.specs.Runs.{Advances, LendsRoom, back_in, written};
 
-use areas::fill_times;
-use network::{Junction, Time, TimeWord, smaller};
-use search_junctions::{Trip, group_at, step_back};
+use network::{Time, TimeWord};
+use search_junctions::{Atlas, ByTail, Trip};
 use search_labels::{time_of, via_of};
-use search_queue::{SETTLED, choose, put};
+use search_queue::{Room, SETTLED};
 
 // How many nodes are logged (document 01: count), and whether the log is complete.
 #[derive(Clone, Copy)]
@@ -28,110 +28,96 @@ pub struct Progress {
 pub fn advance(
     trip: Trip,
     budget: u32,
-    roads: &[u8],
-    order: &[u8],
-    ranks: &[u32],
-    pairs: &[u32],
-    times: &[TimeWord],
-    access: &[u8],
-    live: &[TimeWord],
-    down: &[TimeWord],
-    leaving: &[u32],
-    groups: &[u32],
+    atlas: &Atlas,
+    by_tail: ByTail,
     estimates: &mut [TimeWord],
     elapsed: &mut [TimeWord],
     log: &mut [u32],
-    room: &mut [u64],
+    room: &mut Room,
 ) -> Progress
-    requires { LendsRoom (given trip roads order ranks pairs times access live down) leaving.now groups.now
-        trip.start.0 trip.target.0 (written estimates elapsed room log) }
-    ensures { Advances (given_to trip roads order ranks pairs times access live down) leaving.now groups.now
-        trip.start.0 trip.target.0 budget (written estimates.entry elapsed.entry room.entry log.entry)
-        (written estimates.exit elapsed.exit room.exit log.exit) result.count result.complete }
+    requires { LendsRoom (given trip atlas.now) by_tail.leaving.now by_tail.groups.now
+        trip.start.0 trip.target.0 (written estimates elapsed room.old.words log) × (room.old.n ≡ trip.sizes.n) }
+    ensures advanced { Advances (given trip atlas.now) by_tail.entry.leaving.now by_tail.entry.groups.now
+        trip.start.0 trip.target.0 budget (written estimates.entry elapsed.entry room.old.words log.entry)
+        (written estimates.exit elapsed.exit room.new.words log.exit) result.count result.complete }
+    ensures same { SameRoom room.old room.new }
 {
-    let n = trip.sizes.n;
-    let first = trip.ask_start(order, ranks, pairs, times, down, estimates);
+    let first = trip.ask_start(atlas, estimates);
     trip.begin(room, first);
-    fill_times(elapsed, Time::NONE.0);
-    let most = smaller(budget as usize, n as usize);
-    let mut c: u32 = 0;
-    let mut v = choose(room, n); // the node that is logged next, or n
-    while (v < n) & ((c as usize) < most) {
-        log[c as usize] = v;
-        c += 1;
-        let from = time_of(room, n, v);
-        elapsed[v as usize] = from.word();
-        put(room, n, v, SETTLED);
+    elapsed.fill(Time::NONE.0);
+    let most = budget.min(trip.sizes.n);
+    let mut count: u32 = 0;
+    let mut next = room.choose();
+    // a `while`: the queue tells the next node only after the turn
+    while let Some(v) = next {
+        if count == most {
+            break;
+        }
+        log[count as usize] = v;
+        count += 1;
+        let from = time_of(room, v);
+        elapsed[v as usize] = from.0;
+        room.put(v, SETTLED);
         if trip.is_goal(v) {
-            v = n;
+            next = None;
         } else {
-            let a = groups[v as usize];
-            let b = groups[v as usize + 1];
-            let group = group_at(leaving, a, b);
-            trip.ask(
-                roads, order, ranks, pairs, times, access, live, down, estimates, group,
-            );
-            trip.relax(roads, access, live, estimates, room, group, from);
-            v = choose(room, n);
+            let group = by_tail.group(v);
+            trip.ask(atlas, estimates, group);
+            trip.relax(atlas, estimates, room, group, from);
+            next = room.choose();
         }
     }
     Progress {
-        count: c,
-        complete: v == n,
+        count,
+        complete: next.is_none(),
     }
 }
 
 // ---- the way back
 
-// How many arcs lead from where the way begins to v.
-fn arcs_back(roads: &[u8], room: &[u64], n: u32, m: u32, start: u32, v: u32) -> u32
-    requires { (v < n) × (3 * n ≤ length room.now) × (road_size * m ≤ length roads.now) }
-    ensures { (result ≡ arcs_back (λ u. eqb u start) (back_in roads.now room.now n m) n v) × (result ≤ n) }
+// How many arcs lead from where the way begins to its end.
+fn arcs_back(trip: Trip, atlas: &Atlas, room: &Room) -> u32
+    requires { (trip.target.0 < trip.sizes.n) × (room.now.n ≡ trip.sizes.n)
+        × (road_size * trip.sizes.m ≤ length atlas.now.roads.now) }
+    ensures { (result ≡ arcs_back (λ u. eqb u trip.start.0)
+        (back_in atlas.now.roads.now room.now.words.now trip.sizes.n trip.sizes.m) trip.sizes.n trip.target.0)
+        × (result ≤ trip.sizes.n) }
 {
-    let mut k: u32 = 0;
-    let mut u = v;
-    while k < n {
-        if u == start {
+    let n = trip.sizes.n;
+    let mut u = trip.target.0;
+    for k in 0..n {
+        if u == trip.start.0 {
             return k;
         }
-        u = step_back(roads, room, n, m, u);
-        k += 1;
+        u = trip.step_back(atlas, room, u);
     }
-    k
+    n
 }
 
-// Writes the k arcs that lead to v, back to front.
-fn write_back(roads: &[u8], room: &[u64], n: u32, m: u32, k: u32, v: u32, route: &mut [u32])
-    requires { (v < n) × (3 * n ≤ length room.now) × (road_size * m ≤ length roads.now) × (k ≤ length route.old) }
-    ensures { route.new ≡ first (way_of (labels_in n room.now).vias
-        (back_in roads.now room.now n m) k v) route.old }
+// Writes the k arcs that lead to the end, back to front.
+fn write_back(trip: Trip, atlas: &Atlas, room: &Room, k: u32, route: &mut [u32])
+    requires { (trip.target.0 < trip.sizes.n) × (room.now.n ≡ trip.sizes.n)
+        × (road_size * trip.sizes.m ≤ length atlas.now.roads.now) × (k ≤ length route.old) }
+    ensures { route.new ≡ first (way_of (labels_in trip.sizes.n room.now.words.now).vias
+        (back_in atlas.now.roads.now room.now.words.now trip.sizes.n trip.sizes.m) k trip.target.0) route.old }
 {
-    let mut j = k;
-    let mut u = v;
-    while 0 < j {
-        j -= 1;
-        let at = j as usize;
-        route[at] = via_of(room, n, u);
-        u = step_back(roads, room, n, m, u);
+    let mut u = trip.target.0;
+    for j in (0..k as usize).rev() {
+        route[j] = via_of(room, u);
+        u = trip.step_back(atlas, room, u);
     }
 }
 
-// The route from the start to v, forwards, first in the part lent; answered with its number of arcs.
-pub fn way_back(
-    roads: &[u8],
-    room: &[u64],
-    n: u32,
-    m: u32,
-    start: Junction,
-    v: Junction,
-    route: &mut [u32],
-) -> u32
-    requires { (v.0 < n) × (3 * n ≤ length room.now) × (road_size * m ≤ length roads.now) × (n ≤ length route.old) }
-    ensures { (result ≡ arcs_back (λ u. eqb u start.0) (back_in roads.now room.now n m) n v.0)
-        × (route.new ≡ first (way_of (labels_in n room.now).vias
-        (back_in roads.now room.now n m) result v.0) route.old) }
+// The route from the trip's start to its target, forwards, first in the part lent; answered with its number of arcs.
+pub fn way_back(trip: Trip, atlas: &Atlas, room: &Room, route: &mut [u32]) -> u32
+    requires { (trip.target.0 < trip.sizes.n) × (room.now.n ≡ trip.sizes.n)
+        × (road_size * trip.sizes.m ≤ length atlas.now.roads.now) × (trip.sizes.n ≤ length route.old) }
+    ensures { (result ≡ arcs_back (λ u. eqb u trip.start.0)
+        (back_in atlas.now.roads.now room.now.words.now trip.sizes.n trip.sizes.m) trip.sizes.n trip.target.0)
+        × (route.new ≡ first (way_of (labels_in trip.sizes.n room.now.words.now).vias
+        (back_in atlas.now.roads.now room.now.words.now trip.sizes.n trip.sizes.m) result trip.target.0) route.old) }
 {
-    let k = arcs_back(roads, room, n, m, start.0, v.0);
-    write_back(roads, room, n, m, k, v.0, route);
+    let k = arcs_back(trip, atlas, room);
+    write_back(trip, atlas, room, k, route);
     k
 }

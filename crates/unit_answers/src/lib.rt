@@ -2,15 +2,15 @@
 #![tactic(auto)]
 
 ghost use Rattle.std.specs.Prelude.{◌≡◌, ◌<◌, ◌-ℤ◌, pos};
-ghost use Rattle.model.specs.Word.{of_word, word};
+ghost use Rattle.model.specs.Word.{word};
 ghost use Rattle.model.specs.Preview.{change_of, preview_answer};
 ghost use Rattle.unit_answers.specs.Shape.{answer_in, change_in, total_in};
 ghost use Rattle.unit_answers.specs.Signed.{Fits, held, most};
 
-use network::{Junction, Refusal, Time, TimeWord};
+use network::{Junction, Time, TimeWord};
 
 // One of document 01's four calls with its arguments; a go has a class and a start (document 02, A6).
-#[derive(Clone, Copy)]
+#[derive(Clone, Copy, Debug, PartialEq, Eq)]
 pub enum Call {
     Set(u32, Time),
     Aim(Junction),
@@ -18,40 +18,21 @@ pub enum Call {
     Go(u32, Junction),
 }
 
-// A total, or none.
-#[derive(Clone, Copy)]
-pub enum Total {
-    Of(TimeWord),
-    None,
-}
-
-impl Total {
-    // As a word: the mark none where there is no total.
-    pub fn word(self) -> TimeWord
-        ensures { result ≡ word (total_in self) }
-    {
-        match self {
-            Total::Of(t) => t,
-            Total::None => Time::NONE.0,
-        }
-    }
-}
-
-// The change from one total to another, or its absence.
-#[derive(Clone, Copy)]
-pub enum Change {
-    By(i64),
-    Absent,
-}
-
-// What preparing and the calls answer. `Gone` has total, count and number of roads; `Previewed` present total, new total and change.
-#[derive(Clone, Copy)]
+// What a call answers that no question refuses. `Gone` has total, count and number of roads; `Previewed` present total, new total and
+// change.
+#[derive(Clone, Copy, Debug, PartialEq, Eq)]
 pub enum Answer {
-    Refused(Refusal),
     Accepted,
     Estimated(Time),
     Gone(TimeWord, u32, u32),
-    Previewed(Total, Total, Change),
+    Previewed(Option<TimeWord>, Option<TimeWord>, Option<i64>),
+}
+
+// A total as a word: the mark none where there is no total.
+pub fn total_word(total: Option<TimeWord>) -> TimeWord
+    ensures { result ≡ word (total_in total) }
+{
+    total.unwrap_or(Time::NONE.0)
 }
 
 // ---- a preview's answer (document 02, A2)
@@ -69,34 +50,25 @@ pub fn difference(present: TimeWord, new: TimeWord) -> i64
 
 // The total that a search answers. One that a signed number does not hold counts as none: no areas give one, but the search does not
 // promise it.
-fn total_of(t: Time) -> Total
-    ensures { (total_in result ≡ held (of_word t.0)) × Fits (total_in result) }
+fn holds(total: Option<TimeWord>) -> Option<TimeWord>
+    ensures { (total_in result ≡ held (total_in total)) × Fits (total_in result) }
 {
-    if SIGNED_END <= t.0 {
-        return Total::None;
-    }
-    Total::Of(t.0)
+    total.filter(|t| *t < SIGNED_END)
 }
 
 // The change, where both totals exist.
-fn change_of(present: Total, new: Total) -> Change
+fn change_of(present: Option<TimeWord>, new: Option<TimeWord>) -> Option<i64>
     requires { Fits (total_in present) × Fits (total_in new) }
     ensures { change_in result ≡ change_of (total_in present) (total_in new) }
 {
-    match present {
-        Total::None => Change::Absent,
-        Total::Of(a) => match new {
-            Total::None => Change::Absent,
-            Total::Of(b) => Change::By(difference(a, b)),
-        },
-    }
+    Some(difference(present?, new?))
 }
 
 // The answer of a preview whose searches answered these totals.
-pub fn previewed(present: Time, new: Time) -> Answer
-    ensures { answer_in result ≡ preview_answer (held (of_word present.0)) (held (of_word new.0)) }
+pub fn previewed(present: Option<TimeWord>, new: Option<TimeWord>) -> Answer
+    ensures { answer_in (Ok result) ≡ preview_answer (held (total_in present)) (held (total_in new)) }
 {
-    let a = total_of(present);
-    let b = total_of(new);
+    let a = holds(present);
+    let b = holds(new);
     Answer::Previewed(a, b, change_of(a, b))
 }

@@ -12,17 +12,15 @@ ghost use Rattle.unit.specs.Shape.{answered_in, header_in};
 ghost use Rattle.unit.specs.Meets.{Meets, MeetsAlone, MeetsPreview};
 ghost use Rattle.unit.specs.Stops.{MeetsStops};
 ghost use Rattle.unit_script.specs.Script.{ReplayContract};
-ghost use Rattle.unit_c.specs.Answers.{Tells, TellsHeader, answer_words, compared_to};
-ghost use Rattle.unit_c.specs.Answers.{header_of, header_words, plain_words, preview_words, target_of};
-ghost use Rattle.unit_c.specs.Stops.{TellsStops, stops_to, stops_words};
+ghost use Rattle.unit_c.specs.Answers.{Tells, TellsHeader, answer_words, header_of, header_words};
+ghost use Rattle.unit_c.specs.Stops.{TellsStops, stops_words};
 ghost use Rattle.unit_c.specs.Words.{Wrote, reading_number, reading_words};
 
-use call_stops::{Legs, MOST_LEGS, Stopping};
-use calls::Target;
-use card::{Reading, Writing};
+use call_stops::MOST_LEGS;
 use network::{Junction, Sizes, Time, TimeWord};
 use unit::{Answered, Header, Stopped};
-use unit_answers::{Answer, Change};
+use unit_answers::{Answer, total_word};
+use unit_questions::Prepared;
 
 // ---- headers and answers as C holds them
 
@@ -70,167 +68,120 @@ pub struct UnitStops {
     pub roads: [u32; MOST_LEGS],
 }
 
-// There is a target where `aimed` is not 0.
-fn target_of(aimed: u32, target: u32) -> Target
-    ensures { result ≡ target_of aimed target }
-{
-    if aimed == 0 {
-        Target::Absent
-    } else {
-        Target::At(Junction(target))
-    }
-}
+// The header that C's words stand for: there is a target where `aimed` is not 0.
+impl From<UnitHeader> for Header {
+    ghost from_gives = { λ h k. k ≡ header_of h };
 
-// The header that C's words stand for.
-fn header_of(h: UnitHeader) -> Header
-    ensures { result ≡ header_of h }
-{
-    let target = target_of(h.aimed, h.target);
-    Header {
-        sizes: Sizes {
-            n: h.n,
-            m: h.m,
-            pairs: h.pairs,
-            card: h.card,
-        },
-        target: target,
+    fn from(h: UnitHeader) -> Self {
+        Header {
+            sizes: Sizes {
+                n: h.n,
+                m: h.m,
+                pairs: h.pairs,
+                card: h.card,
+            },
+            target: if h.aimed == 0 {
+                None
+            } else {
+                Some(Junction(h.target))
+            },
+        }
     }
 }
 
 // The words of a header.
-fn words_of(h: Header) -> UnitHeader
-    ensures { result ≡ header_words h }
-{
-    let s = h.sizes;
-    let target = h.target;
-    match target {
-        Target::Absent => UnitHeader {
+impl From<Header> for UnitHeader {
+    ghost from_gives = { λ h w. w ≡ header_words h };
+
+    fn from(h: Header) -> Self {
+        let s = h.sizes;
+        let (aimed, target) = match h.target {
+            None => (0, 0),
+            Some(z) => (1, z.0),
+        };
+        UnitHeader {
             n: s.n,
             m: s.m,
             pairs: s.pairs,
             card: s.card,
-            aimed: 0,
-            target: 0,
-        },
-        Target::At(z) => UnitHeader {
-            n: s.n,
-            m: s.m,
-            pairs: s.pairs,
-            card: s.card,
-            aimed: 1,
-            target: z.0,
-        },
-    }
-}
-
-// The words of an answer that is no preview's.
-fn plain(
-    header: UnitHeader,
-    question: u32,
-    place: u32,
-    total: TimeWord,
-    count: u32,
-    roads: u32,
-) -> UnitAnswer
-    ensures { result ≡ plain_words header question place total count roads }
-{
-    UnitAnswer {
-        header: header,
-        question: question,
-        place: place,
-        compared: 0,
-        total: total,
-        count: count,
-        roads: roads,
-        then: 0,
-        change: 0,
-    }
-}
-
-// The words of a preview's answer.
-fn compared(
-    header: UnitHeader,
-    present: TimeWord,
-    new: TimeWord,
-    flag: u32,
-    change: i64,
-) -> UnitAnswer
-    ensures { result ≡ preview_words header present new flag change }
-{
-    UnitAnswer {
-        header: header,
-        question: 0,
-        place: 0,
-        compared: flag,
-        total: present,
-        count: 0,
-        roads: 0,
-        then: new,
-        change: change,
-    }
-}
-
-// The words of a preview's totals and their change.
-fn previewed(header: UnitHeader, present: TimeWord, new: TimeWord, change: Change) -> UnitAnswer
-    ensures { result ≡ compared_to header present new change }
-{
-    match change {
-        Change::By(d) => compared(header, present, new, 1, d),
-        Change::Absent => compared(header, present, new, 0, 0),
+            aimed,
+            target,
+        }
     }
 }
 
 // The words of what is handed back.
-fn answer_of(r: Answered) -> UnitAnswer
-    ensures { result ≡ answer_words r }
-{
-    let h = r.header;
-    let header = words_of(h);
-    let answer = r.answer;
-    match answer {
-        Answer::Refused(q) => plain(header, q.question, q.place, 0, q.count, 0),
-        Answer::Accepted => plain(header, 0, 0, 0, 0, 0),
-        Answer::Estimated(t) => plain(header, 0, 0, t.0, 0, 0),
-        Answer::Gone(t, c, k) => plain(header, 0, 0, t, c, k),
-        Answer::Previewed(a, b, c) => previewed(header, a.word(), b.word(), c),
-    }
-}
+impl From<Answered> for UnitAnswer {
+    ghost from_gives = { λ r w. w ≡ answer_words r };
 
-// The words of a list of stops.
-fn stops_of(
-    header: UnitHeader,
-    question: u32,
-    leg: u32,
-    legs: u32,
-    whole: TimeWord,
-    rows: Legs,
-) -> UnitStops
-    ensures { result ≡ stops_to header question leg legs whole rows }
-{
-    let totals = rows.totals;
-    let roads = rows.roads;
-    UnitStops {
-        header: header,
-        question: question,
-        leg: leg,
-        legs: legs,
-        whole: whole,
-        totals: totals,
-        roads: roads,
+    fn from(r: Answered) -> Self {
+        let none = UnitAnswer {
+            header: UnitHeader::from(r.header),
+            question: 0,
+            place: 0,
+            compared: 0,
+            total: 0,
+            count: 0,
+            roads: 0,
+            then: 0,
+            change: 0,
+        };
+        match r.answer {
+            Err(q) => UnitAnswer {
+                question: q.question(),
+                place: q.place(),
+                count: q.count(),
+                ..none
+            },
+            Ok(Answer::Accepted) => none,
+            Ok(Answer::Estimated(t)) => UnitAnswer { total: t.0, ..none },
+            Ok(Answer::Gone(total, count, roads)) => UnitAnswer {
+                total,
+                count,
+                roads,
+                ..none
+            },
+            Ok(Answer::Previewed(present, new, change)) => UnitAnswer {
+                compared: change.is_some() as u32,
+                total: total_word(present),
+                then: total_word(new),
+                change: change.unwrap_or(0),
+                ..none
+            },
+        }
     }
 }
 
 // The words of what a list of stops hands back.
-fn stopped_of(r: Stopped) -> UnitStops
-    ensures { result ≡ stops_words r }
-{
-    let h = r.header;
-    let header = words_of(h);
-    let answer = r.answer;
-    let rows = r.legs;
-    match answer {
-        Stopping::Refused(q) => stops_of(header, q.question, q.place, 0, 0, rows),
-        Stopping::Stopped(k, whole) => stops_of(header, 0, 0, k, whole, rows),
+impl From<Stopped> for UnitStops {
+    ghost from_gives = { λ r w. w ≡ stops_words r };
+
+    fn from(r: Stopped) -> Self {
+        let header = UnitHeader::from(r.header);
+        match r.answer {
+            Err(refusal) => UnitStops {
+                header,
+                question: refusal.question(),
+                leg: refusal.place(),
+                legs: 0,
+                whole: 0,
+                totals: [0; MOST_LEGS],
+                roads: [0; MOST_LEGS],
+            },
+            Ok(j) => {
+                let totals = j.legs.totals;
+                let roads = j.legs.roads;
+                UnitStops {
+                    header,
+                    question: 0,
+                    leg: 0,
+                    legs: j.number,
+                    whole: j.whole,
+                    totals,
+                    roads,
+                }
+            }
+        }
     }
 }
 
@@ -243,15 +194,15 @@ pub extern "C" fn card_read(card: &[u8], first: &mut u32, second: &mut u32) -> u
     ensures second_after { first.new ∷ second.new ∷ [] ≡ reading_words (read_card card.now) }
 {
     match card::read(card) {
-        Reading::Read(n, m) => {
+        Ok((n, m)) => {
             *first = n;
             *second = m;
             0
         }
-        Reading::Unreadable(q) => {
-            *first = q.place;
+        Err(q) => {
+            *first = q.place();
             *second = 0;
-            q.question
+            q.question()
         }
     }
 }
@@ -263,13 +214,13 @@ pub extern "C" fn card_write(roads: &[u32], order: &[u32], area: &mut [u8], plac
         area.old area.new result place.new }
 {
     match card::write(roads, order, area) {
-        Writing::Accepted => {
+        Ok(()) => {
             *place = 0;
             0
         }
-        Writing::Refused(q) => {
-            *place = q.place;
-            q.question
+        Err(q) => {
+            *place = q.place();
+            q.question()
         }
     }
 }
@@ -293,7 +244,7 @@ pub extern "C" fn unit_prepare(
     ensures { Tells (λ x. Prepares card.now (areas_lent ranks pairs times live down estimates elapsed leaving groups)
         (answered_in x)) result }
 {
-    answer_of(unit_switch_on::prepare(
+    UnitAnswer::from(unit_switch_on::prepare(
         card, ranks, pairs, times, live, down, estimates, elapsed, leaving, groups,
     ))
 }
@@ -318,21 +269,16 @@ pub extern "C" fn unit_set(
     ensures { Tells (MeetsAlone card.now (header_of header)
         (areas ranks pairs times (mut live) down estimates elapsed leaving groups) (Set road time)) result }
 {
-    let h = header_of(header);
-    answer_of(h.set(
+    let h = Header::from(header);
+    let p = Prepared {
         card,
         ranks,
         pairs,
         times,
-        live,
-        down,
-        estimates,
-        elapsed,
         leaving,
         groups,
-        road,
-        Time::of_word(time),
-    ))
+    };
+    UnitAnswer::from(h.set(p, live, down, estimates, elapsed, road, Time(time)))
 }
 
 // Aims at a junction.
@@ -354,20 +300,16 @@ pub extern "C" fn unit_aim(
     ensures { Tells (MeetsAlone card.now (header_of header)
         (areas ranks pairs times live (mut down) (mut estimates) elapsed leaving groups) (Aim junction)) result }
 {
-    let h = header_of(header);
-    answer_of(h.aim(
+    let h = Header::from(header);
+    let p = Prepared {
         card,
         ranks,
         pairs,
         times,
-        live,
-        down,
-        estimates,
-        elapsed,
         leaving,
         groups,
-        Junction(junction),
-    ))
+    };
+    UnitAnswer::from(h.aim(p, live, down, estimates, elapsed, Junction(junction)))
 }
 
 // The estimate of a junction.
@@ -389,20 +331,16 @@ pub extern "C" fn unit_estimate(
     ensures { Tells (MeetsAlone card.now (header_of header)
         (areas ranks pairs times live down (mut estimates) elapsed leaving groups) (Estimate junction)) result }
 {
-    let h = header_of(header);
-    answer_of(h.estimate(
+    let h = Header::from(header);
+    let p = Prepared {
         card,
         ranks,
         pairs,
         times,
-        live,
-        down,
-        estimates,
-        elapsed,
         leaving,
         groups,
-        Junction(junction),
-    ))
+    };
+    UnitAnswer::from(h.estimate(p, live, down, estimates, elapsed, Junction(junction)))
 }
 
 // The way of a class from a start to the target.
@@ -427,18 +365,21 @@ pub extern "C" fn unit_go(
     ensures { Tells (Meets card.now (header_of header) (areas ranks pairs times live down (mut estimates) (mut elapsed) leaving groups)
         (lent (mut route) (mut log)) (Go class start)) result }
 {
-    let h = header_of(header);
-    answer_of(h.go(
+    let h = Header::from(header);
+    let p = Prepared {
         card,
         ranks,
         pairs,
         times,
+        leaving,
+        groups,
+    };
+    UnitAnswer::from(h.go(
+        p,
         live,
         down,
         estimates,
         elapsed,
-        leaving,
-        groups,
         route,
         log,
         class,
@@ -470,22 +411,25 @@ pub extern "C" fn unit_preview(
         (areas ranks pairs times live down (mut estimates) elapsed leaving groups) work.old work.new
         class road time start) result }
 {
-    let h = header_of(header);
-    answer_of(h.preview(
+    let h = Header::from(header);
+    let p = Prepared {
         card,
         ranks,
         pairs,
         times,
+        leaving,
+        groups,
+    };
+    UnitAnswer::from(h.preview(
+        p,
         live,
         down,
         estimates,
         elapsed,
-        leaving,
-        groups,
         work,
         class,
         road,
-        Time::of_word(time),
+        Time(time),
         Junction(start),
     ))
 }
@@ -513,11 +457,16 @@ pub extern "C" fn unit_stops(
         (areas ranks pairs times live (mut down) (mut estimates) (mut elapsed) leaving groups)
         (lent (mut route) (mut log)) class stops.now) result }
 {
-    let h = header_of(header);
-    stopped_of(h.stops(
-        card, ranks, pairs, times, live, down, estimates, elapsed, leaving, groups, route, log,
-        class, stops,
-    ))
+    let h = Header::from(header);
+    let p = Prepared {
+        card,
+        ranks,
+        pairs,
+        times,
+        leaving,
+        groups,
+    };
+    UnitStops::from(h.stops(p, live, down, estimates, elapsed, route, log, class, stops))
 }
 
 // ---- a script
@@ -553,9 +502,16 @@ pub extern "C" fn unit_replay(
         (lent (mut route) (mut log)) (length work.old)
         script.now out.old out.new (header_in k)) result }
 {
-    let h = header_of(header);
-    words_of(unit_script::replay(
-        h, card, ranks, pairs, times, live, down, estimates, elapsed, leaving, groups, route, log,
-        work, script, out,
+    let h = Header::from(header);
+    let p = Prepared {
+        card,
+        ranks,
+        pairs,
+        times,
+        leaving,
+        groups,
+    };
+    UnitHeader::from(unit_script::replay(
+        h, p, live, down, estimates, elapsed, route, log, work, script, out,
     ))
 }

@@ -1,2 +1,2 @@
-pub mod Areas
+pub mod Filling
 pub mod Prepares

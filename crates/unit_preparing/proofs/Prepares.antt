@@ -25,11 +25,11 @@ use Rattle.network.specs.declared.Sizes.{Sizes}
 use Rattle.road_groups.specs.Lending.{GroupsAsked, GroupsMade, TailsIn}
 use Rattle.road_groups.specs.OnMap.{made_on_map, tails_on_map}
 use Rattle.pairs_contraction.specs.Contraction.{Contraction, contraction_overflow}
-use Rattle.pairs_contraction.specs.declared.Contracted.{Contracted}
-use Rattle.pairs_contraction.specs.declared.Contracted.TheVariants.{Kept, Overflow}
+use Rattle.std.specs.Prelude as code
+use Rattle.network.specs.declared.Refusal.TheVariants as by
 use Rattle.card_layout.specs.Parts.{card-sound}
-use Rattle.unit_preparing.specs.Preparing.{Accepts, base_in, handed_back}
-use Rattle.unit_preparing.proofs.Areas.{alike_same, zeros_of}
+use Rattle.unit_preparing.specs.Preparing.{Accepts, base_in, handed_in}
+use Rattle.unit_preparing.proofs.Filling.{alike_same, zeros_of}
 
 -- ---- what questions 1 to 7 say
 
@@ -67,9 +67,9 @@ module _ {card : List ℕ} {s : Sizes} {a : Areas} {roads order : List ℕ} (b :
 
   -- ---- the pairs do not fit: what is left has the lengths of what was lent, and becomes zeros
 
-  pub no_room : {pairs times : List ℕ} {z : Contracted} → Contraction (map_in roads order) (length a.built.pairs) pairs times z
-      → z ≡ Overflow → {left : Each ℕ} → left ≡ lengths a → {y : Areas} → y ≡ zeros_of left
-      → PrepareContract card a y (handed_back s Overflow)
+  pub no_room : {pairs times : List ℕ} {z : code.Option ℕ} → Contraction (map_in roads order) (length a.built.pairs) pairs times z
+      → z ≡ code.None → {left : Each ℕ} → left ≡ lengths a → {y : Areas} → y ≡ zeros_of left
+      → PrepareContract card a y (handed_in (code.Err by.Room))
   unfolding prepare room_refusal
   no_room c overflows kept zeroed-are =
       let h = contraction_overflow c overflows in
@@ -121,7 +121,8 @@ module _ {card : List ℕ} {s : Sizes} {a : Areas} {roads order : List ℕ} (b :
       → live ≡ listed (length a.live) (base_in roads)
       → down ≡ replicate (length a.aimed.down) none_word → estimates ≡ replicate (length a.aimed.estimates) unasked
       → elapsed ≡ replicate (length a.trip.elapsed) none_word → GroupsMade roads s.n s.m leaving groups
-      → PrepareContract card a (areas_of ranks pairs times live down estimates elapsed leaving groups) (handed_back s (Kept count))
+      → PrepareContract card a (areas_of ranks pairs times live down estimates elapsed leaving groups)
+      (handed_in (code.Ok (record { n = s.n; m = s.m; pairs = count; card = s.card })))
   unfolding prepare room_refusal
   with_room p k live-is down_is estimates_are elapsed-is groups-made =
       let z = sized b.accepts in

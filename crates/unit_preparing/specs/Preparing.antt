@@ -1,9 +1,9 @@
 -- Preparing once questions 1 to 7 have passed. Definitions only.
-use Rattle.std.specs.Prelude.{◌≡◌, List, ℕ, length}
+use Rattle.std.specs.Prelude.{◌≡◌, Err, List, Ok, Result, ℕ, length}
 use Rattle.std.proofs.Math.Option.{none}
 use Rattle.std.specs.Borrow.{MutBor}
 use denote.Triple.Both.{Both}
-use Rattle.model.specs.Types.{Absent, Accepted, Answered, Refusal, Refused, Room}
+use Rattle.model.specs.Types.{Absent, Accepted, Answered, Refusal, Refused}
 use Rattle.model.specs.Bytes.{word_at}
 use Rattle.model.specs.Layout.{base_at}
 use Rattle.model.specs.Card.{map_on}
@@ -11,14 +11,31 @@ use Rattle.model.specs.Areas.{Areas, areas_of}
 use Rattle.model.specs.State.{areas_refusal, zero_header}
 use Rattle.model.specs.Promises.{PrepareContract}
 use Rattle.network.specs.declared.Sizes.{Sizes}
-use Rattle.pairs_contraction.specs.declared.Contracted.{Contracted}
-use Rattle.pairs_contraction.specs.declared.Contracted.TheVariants.{Kept, Overflow}
+use Rattle.network.specs.declared.Refusal as by
+use Rattle.network.specs.Refusals.{refusal_in}
+use Rattle.unit_preparing.specs.declared.Areas as code
 
--- the areas that a function is lent, as its `requires` names them
+-- the areas that a struct of lent slices holds
+abbrev pub areas_in : code.Areas → Areas
+areas_in a =
+    areas_of a.ranks.now a.pairs.now a.times.now a.live.now a.down.now a.estimates.now a.elapsed.now a.leaving.now
+    a.groups.now
+
+-- and as a function that takes the struct leaves them: what stands behind its fields, in their order
+abbrev pub Left : Type 0
+Left =
+    MutBor (List ℕ) × (MutBor (List ℕ) × (MutBor (List ℕ) × (MutBor (List ℕ) × (MutBor (List ℕ)
+    × (MutBor (List ℕ) × (MutBor (List ℕ) × (MutBor (List ℕ) × (MutBor (List ℕ) × Unit {0}))))))))
+
+abbrev pub areas_left : Left → Areas
+areas_left (r, (p, (q, (l, (d, (e, (t, (g, (h, u))))))))) =
+    areas_of r.now p.now q.now l.now d.now e.now t.now g.now h.now
+
+-- the same of nine slices: when the function is called
 abbrev pub held : (ranks pairs times live down estimates elapsed leaving groups : MutBor (List ℕ)) → Areas
 held r p q l d e t g h = areas_of r.now p.now q.now l.now d.now e.now t.now g.now h.now
 
--- and its `ensures`
+-- and also when it returns
 abbrev pub areas_lent : (ranks pairs times live down estimates elapsed leaving groups : Both (MutBor (List ℕ)) (MutBor (List ℕ)))
     → Both Areas Areas
 areas_lent r p q l d e t g h = record {
@@ -41,11 +58,10 @@ base_in roads i = word_at roads (base_at i)
 abbrev pub refused_by : Refusal → Answered
 refused_by q = record { header = zero_header; answer = Refused q }
 
--- a contraction's answer as preparing's: refused by 8, or accepted with the number of kept pairs
-abbrev pub handed_back : Sizes → Contracted → Answered
-handed_back s Overflow = refused_by Room
-handed_back s (Kept count) =
-    record { header = record { n = s.n; m = s.m; pairs = count; card = s.card; target = Absent }; answer = Accepted }
+-- what is handed back: the four numbers and no target, or a refusal
+abbrev pub handed_in : Result Sizes by.Refusal → Answered
+handed_in (Ok s) = record { header = record { n = s.n; m = s.m; pairs = s.pairs; card = s.card; target = Absent }; answer = Accepted }
+handed_in (Err q) = refused_by (refusal_in q)
 
 -- what is handed back, and what is left in the areas, is document 01's
 abbrev pub Prepares : (card : List ℕ) → Both Areas Areas → Answered → Type 0

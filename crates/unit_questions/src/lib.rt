@@ -11,12 +11,12 @@ ghost use Rattle.model.specs.State.{question9};
 ghost use Rattle.model.specs.Set.{settable};
 ghost use Rattle.model.specs.Preview.{work_size};
 ghost use Rattle.network.specs.Lending.{areas};
-ghost use Rattle.unit_questions.specs.Lending.{lengths_in};
+ghost use Rattle.unit_questions.specs.Lending.{areas_with, lengths_in};
 
 use network::{Sizes, Time, TimeWord};
 
 // The lengths of the unit's areas.
-#[derive(Clone, Copy)]
+#[derive(Clone, Copy, Debug, PartialEq, Eq)]
 pub struct Lengths {
     pub ranks: usize,
     pub pairs: usize,
@@ -27,6 +27,42 @@ pub struct Lengths {
     pub elapsed: usize,
     pub leaving: usize,
     pub groups: usize,
+}
+
+// The card, and the areas that preparing makes and no call alters.
+#[derive(Clone, Copy)]
+pub struct Prepared<'a> {
+    pub card: &'a [u8],
+    pub ranks: &'a [u32],
+    pub pairs: &'a [u32],
+    pub times: &'a [TimeWord],
+    pub leaving: &'a [u32],
+    pub groups: &'a [u32],
+}
+
+impl<'a> Prepared<'a> {
+    // The lengths of the areas that are lent: of these, and of the four beside them.
+    pub fn lengths(
+        self,
+        live: &[TimeWord],
+        down: &[TimeWord],
+        estimates: &[TimeWord],
+        elapsed: &[TimeWord],
+    ) -> Lengths
+        ensures { lengths_in result ≡ lengths (areas_with self live down estimates elapsed).entry }
+    {
+        Lengths {
+            ranks: self.ranks.len(),
+            pairs: self.pairs.len(),
+            times: self.times.len(),
+            live: live.len(),
+            down: down.len(),
+            estimates: estimates.len(),
+            elapsed: elapsed.len(),
+            leaving: self.leaving.len(),
+            groups: self.groups.len(),
+        }
+    }
 }
 
 // The lengths of the areas that are lent.

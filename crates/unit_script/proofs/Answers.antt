@@ -1,26 +1,23 @@
 -- The words of an answer, and where they are put. Assumes nothing.
-use mathlib.Core.Path.{◌∙◌, ◌≡◌, ap, ap₂, refl, sym}
-use mathlib.Core.Option.{Option}
+use mathlib.Core.Path.{◌∙◌, ◌≡◌, ap, ap₂, refl, subst, sym}
 use mathlib.Core.List.{List, [], ◌++◌, ◌∷◌, append_assoc, append-nil}
 use Prim.Native.Nat.{◌*◌, ◌+◌, ◌-◌, ◌<◌, ◌≤◌, suc, zero, ℕ}
-use lib.IntN.{ℤ}
 use lib.ListN.{get_or-eq_default, drop, get_or, get_or-replicate, length, length-append, length-replicate, replicate, set, take}
-use lib.ListN.{take-append-drop}
+use lib.ListN.{length-drop, take-append-drop}
 use lib.Seq.{drop-append-add, drop-drop, length-take-le, sets-eq, take_at}
 use native.Mathlib.Decide.{dec_lt}
 use native.Mathlib.Numerals.{add-one}
 use native.Mathlib.Omega.{arith}
-use Rattle.graph.specs.Total.{Total}
-use Rattle.model.specs.Types.{Answer, Leg, Previewed}
-use Rattle.model.specs.Word.{word}
+use Rattle.std.proofs.lemmas.Slice.{drop-put_mid, take-put_mid}
+use borrow.Rule.Slice.PartMut.{put_mid}
 use Rattle.model.specs.Limits.{most_legs}
-use Rattle.call_stops.specs.Shape.{leg_count, legs_from, stopping_in}
-use Rattle.unit.specs.Stops.{Rest}
-use Rattle.unit.specs.declared.Stopped as stops
-use Rattle.call_stops.specs.declared.Stopping.{Stopping}
-use Rattle.call_stops.specs.declared.Stopping.TheVariants as stopping
+use Rattle.std.specs.Prelude.{Ok, Result}
+use Rattle.network.specs.declared.Refusal.{Refusal}
+use Rattle.call_stops.specs.Legs.{Rest}
+use Rattle.call_stops.specs.Shape.{legs_from, stopping_in}
+use Rattle.call_stops.specs.declared.Journey.{Journey}
 use Rattle.unit_script.specs.declared.Made.{Made}
-use Rattle.unit_script.specs.Words.{answer_size, answer_words, change_word, four_words, leg_words, legs_of, legs_words, made_words}
+use Rattle.unit_script.specs.Words.{answer_size, answer_words, four_of, leg_words, legs_words, made_words}
 use Rattle.unit_script.specs.Words.{put_at}
 
 -- ---- the words of legs
@@ -80,24 +77,18 @@ zeros n j = go (dec_lt j n)
 pub made-length : (m : Made) → length (made_words m) ≡ answer_size
 made-length m = omega (arith, legs_words-length m.legs.totals m.legs.roads 0 most_legs)
 
--- four, and no legs
-pub four-only : (a b c d n k : ℕ)
-    → a ∷ b ∷ c ∷ d ∷ legs_words (replicate n 0) (replicate n 0) 0 k ≡ (a ∷ b ∷ c ∷ d ∷ []) ++ replicate (2 * k) 0
-four-only a b c d n k =
-    ap (λ (w : List ℕ). a ∷ b ∷ c ∷ d ∷ w)
-    (zero-words (replicate n 0) (replicate n 0) 0 k (λ j q. zeros n j) (λ j q. zeros n j))
+-- a row of four is its four words
+pub row-of-four : (w : List ℕ) → length w ≡ 4 → w ≡ four_of w
+row-of-four (a ∷ b ∷ c ∷ d ∷ []) e = refl
+row-of-four [] e = let z : ⊥ = omega (arith, e) in absurd z
+row-of-four (a ∷ []) e = let z : ⊥ = omega (arith, e) in absurd z
+row-of-four (a ∷ b ∷ []) e = let z : ⊥ = omega (arith, e) in absurd z
+row-of-four (a ∷ b ∷ c ∷ []) e = let z : ⊥ = omega (arith, e) in absurd z
+row-of-four (a ∷ b ∷ c ∷ d ∷ x ∷ w) e = let z : ⊥ = omega (arith, e) in absurd z
 
--- those of an answer without legs
-pub answered-words : {w : List ℕ} {a b c d : ℕ} → w ≡ (a ∷ b ∷ c ∷ d ∷ []) ++ replicate (2 * most_legs) 0 → {x y : Answer} → x ≡ y
-    → a ∷ b ∷ c ∷ d ∷ [] ≡ four_words y → legs_of y ≡ [] → w ≡ answer_words x
-answered-words e same f g =
-    e
-    ∙ ap₂ (λ (u : List ℕ) (legs : List Leg). u ++ leg_words legs ++ replicate (2 * most_legs - 2 * length legs) 0) f (sym g)
-    ∙ ap answer_words (sym same)
-
-pub previewed-words : {w : List ℕ} {t u d : ℕ} → w ≡ (0 ∷ t ∷ u ∷ d ∷ []) ++ replicate (2 * most_legs) 0
-    → {x : Answer} {a b : Total} {c : Option ℤ} → x ≡ Previewed a b c → t ≡ word a → u ≡ word b → d ≡ change_word c → w ≡ answer_words x
-previewed-words e same f g h = answered-words e same (rw (f, g, h)) refl
+-- no legs
+pub no-legs : (n k : ℕ) → legs_words (replicate n 0) (replicate n 0) 0 k ≡ replicate (2 * k) 0
+no-legs n k = zero-words (replicate n 0) (replicate n 0) 0 k (λ j q. zeros n j) (λ j q. zeros n j)
 
 -- those of k legs, and of those that there are not
 with_legs : (totals roads : List ℕ) (k whole most : ℕ) → k ≤ most
@@ -115,23 +106,14 @@ with_legs totals roads k whole most few f g =
     ∙ ap (λ (i : ℕ). leg_words (legs_from totals roads 0 k) ++ replicate i 0) left)
 
 -- those of a list of stops
-pub stopped-words : (r : stops.Stopped) {k whole : ℕ} → Rest r → r.answer ≡ stopping.Stopped k whole
-    → 0 ∷ whole ∷ 0 ∷ k ∷ legs_words r.legs.totals r.legs.roads 0 most_legs ≡ answer_words (stopping_in r.answer r.legs)
-stopped-words r {k} {whole} rest e =
-    let n : leg_count r.answer ≡ k = ap leg_count e in
-    with_legs r.legs.totals r.legs.roads k whole most_legs (omega (arith, n, rest.few-legs))
-    (λ j q. rest.totals_end j (omega (arith, n, q))) (λ j q. rest.roads-end j (omega (arith, n, q)))
-    ∙ ap (λ (y : Stopping). answer_words (stopping_in y r.legs)) (sym e)
+pub stopped-words : (x : Result Journey Refusal) {j : Journey} → Rest x → x ≡ Ok j
+    → 0 ∷ j.whole ∷ 0 ∷ j.number ∷ legs_words j.legs.totals j.legs.roads 0 most_legs ≡ answer_words (stopping_in x)
+stopped-words x {j} rest e =
+    let r : Rest (Ok j) = subst Rest e rest in
+    with_legs j.legs.totals j.legs.roads j.number j.whole most_legs r.few-legs r.totals_end r.roads-end
+    ∙ ap (λ (y : Result Journey Refusal). answer_words (stopping_in y)) (sym e)
 
 -- ---- words put into an area
-
-pub four-stored : (s : List ℕ) (i a b c d : ℕ) → i + 4 ≤ length s
-    → set (set (set (set s i a) (i + 1) b) (i + 2) c) (i + 3) d ≡ put_at s i (a ∷ b ∷ c ∷ d ∷ [])
-four-stored s i a b c d h =
-    let e1 : i + 1 ≡ suc i = omega arith in
-    let e2 : i + 2 ≡ suc (suc i) = omega arith in
-    let e3 : i + 3 ≡ suc (suc (suc i)) = omega arith in
-    rw (e1, e2, e3) (sets-eq (a ∷ b ∷ c ∷ d ∷ []) s i h)
 
 put-none : (s : List ℕ) (i : ℕ) → s ≡ put_at s i []
 put-none s i =
@@ -154,16 +136,37 @@ put-behind s w v i h =
     ap₂ (λ (x : List ℕ) (y : List ℕ). x ++ v ++ y) a (d ∙ ap (λ (j : ℕ). drop j s) m)
     ∙ ap (λ (x : List ℕ). x ++ drop (i + length (w ++ v)) s) (append_assoc (take i s) w v)
 
+-- a row of four copied to the four entries from i on
+module _ (out : List ℕ) (i : ℕ) {row words : List ℕ} (long : length row ≡ length (take (i + 4 - i) (drop i out))) (same : row ≡ words)
+    (room : i + 4 ≤ length out) where
+  pub row-length : length words ≡ 4
+  row-length =
+      let four : i + 4 - i ≡ 4 = omega arith in
+      sym (ap length same) ∙ long ∙ ap (λ (n : ℕ). length (take n (drop i out))) four
+      ∙ length-take-le 4 (drop i out) (omega (arith, room, length-drop i out))
+
+  pub row-put : put_mid i (i + 4 - i) out row ≡ put_at out i words
+  row-put =
+      let n : length row ≡ i + 4 - i = omega (arith, same-length, row-length) in
+      let end : i + (i + 4 - i) ≤ i + length row = omega (arith, n) in
+      sym (take-append-drop (i + length row) (put_mid i (i + 4 - i) out row))
+      ∙ ap₂ ◌++◌ (take-put_mid i (i + 4 - i) out row (i + length row) refl (omega (arith, room)))
+      (drop-put_mid i (i + 4 - i) out row (i + length row) end (omega (arith, room)) n)
+      ∙ ap (λ (x : List ℕ). take i out ++ x ++ drop (i + length x) out) same
+    where
+      same-length : length row ≡ length words
+      same-length = ap length same
+
 -- the four words of an answer, and its legs' behind them
-pub made-put : (out : List ℕ) (k : ℕ) (m : Made) {mid after : List ℕ} → answer_size * k + answer_size ≤ length out
-    → mid ≡ put_at out (answer_size * k) (m.one ∷ m.two ∷ m.three ∷ m.four ∷ [])
+pub made-put : (out : List ℕ) (k : ℕ) (m : Made) {mid after : List ℕ} → length m.words ≡ 4 → answer_size * k + answer_size ≤ length out
+    → mid ≡ put_at out (answer_size * k) m.words
     → after ≡ put_at mid (answer_size * k + 4) (legs_words m.legs.totals m.legs.roads 0 most_legs)
     → after ≡ put_at out (answer_size * k) (made_words m)
-made-put out k m room e f =
+made-put out k m four room e f =
     let legs : List ℕ = legs_words m.legs.totals m.legs.roads 0 most_legs in
     f
-    ∙ ap (λ (x : List ℕ). put_at x (answer_size * k + 4) legs) e
-    ∙ put-behind out (m.one ∷ m.two ∷ m.three ∷ m.four ∷ []) legs (answer_size * k) (omega (arith, room))
+    ∙ ap (λ (x : List ℕ). put_at x (answer_size * k + 4) legs) (e ∙ ap (put_at out (answer_size * k)) (row-of-four m.words four))
+    ∙ put-behind out (four_of m.words) legs (answer_size * k) (omega (arith, room))
 
 -- no leg
 pub legs-start : (s totals roads : List ℕ) (start : ℕ) → s ≡ put_at s start (legs_words totals roads 0 0)

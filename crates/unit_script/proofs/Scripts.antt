@@ -1,17 +1,12 @@
 -- A script of calls: the turns of its run, and the machine's answers. Assumes nothing.
 use mathlib.Core.Path.{◌∙◌, ◌≡◌, ap, ap₂, refl, subst, sym}
-use mathlib.Core.Logic.{inl, inr}
 use mathlib.Core.Bool.{false, true}
 use mathlib.Core.List.{List, [], ◌++◌, ◌∷◌, append_assoc, append-nil, map}
 use Prim.Native.Nat.{◌*◌, ◌+◌, ◌-◌, ◌<◌, ◌≤◌, suc, zero, ℕ}
-use borrow.Author.Tests.{ltb-false, ltb-true}
-use lib.Dec.{ltb}
 use lib.ListN.{drop, length, length-append, length-map, take, take-append-drop}
 use lib.Seq.{drop-append-add, drop-drop, length-take-le, take_at}
 use native.Mathlib.Nat.{sub-zero}
 use native.Mathlib.Omega.{arith}
-use Rattle.graph.specs.Total.{Tested}
-use Rattle.graph.proofs.Total.{and_true, decide}
 use Rattle.model.specs.Types.{Accepted, Answer, Answered, Header}
 use Rattle.model.specs.Card.{CardMap, card_map, map_on}
 use Rattle.model.specs.Areas.{Areas}
@@ -29,7 +24,7 @@ use Rattle.unit_script.specs.declared.Asked.TheVariants as scripts
 use Rattle.unit_script.specs.declared.Scripted.{Scripted}
 use Rattle.unit_script.specs.Words.{Lending, answer_size, answer_words, asked_in, call_at, end_at, is_call, put_at, room_in, scripted_in}
 use Rattle.unit_script.specs.Script.{Held, Made, OneContract, PreparedOn, PreparedReplay, ReplayContract, answers_of, begun, calls_in}
-use Rattle.unit_script.specs.Script.{calls_of, held, holding, is_next, lend, lending, machine_answers, onward, scripted, told}
+use Rattle.unit_script.specs.Script.{calls_of, held, holding, lend, lending, machine_answers, onward, scripted, told}
 use Rattle.unit_script.proofs.Words.{call_fits, ends-within}
 
 -- ---- the words of an answer
@@ -190,30 +185,18 @@ module _ {card : List ℕ} {h : Header} {a b : Areas} {l : Lent} (x : Answered) 
 fed-back : (l : Lent) (p : Plain) → p.route ≤ length l.route → p.log ≤ length l.log → plain (lend l p) ≡ p
 fed-back l p a b = rw (length-take-le p.route l.route a, length-take-le p.log l.log b)
 
--- a script from a place on, where a call is next, and where none is
+-- a script from a place on, with room for the answer of call k, where a call stands whole, and where none does
 module _ (script : List ℕ) (l : Lending) (at k room : ℕ) where
-  scripted-next : is_next script at k room ≡ true
+  scripted-next : k < room → is_call script at ≡ true
       → scripted script l at (room - k)
       ≡ call_at script at l ∷ scripted script l (end_at script at) (room - (k + 1))
-  scripted-next h =
-      let p = and_true (ltb k room) (is_call script at) h in
-      let lt : k < room = ltb-true k room p.0 in
+  scripted-next lt whole =
       let e : room - k ≡ suc (room - (k + 1)) = omega arith in
-      ap (scripted script l at) e ∙ rw p.1
+      ap (scripted script l at) e ∙ rw whole
 
-  scripted-end : is_next script at k room ≡ false → scripted script l at (room - k) ≡ []
-  scripted-end h = go (decide (ltb k room)) (room - k) refl
-    where
-      ends : (n : ℕ) → is_call script at ≡ false → scripted script l at n ≡ []
-      ends zero e = refl
-      ends (suc n) e = rw e
-
-      go : Tested (ltb k room) → (n : ℕ) → n ≡ room - k → scripted script l at n ≡ []
-      go (inl q) n e = ends n (rw q at h)
-      go (inr q) n e =
-          let le : room ≤ k = ltb-false k room q in
-          let z : n ≡ 0 = omega arith in
-          ap (scripted script l at) z
+  scripted-end : is_call script at ≡ false → (n : ℕ) → scripted script l at n ≡ []
+  scripted-end none zero = refl
+  scripted-end none (suc n) = rw none
 
 -- with room for so many answers the calls before call k, which stands at a place of the script, are made, and those from there on are left
 pub record Run (card script : List ℕ) (work room at k : ℕ) (out₀ out : List ℕ) (h₀ h : Held) : Type 0 where
@@ -236,20 +219,20 @@ run-start {card} {script} {out₀} {work} room {h₀} = record {
 module _ {card script : List ℕ} {work room at k : ℕ} {out₀ out : List ℕ} {h₀ h : Held}
     (w : Run card script work room at k out₀ out h₀ h) where
   -- the next call p of the script, which ends at a place, handed back the header u, and has its answer's words written
-  pub run-turn : is_next script at k room ≡ true → {v : ℕ} {p : Plain} {u : Header} {words : List ℕ} {end : ℕ} {b : Areas} {m : Lent}
+  pub run-turn : k < room → is_call script at ≡ true → {v : ℕ} {p : Plain} {u : Header} {words : List ℕ} {end : ℕ} {b : Areas} {m : Lent}
       {out' : List ℕ} → length h.lent.route ≡ length h₀.lent.route → length h.lent.log ≡ length h₀.lent.log → v ≡ work
       → p ≡ call_at script at (lending h.lent v) → end ≡ end_at script at
       → OneContract card h.state.header (record { entry = h.state.areas; exit = b }) (record { entry = h.lent; exit = m }) p u words
       → length words ≡ answer_size → out' ≡ put_at out (answer_size * k) words
       → Run card script work room end (k + 1) out₀ out' h₀ (holding u b m)
   unfolding made_more
-  run-turn next {v} {p} {u} {words} {end} {b} {m} {out'} er el ew e n c size f =
+  run-turn lt whole {v} {p} {u} {words} {end} {b} {m} {out'} er el ew e n c size f =
       let left : List Plain = scripted script (lending h₀.lent work) end (room - (k + 1)) in
       let same : lending h.lent v ≡ lending h₀.lent work = rw (er, el, ew) in
       let is : call_at script at (lending h₀.lent work) ≡ p = sym (e ∙ ap (call_at script at) same) in
       let (route-fits, log-fits) = call_fits script at (lending h.lent v) e in
       let next-is : scripted script (lending h₀.lent work) at (room - k) ≡ p ∷ left =
-      scripted-next script (lending h₀.lent work) at k room next
+      scripted-next script (lending h₀.lent work) at k room lt whole
       ∙ ap₂ (λ (y : Plain) (i : ℕ). y ∷ scripted script (lending h₀.lent work) i (room - (k + 1))) is (sym n) in
       record {
         done = w.done ++ (p ∷ []);
@@ -261,12 +244,20 @@ module _ {card script : List ℕ} {work room at k : ℕ} {out₀ out : List ℕ}
         rest = w.rest ∙ ap (◌++◌ w.done) next-is ∙ sym (append_assoc w.done (p ∷ []) left);
       }
 
-  pub run_end : room ≡ room_in (length out₀) → is_next script at k room ≡ false
+  -- no call is left: none stands whole there, or there is no room for its answer
+  pub run_end : room ≡ room_in (length out₀) → scripted script (lending h₀.lent work) at (room - k) ≡ []
       → Made card (calls_in script (lending h₀.lent work) out₀) out₀ out h₀ h
-  run_end r stop =
-      let e : scripted script (lending h₀.lent work) 0 room ≡ w.done =
-      w.rest ∙ ap (◌++◌ w.done) (scripted-end script (lending h₀.lent work) at k room stop) ∙ append-nil w.done in
+  run_end r none =
+      let e : scripted script (lending h₀.lent work) 0 room ≡ w.done = w.rest ∙ ap (◌++◌ w.done) none ∙ append-nil w.done in
       subst (λ (y : List Plain). Made card y out₀ out h₀ h) (sym (ap (scripted script (lending h₀.lent work) 0) (sym r) ∙ e)) w.made
+
+  pub run-cut : room ≡ room_in (length out₀) → is_call script at ≡ false
+      → Made card (calls_in script (lending h₀.lent work) out₀) out₀ out h₀ h
+  run-cut r none = run_end r (scripted-end script (lending h₀.lent work) at k room none (room - k))
+
+  pub run-full : room ≡ room_in (length out₀) → room ≤ k → Made card (calls_in script (lending h₀.lent work) out₀) out₀ out h₀ h
+  run-full r full =
+      let z : room - k ≡ 0 = omega (arith, full) in run_end r (ap (scripted script (lending h₀.lent work) at) z)
 
 -- what holds before call k: the place is within the script, and the areas have the lengths that they had
 pub record AtTurn (card script work₀ work : List ℕ) (room at k : ℕ) (out₀ out : List ℕ) (h₀ h : Held) : Type 0 where
@@ -297,11 +288,7 @@ turn-start {room = room} = record {
 
 module _ {card script work₀ work : List ℕ} {room at k : ℕ} {out₀ out : List ℕ} {h₀ h : Held}
     (t : AtTurn card script work₀ work room at k out₀ out h₀ h) where
-  -- where a call is next there is room for its answer
-  pub turn-room : is_next script at k room ≡ true → k < room
-  turn-room e = ltb-true k room (and_true (ltb k room) (is_call script at) e).0
-
-  -- that call is lent no more entries than there are
+  -- a call there is lent no more entries than there are
   pub turn-fits : (v : ℕ) {p : Plain} → p ≡ call_at script at (lending h.lent v)
       → (p.route ≤ length h.lent.route) × (p.log ≤ length h.lent.log)
   turn-fits v e = call_fits script at (lending h.lent v) e

@@ -1,5 +1,5 @@
 -- What a program that makes the calls of a script leaves. Definitions only.
-use Rattle.std.specs.Prelude.{◌≡◌, ◌&&◌, Bool, cond, List, [], ◌++◌, ◌∷◌, map, suc, zero, ℕ, ltb, length, take}
+use Rattle.std.specs.Prelude.{◌≡◌, cond, List, [], ◌++◌, ◌∷◌, map, suc, zero, ℕ, length, take}
 use denote.Triple.Both.{Both}
 use Rattle.model.specs.Types.{Accepted, Answer, Answered, Header}
 use Rattle.model.specs.Card.{CardMap, card_map, map_on}
@@ -27,10 +27,6 @@ scripted script l at (suc k) = cond (is_call script at) (call_at script at l ∷
 -- the calls that are made of a script: those that it has, as far as their answers have room in out
 abbrev pub calls_in : (script : List ℕ) → Lending → (out : List ℕ) → List Plain
 calls_in script l out = scripted script l 0 (room_in (length out))
-
--- a call is made next, after k others and with room for so many answers: its answer has room, and it stands whole at its place
-abbrev pub is_next : (script : List ℕ) → (at k room : ℕ) → Bool
-is_next script at k room = ltb k room && is_call script at
 
 -- the words of a list of answers
 abbrev pub told : List Answer → List ℕ

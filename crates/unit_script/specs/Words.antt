@@ -1,6 +1,7 @@
 -- A script of calls as words, and the answers' words. Definitions only.
 use Rattle.std.specs.Prelude.{Bool, cond, List, [], ◌++◌, ◌∷◌, ◌*◌, ◌+◌, ◌-◌, ◌/◌, min, suc, zero, ℕ, leb, ltb}
-use Rattle.std.specs.Prelude.{negsuc, pos, ℤ, drop, get_or, length, replicate, take}
+use Rattle.std.specs.Prelude.{◌≡◌, false, true, negsuc, pos, ℤ, drop, get_or, length, replicate, take}
+use Rattle.std.specs.Prelude as code-option
 use Rattle.std.proofs.Math.Option.{Option, none, some}
 use Rattle.model.specs.Types.{Accepted, Answer, Estimated, Gone, Leg, Previewed, Refused, Stopped}
 use Rattle.model.specs.Word.{word}
@@ -9,6 +10,9 @@ use Rattle.model.specs.Calls.{Aim, Asked, Estimate, Go, Plain, Preview, Set, Sto
 use Rattle.unit_answers.specs.Shape.{call_in}
 use Rattle.unit_script.specs.declared.Asked as code
 use Rattle.unit_script.specs.declared.Asked.TheVariants as scripts
+use Rattle.unit_script.specs.declared.Kind.{Kind}
+use Rattle.unit_script.specs.declared.Kind.TheVariants as kind
+use Rattle.unit_script.specs.declared.Whole.{Whole}
 use Rattle.unit_script.specs.declared.Scripted.{Scripted}
 use Rattle.unit_script.specs.declared.Made.{Made}
 
@@ -30,6 +34,16 @@ words_of (suc (suc (suc zero))) stops = 5
 words_of (suc (suc (suc (suc zero)))) stops = 6
 words_of (suc (suc (suc (suc (suc zero))))) stops = 5 + stops
 words_of (suc (suc (suc (suc (suc (suc k)))))) stops = 0
+
+-- the code's form of a kind, if the number is one
+abbrev pub kind_of : (number : ℕ) → code-option.Option Kind
+kind_of zero = code-option.Some kind.Set
+kind_of (suc zero) = code-option.Some kind.Aim
+kind_of (suc (suc zero)) = code-option.Some kind.Estimate
+kind_of (suc (suc (suc zero))) = code-option.Some kind.Go
+kind_of (suc (suc (suc (suc zero)))) = code-option.Some kind.Preview
+kind_of (suc (suc (suc (suc (suc zero))))) = code-option.Some kind.Stops
+kind_of (suc (suc (suc (suc (suc (suc k)))))) = code-option.None
 
 -- the time of two words
 abbrev pub time_of : (lower upper : ℕ) → ℕ
@@ -79,6 +93,12 @@ end_at script at =
 -- a call stands whole there: a kind that is one, and all its words
 abbrev pub is_call : (script : List ℕ) → (at : ℕ) → Bool
 is_call script at = ltb at (end_at script at)
+
+-- what stands whole there, if a call does, in the code's form
+abbrev pub StandsWhole : (script : List ℕ) (at : ℕ) → code-option.Option Whole → Type 0
+StandsWhole script at (code-option.Some w) =
+    (kind_of (get_or script at 0) ≡ code-option.Some w.kind) × (w.end ≡ end_at script at) × (is_call script at ≡ true)
+StandsWhole script at code-option.None = is_call script at ≡ false
 
 -- the stops of a list that stands there: as many as its third word says, behind its fifth
 abbrev pub stops_at : (script : List ℕ) → (at : ℕ) → List ℕ
@@ -143,6 +163,10 @@ unfoldable pub legs_words : (totals roads : List ℕ) → (i k : ℕ) → List �
 legs_words totals roads i zero = []
 legs_words totals roads i (suc k) = get_or totals i 0 ∷ get_or roads i 0 ∷ legs_words totals roads (suc i) k
 
+-- the four words of a row of four
+abbrev pub four_of : List ℕ → List ℕ
+four_of w = get_or w 0 0 ∷ get_or w 1 0 ∷ get_or w 2 0 ∷ get_or w 3 0 ∷ []
+
 -- the words that the code hands on to be written
 abbrev pub made_words : Made → List ℕ
-made_words m = m.one ∷ m.two ∷ m.three ∷ m.four ∷ legs_words m.legs.totals m.legs.roads 0 most_legs
+made_words m = four_of m.words ++ legs_words m.legs.totals m.legs.roads 0 most_legs

@@ -1,23 +1,24 @@
 // A script of calls as words: makes them one after the other, and writes the words of their answers.
 #![tactic(auto)]
 
-ghost use Rattle.std.specs.Prelude.{◌≡◌, List, [], ◌++◌, ◌∷◌, ◌*◌, ◌+◌, ◌≤◌, min, ℕ, get_or, length, replicate};
-ghost use Rattle.std.proofs.Math.Option.{some};
+ghost use Rattle.std.specs.Prelude.{◌≡◌, Some, List, [], ◌++◌, ◌∷◌, ◌*◌, ◌+◌, ◌≤◌, ℕ, get_or, length, replicate};
 ghost use Rattle.model.specs.Limits.{most_legs};
 ghost use Rattle.unit_answers.specs.Shape.{answer_in, call_in, change_in};
-ghost use Rattle.network.specs.Lending.{areas};
-ghost use Rattle.unit_questions.specs.Lending.{lent, mut};
+ghost use Rattle.model.specs.Types.{Refused};
+ghost use Rattle.network.specs.Refusals.{refusal_in};
+ghost use Rattle.unit_questions.specs.Lending.{areas_with, lent, mut};
 ghost use Rattle.unit.specs.Shape.{answered_in, header_in};
 ghost use Rattle.call_stops.specs.Shape.{stopping_in};
-ghost use Rattle.unit.specs.Stops.{Rest};
-ghost use Rattle.unit_script.specs.Words.{answer_size, answer_words, change_word, legs_words, made_words, put_at, room_in};
-ghost use Rattle.unit_script.specs.Words.{call_at, end_at, scripted_in, spelled, stops_at, time_of, words_of};
-ghost use Rattle.unit_script.specs.Script.{OneContract, ReplayContract, is_next};
+ghost use Rattle.call_stops.specs.Legs.{Rest};
+ghost use Rattle.unit_script.specs.Words.{answer_size, answer_words, change_word, four_of, four_words, legs_words, made_words};
+ghost use Rattle.unit_script.specs.Words.{StandsWhole, call_at, kind_of, put_at, room_in, scripted_in, stops_at, time_of, words_of};
+ghost use Rattle.unit_script.specs.Script.{OneContract, ReplayContract};
 
-use call_stops::{Legs, MOST_LEGS, Stopping};
-use network::{Junction, Time, TimeWord, smaller};
+use call_stops::{Legs, MOST_LEGS};
+use network::{Junction, Refusal, Time, TimeWord};
 use unit::{Answered, Header, Stopped};
-use unit_answers::{Answer, Call, Change};
+use unit_answers::{Answer, Call, total_word};
+use unit_questions::Prepared;
 
 // ---- the words of a call
 
@@ -56,37 +57,46 @@ const STOPS_WORDS: usize = 5;
 // So many numbers a word of a script tells.
 const WORD: TimeWord = 4294967296;
 
-// How many words a call has, its kind with them, by its kind and its third word; 0 for a kind that is none.
-fn words_of(kind: u32, stops: u32) -> usize
-    ensures { result ≡ words_of kind stops }
-{
-    if kind == 0 {
-        return SET_WORDS;
-    }
-    if kind == 1 {
-        return AIM_WORDS;
-    }
-    if kind == 2 {
-        return ESTIMATE_WORDS;
-    }
-    if kind == 3 {
-        return GO_WORDS;
-    }
-    if kind == 4 {
-        return PREVIEW_WORDS;
-    }
-    if kind == 5 {
-        return STOPS_WORDS + (stops as usize);
-    }
-    0
+// The kinds of calls, in the order of their numbers, which are the first words of calls.
+#[derive(Clone, Copy)]
+enum Kind {
+    Set,
+    Aim,
+    Estimate,
+    Go,
+    Preview,
+    Stops,
 }
 
-// As many as a word says, but at most so many.
-fn at_most(word: u32, most: usize) -> usize
-    ensures { result ≡ min word most }
-{
-    let n = word as usize;
-    if n < most { n } else { most }
+impl Kind {
+    // The kind of a number, if it has one.
+    fn of_word(number: u32) -> Option<Kind>
+        ensures { result ≡ kind_of number }
+    {
+        match number {
+            0 => Some(Kind::Set),
+            1 => Some(Kind::Aim),
+            2 => Some(Kind::Estimate),
+            3 => Some(Kind::Go),
+            4 => Some(Kind::Preview),
+            5 => Some(Kind::Stops),
+            _ => None,
+        }
+    }
+
+    // How many words a call has, its kind with them, by its third word.
+    fn words(self, stops: u32) -> usize
+        ensures { (number : ℕ) → kind_of number ≡ Some self → result ≡ words_of number stops }
+    {
+        match self {
+            Kind::Set => SET_WORDS,
+            Kind::Aim => AIM_WORDS,
+            Kind::Estimate => ESTIMATE_WORDS,
+            Kind::Go => GO_WORDS,
+            Kind::Preview => PREVIEW_WORDS,
+            Kind::Stops => STOPS_WORDS + (stops as usize),
+        }
+    }
 }
 
 // One of the four calls, and how many entries it is lent.
@@ -104,50 +114,7 @@ fn lending(call: Call, route: usize, log: usize) -> Scripted
 fn time_of(lower: u32, upper: u32) -> Time
     ensures { result.0 ≡ time_of lower upper }
 {
-    Time::of_word(lower as TimeWord + WORD * (upper as TimeWord))
-}
-
-// The call that a kind and five words spell, beside areas of so many entries. A go and a list of stops are lent as many of them as the last
-// two words say, all of an area that has fewer; any other call is lent all, and leaves them.
-fn spell(
-    kind: u32,
-    one: u32,
-    two: u32,
-    three: u32,
-    four: u32,
-    five: u32,
-    route: usize,
-    log: usize,
-) -> Scripted
-    ensures { (w : ℕ) (stops : List ℕ)
-        → scripted_in result w stops ≡ spelled kind one two three four five stops (record { route = route; log = log; work = w }) }
-{
-    if kind == 0 {
-        return lending(Call::Set(one, time_of(two, three)), route, log);
-    }
-    if kind == 1 {
-        return lending(Call::Aim(Junction(one)), route, log);
-    }
-    if kind == 2 {
-        return lending(Call::Estimate(Junction(one)), route, log);
-    }
-    if kind == 4 {
-        return Scripted {
-            asked: Asked::Preview(one, two, time_of(three, four), Junction(five)),
-            route: route,
-            log: log,
-        };
-    }
-    let roads = at_most(three, route);
-    let logged = at_most(four, log);
-    if kind == 3 {
-        return lending(Call::Go(one, Junction(two)), roads, logged);
-    }
-    Scripted {
-        asked: Asked::Stops(one),
-        route: roads,
-        log: logged,
-    }
+    Time(lower as TimeWord + WORD * (upper as TimeWord))
 }
 
 // ---- at a place of a script
@@ -157,38 +124,60 @@ fn word_at(script: &[u32], at: usize, i: usize) -> u32
     requires { at ≤ length script.now }
     ensures { result ≡ get_or script.now (at + i) 0 }
 {
-    if i < script.len() - at {
-        script[at + i]
+    script[at..].get(i).copied().unwrap_or(0)
+}
+
+// A call that stands whole at a place of a script: its kind, and where it ends.
+#[derive(Clone, Copy)]
+struct Whole {
+    kind: Kind,
+    end: usize,
+}
+
+// That call, if one does: a number that is no kind ends a script, and so does a call that is cut short.
+fn whole_at(script: &[u32], at: usize) -> Option<Whole>
+    requires { at ≤ length script.now }
+    ensures { StandsWhole script.now at result }
+{
+    let kind = Kind::of_word(word_at(script, at, 0))?;
+    let w = kind.words(word_at(script, at, 2));
+    if w <= script.len() - at {
+        Some(Whole { kind, end: at + w })
     } else {
-        0
+        None
     }
 }
 
-// Where the call ends that stands whole there; the place itself if none does.
-fn end_at(script: &[u32], at: usize) -> usize
-    requires { at ≤ length script.now }
-    ensures { result ≡ end_at script.now at }
-{
-    let w = words_of(word_at(script, at, 0), word_at(script, at, 2));
-    if w <= script.len() - at { at + w } else { at }
-}
-
-// That call, beside areas of so many entries.
-fn call_at(script: &[u32], at: usize, route: usize, log: usize) -> Scripted
-    requires { at ≤ length script.now }
+// The call of a kind that stands there, beside areas of so many entries. A go and a list of stops are lent as many of them as two words
+// say, all of an area that has fewer; any other call is lent all, and leaves them.
+fn call_at(script: &[u32], at: usize, kind: Kind, route: usize, log: usize) -> Scripted
+    requires { (at ≤ length script.now) × (kind_of (get_or script.now at 0) ≡ Some kind) }
     ensures { (w : ℕ) → scripted_in result w (stops_at script.now at)
         ≡ call_at script.now at (record { route = route; log = log; work = w }) }
 {
-    spell(
-        word_at(script, at, 0),
-        word_at(script, at, 1),
-        word_at(script, at, 2),
-        word_at(script, at, 3),
-        word_at(script, at, 4),
-        word_at(script, at, 5),
-        route,
-        log,
-    )
+    let one = word_at(script, at, 1);
+    let two = word_at(script, at, 2);
+    let three = word_at(script, at, 3);
+    let four = word_at(script, at, 4);
+    let five = word_at(script, at, 5);
+    let roads = route.min(three as usize);
+    let logged = log.min(four as usize);
+    match kind {
+        Kind::Set => lending(Call::Set(one, time_of(two, three)), route, log),
+        Kind::Aim => lending(Call::Aim(Junction(one)), route, log),
+        Kind::Estimate => lending(Call::Estimate(Junction(one)), route, log),
+        Kind::Go => lending(Call::Go(one, Junction(two)), roads, logged),
+        Kind::Preview => Scripted {
+            asked: Asked::Preview(one, two, time_of(three, four), Junction(five)),
+            route: route,
+            log: log,
+        },
+        Kind::Stops => Scripted {
+            asked: Asked::Stops(one),
+            route: roads,
+            log: logged,
+        },
+    }
 }
 
 // The stops of a list that stands there, as far as the script has them.
@@ -196,19 +185,9 @@ fn stops_at(script: &[u32], at: usize) -> &[u32]
     requires { at ≤ length script.now }
     ensures { result.now ≡ stops_at script.now at }
 {
-    let rest = script.len() - at;
-    let start = smaller(STOPS_WORDS, rest);
-    let number = word_at(script, at, 2) as usize;
-    let end = smaller(number, rest - start);
-    &script[at + start..at + start + end]
-}
-
-// Whether a call is made after k others, with room for so many answers: its answer has room, and it stands whole at its place.
-fn is_next(script: &[u32], at: usize, k: usize, room: usize) -> bool
-    requires { at ≤ length script.now }
-    ensures { result ≡ is_next script.now at k room }
-{
-    (k < room) & (at < end_at(script, at))
+    let rest = &script[at..];
+    let stops = &rest[rest.len().min(STOPS_WORDS)..];
+    &stops[..stops.len().min(word_at(script, at, 2) as usize)]
 }
 
 // ---- the words of an answer
@@ -216,16 +195,15 @@ fn is_next(script: &[u32], at: usize, k: usize, room: usize) -> bool
 // An answer is four words, and two for each leg that a list of stops may have.
 const LEG_WORDS: usize = 2;
 
+const FOUR: usize = 4;
+
 const ANSWER_SIZE: usize = 4 + LEG_WORDS * MOST_LEGS;
 
-// What a call hands back: the header, and its answer as words.
+// What a call hands back: the header, and its answer as words: four, and its legs'.
 #[derive(Drop)]
 struct Made {
     header: Header,
-    one: u64,
-    two: u64,
-    three: u64,
-    four: u64,
+    words: [u64; FOUR],
     legs: Legs,
 }
 
@@ -236,42 +214,35 @@ fn room_in(words: usize) -> usize
     words / ANSWER_SIZE
 }
 
-// The word of a signed number, two's complement.
-fn signed_word(d: i64) -> u64
-    ensures { result ≡ change_word (some d) }
-{
-    if d < 0 {
-        return 0xFFFF_FFFF_FFFF_FFFF - ((-1 - d) as u64);
-    }
-    d as u64
-}
-
-// The word of a change; 0 where there is none.
-fn change_word(change: Change) -> u64
+// The word of a change, two's complement; 0 where there is none.
+fn change_word(change: Option<i64>) -> u64
     ensures { result ≡ change_word (change_in change) }
 {
-    match change {
-        Change::By(d) => signed_word(d),
-        Change::Absent => 0,
-    }
+    change.map_or(0, |d| d.cast_unsigned())
+}
+
+// The four words of a refusal: its number, the road, place or leg that it names, the count.
+fn refused(q: Refusal) -> [u64; FOUR]
+    ensures { four_of result ≡ four_words (Refused (refusal_in q)) }
+{
+    [
+        u64::from(q.question()),
+        u64::from(q.place()),
+        u64::from(q.count()),
+        0,
+    ]
 }
 
 // Four words, and no legs.
-fn four(header: Header, one: u64, two: u64, three: u64, four: u64) -> Made
-    ensures { (header_in result.header ≡ header_in header)
-        × (made_words result ≡ (one ∷ two ∷ three ∷ four ∷ []) ++ replicate (2 * most_legs) 0) }
+fn four(header: Header, words: [u64; FOUR]) -> Made
+    ensures { (header_in result.header ≡ header_in header) × (made_words result ≡ four_of words ++ replicate (2 * most_legs) 0) }
 {
-    let totals = [0; MOST_LEGS];
-    let roads = [0u32; MOST_LEGS];
     Made {
         header: header,
-        one: one,
-        two: two,
-        three: three,
-        four: four,
+        words: words,
         legs: Legs {
-            totals: totals,
-            roads: roads,
+            totals: [0; MOST_LEGS],
+            roads: [0; MOST_LEGS],
         },
     }
 }
@@ -282,47 +253,32 @@ fn of_answered(r: Answered) -> Made
     ensures { (header_in result.header ≡ header_in r.header) × (made_words result ≡ answer_words (answer_in r.answer)) }
 {
     let header = r.header;
-    let answer = r.answer;
-    match answer {
-        Answer::Refused(q) => four(header, q.question as u64, q.place as u64, q.count as u64, 0),
-        Answer::Accepted => four(header, 0, 0, 0, 0),
-        Answer::Estimated(t) => four(header, 0, t.word(), 0, 0),
-        Answer::Gone(t, c, k) => four(header, 0, t, c as u64, k as u64),
-        Answer::Previewed(a, b, c) => four(header, 0, a.word(), b.word(), change_word(c)),
+    match r.answer {
+        Err(q) => four(header, refused(q)),
+        Ok(Answer::Accepted) => four(header, [0, 0, 0, 0]),
+        Ok(Answer::Estimated(t)) => four(header, [0, t.0, 0, 0]),
+        Ok(Answer::Gone(t, c, k)) => four(header, [0, t, u64::from(c), u64::from(k)]),
+        Ok(Answer::Previewed(a, b, c)) => four(
+            header,
+            [0, total_word(a), total_word(b), change_word(c)],
+        ),
     }
 }
 
 // The words of what a list of stops handed back: 0, whole total, 0, number of legs, and total and number of roads of each.
 fn of_stopped(r: Stopped) -> Made
-    requires { Rest r }
-    ensures { (header_in result.header ≡ header_in r.header) × (made_words result ≡ answer_words (stopping_in r.answer r.legs)) }
+    requires { Rest r.answer }
+    ensures { (header_in result.header ≡ header_in r.header) × (made_words result ≡ answer_words (stopping_in r.answer)) }
 {
     let header = r.header;
-    let answer = r.answer;
-    let legs = r.legs;
-    match answer {
-        Stopping::Refused(q) => four(header, q.question as u64, q.place as u64, q.count as u64, 0),
-        Stopping::Stopped(k, whole) => Made {
+    match r.answer {
+        Err(q) => four(header, refused(q)),
+        Ok(j) => Made {
             header: header,
-            one: 0,
-            two: whole,
-            three: 0,
-            four: k as u64,
-            legs: legs,
+            words: [0, j.whole, 0, u64::from(j.number)],
+            legs: j.legs,
         },
     }
-}
-
-// Writes four words in the place of answer k.
-fn put_four(out: &mut [u64], k: usize, one: u64, two: u64, three: u64, four: u64)
-    requires { answer_size * k + answer_size ≤ length out.old }
-    ensures { out.new ≡ put_at out.old (answer_size * k) (one ∷ two ∷ three ∷ four ∷ []) }
-{
-    let i = ANSWER_SIZE * k;
-    out[i] = one;
-    out[i + 1] = two;
-    out[i + 2] = three;
-    out[i + 3] = four;
 }
 
 // Writes the legs in the place of answer k, behind its four words.
@@ -333,12 +289,10 @@ fn put_legs(out: &mut [u64], k: usize, legs: Legs)
 {
     let totals = legs.totals;
     let roads = legs.roads;
-    let start = ANSWER_SIZE * k + 4;
-    let mut i = 0;
-    while i < MOST_LEGS {
+    let start = ANSWER_SIZE * k + FOUR;
+    for i in 0..MOST_LEGS {
         out[start + LEG_WORDS * i] = totals[i];
         out[start + LEG_WORDS * i + 1] = roads[i] as u64;
-        i += 1;
     }
 }
 
@@ -347,9 +301,9 @@ fn put_made(out: &mut [u64], k: usize, m: Made)
     requires { answer_size * k + answer_size ≤ length out.old }
     ensures { out.new ≡ put_at out.old (answer_size * k) (made_words m) }
 {
-    put_four(out, k, m.one, m.two, m.three, m.four);
-    let legs = m.legs;
-    put_legs(out, k, legs);
+    let start = ANSWER_SIZE * k;
+    out[start..start + FOUR].copy_from_slice(&m.words);
+    put_legs(out, k, m.legs);
 }
 
 // ---- the calls of a script
@@ -357,16 +311,11 @@ fn put_made(out: &mut [u64], k: usize, m: Made)
 // Makes one call, which is lent the first entries of route and log; a preview is lent the work area, a list of stops has its stops.
 fn make_call(
     header: Header,
-    card: &[u8],
-    ranks: &[u32],
-    pairs: &[u32],
-    times: &[TimeWord],
+    p: Prepared,
     live: &mut [TimeWord],
     down: &mut [TimeWord],
     estimates: &mut [TimeWord],
     elapsed: &mut [TimeWord],
-    leaving: &[u32],
-    groups: &[u32],
     route: &mut [u32],
     log: &mut [u32],
     work: &mut [TimeWord],
@@ -374,45 +323,34 @@ fn make_call(
     c: Scripted,
 ) -> Made
     requires { (c.route ≤ length route.old) × (c.log ≤ length log.old) }
-    ensures { OneContract card.now (header_in header)
-        (areas ranks pairs times (mut live) (mut down) (mut estimates) (mut elapsed) leaving groups)
+    ensures { OneContract p.entry.card.now (header_in header)
+        (areas_with p (mut live) (mut down) (mut estimates) (mut elapsed))
         (lent (mut route) (mut log)) (scripted_in c (length work.old) stops.now) (header_in result.header) (made_words result) }
 {
-    let asked = c.asked;
     let roads = c.route;
     let logged = c.log;
+    let asked = c.asked;
     match asked {
         Asked::Four(call) => of_answered(unit::call(
             header,
-            card,
-            ranks,
-            pairs,
-            times,
+            p,
             live,
             down,
             estimates,
             elapsed,
-            leaving,
-            groups,
             &mut route[..roads],
             &mut log[..logged],
             call,
         )),
         Asked::Preview(class, road, time, start) => of_answered(header.preview(
-            card, ranks, pairs, times, live, down, estimates, elapsed, leaving, groups, work,
-            class, road, time, start,
+            p, live, down, estimates, elapsed, work, class, road, time, start,
         )),
         Asked::Stops(class) => of_stopped(header.stops(
-            card,
-            ranks,
-            pairs,
-            times,
+            p,
             live,
             down,
             estimates,
             elapsed,
-            leaving,
-            groups,
             &mut route[..roads],
             &mut log[..logged],
             class,
@@ -425,54 +363,36 @@ fn make_call(
 // answer. A preview is lent the work area. Hands the last header back.
 pub fn replay(
     start: Header,
-    card: &[u8],
-    ranks: &[u32],
-    pairs: &[u32],
-    times: &[TimeWord],
+    p: Prepared,
     live: &mut [TimeWord],
     down: &mut [TimeWord],
     estimates: &mut [TimeWord],
     elapsed: &mut [TimeWord],
-    leaving: &[u32],
-    groups: &[u32],
     route: &mut [u32],
     log: &mut [u32],
     work: &mut [TimeWord],
     script: &[u32],
     out: &mut [u64],
 ) -> Header
-    ensures { ReplayContract card.now (header_in start)
-        (areas ranks pairs times (mut live) (mut down) (mut estimates) (mut elapsed) leaving groups) (lent (mut route) (mut log))
+    ensures { ReplayContract p.entry.card.now (header_in start)
+        (areas_with p (mut live) (mut down) (mut estimates) (mut elapsed)) (lent (mut route) (mut log))
         (length work.old) script.now out.old out.new (header_in result) }
 {
     let room = room_in(out.len());
     let mut h = start;
     let mut at = 0;
-    let mut k = 0;
-    while is_next(script, at, k, room) {
-        let c = call_at(script, at, route.len(), log.len());
+    for k in 0..room {
+        let Some(whole) = whole_at(script, at) else {
+            break;
+        };
+        let c = call_at(script, at, whole.kind, route.len(), log.len());
+        let stops = stops_at(script, at);
         let r = make_call(
-            h,
-            card,
-            ranks,
-            pairs,
-            times,
-            live,
-            down,
-            estimates,
-            elapsed,
-            leaving,
-            groups,
-            route,
-            log,
-            work,
-            stops_at(script, at),
-            c,
+            h, p, live, down, estimates, elapsed, route, log, work, stops, c,
         );
         h = r.header;
         put_made(out, k, r);
-        at = end_at(script, at);
-        k += 1;
+        at = whole.end;
     }
     h
 }

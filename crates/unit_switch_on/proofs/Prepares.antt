@@ -1,13 +1,13 @@
 -- The ways through preparing: questions 1 to 7, and what is handed back. Assumes nothing.
 use mathlib.Core.Path.{◌∙◌, ◌≡◌, ap, ap₂, refl, sym}
-use mathlib.Core.Bool.{Bool, false, true}
+use mathlib.Core.Bool.{Bool, true}
 use mathlib.Core.Option.{Option, none, some}
 use mathlib.Core.List.{List}
 use Prim.Native.Nat.{◌<◌, ℕ}
 use lib.ListN.{length}
 use native.Mathlib.Omega.{arith}
 use Rattle.model.specs.Types.{Answered, AreaLengths, Read, Refusal, Unreadable}
-use Rattle.model.specs.Card.{card_refusal, map_on, read_card, reading}
+use Rattle.model.specs.Card.{ask, card_refusal, map_on, read_card, reading}
 use Rattle.model.specs.Areas.{Areas, Each, lengths, lengths_fit}
 use Rattle.model.specs.State.{areas_refusal, none_lent, prepare}
 use Rattle.model.specs.Promises.{PrepareContract, after}
@@ -40,9 +40,9 @@ module _ (card : List ℕ) (a : Areas) where
         let (_, n-is, m-is) = read_facts in
         sym (f ∙ ap (lengths_fit n m 0) k ∙ ap₂ (λ (x : ℕ) (y : ℕ). lengths_fit x y 0 (lengths a)) n-is m-is)
 
-    pub asked_7 : b ≡ false → areas_refusal card a ≡ some AreaLengths
+    pub asked_7 : {q : Refusal} → some q ≡ ask b AreaLengths none → areas_refusal card a ≡ some q
     unfolding areas_refusal
-    asked_7 h = rw (read_facts.0, fits, h)
+    asked_7 says-no = rw (read_facts.0, fits) (sym says-no)
 
     pub asked-passes : b ≡ true → Accepts card (record { n = n; m = m; pairs = 0; card = length card }) a
     unfolding areas_refusal
@@ -61,6 +61,3 @@ module _ (card : List ℕ) (a : Areas) where
   pub prepare-refused : {q : Refusal} {x : Answered} → areas_refusal card a ≡ some q → x ≡ refused_by q → PrepareContract card a a x
   unfolding prepare
   prepare-refused e h = rw e (ap (λ (y : Answered). after y a none_lent) h)
-
-  pub prepare-made : {b : Areas} {x y : Answered} → x ≡ y → PrepareContract card a b y → PrepareContract card a b x
-  prepare-made {b} h p = ap (λ (z : Answered). after z b none_lent) h ∙ p

@@ -2,91 +2,57 @@
 #![tactic(auto)]
 
 ghost use Rattle.std.specs.Prelude.{◌≡◌};
-ghost use Rattle.model.specs.Areas.{Areas, lengths};
-ghost use Rattle.network.specs.Refusals.{refusal_in};
+ghost use Rattle.model.specs.Areas as model;
 ghost use Rattle.unit_questions.specs.Lending.{lengths_in};
-ghost use Rattle.unit_preparing.specs.Preparing.{Prepares, areas_lent, handed_back, refused_by};
+ghost use Rattle.unit_preparing.specs.Preparing.{Prepares, areas_lent, handed_in};
 ghost use Rattle.unit.specs.Shape.{answered_in};
 ghost use Rattle.unit_switch_on.specs.Asking.{Says};
 
-use calls::Target;
-use card::Reading;
 use network::{Refusal, Sizes, TimeWord};
-use pairs_contraction::Contracted;
 use unit::{Answered, Header};
 use unit_answers::Answer;
+use unit_preparing::Areas;
 use unit_questions::Lengths;
 
-// What questions 1 to 7 say: refused, or the numbers of junctions and roads and the card's length, with no pair yet.
-#[derive(Clone, Copy)]
-enum Asked {
-    No(Refusal),
-    Yes(Sizes),
-}
+// The numbers that a refused preparing hands back.
+const ZEROS: Sizes = Sizes {
+    n: 0,
+    m: 0,
+    pairs: 0,
+    card: 0,
+};
 
-// Questions 1 to 7, of the card and of the lengths of the areas.
-fn ask(card: &[u8], l: Lengths) -> Asked
-    ensures { (a : Areas) → lengths_in l ≡ lengths a → Says card.now a result }
+// Questions 1 to 7, of the card and of the lengths of the areas: the numbers of junctions and roads and the card's length, with no pair
+// yet.
+fn ask(card: &[u8], l: Lengths) -> Result<Sizes, Refusal>
+    ensures { (a : model.Areas) → lengths_in l ≡ model.lengths a → Says card.now a result }
 {
-    match card::read(card) {
-        Reading::Unreadable(q) => Asked::No(q),
-        Reading::Read(n, m) => {
-            let size = card.len() as u32;
-            let s = Sizes {
-                n: n,
-                m: m,
-                pairs: 0,
-                card: size,
-            };
-            if unit_questions::lengths_fit(s, l) {
-                Asked::Yes(s)
-            } else {
-                Asked::No(Refusal::AREA_LENGTHS)
-            }
-        }
-    }
+    let (n, m) = card::read(card)?;
+    let s = Sizes {
+        n: n,
+        m: m,
+        pairs: 0,
+        card: card.len() as u32,
+    };
+    network::ask(unit_questions::lengths_fit(s, l), Refusal::AreaLengths)?;
+    Ok(s)
 }
 
-// A refused preparing hands back a header of zeros and no target.
-fn unprepared(q: Refusal) -> Answered
-    ensures { answered_in result ≡ refused_by (refusal_in q) }
+// The numbers and no target, or, of a refused preparing, a header of zeros and no target.
+fn handed(made: Result<Sizes, Refusal>) -> Answered
+    ensures { answered_in result ≡ handed_in made }
 {
     Answered {
         header: Header {
-            sizes: Sizes {
-                n: 0,
-                m: 0,
-                pairs: 0,
-                card: 0,
-            },
-            target: Target::Absent,
+            sizes: made.unwrap_or(ZEROS),
+            target: None,
         },
-        answer: Answer::Refused(q),
+        answer: made.map(|_| Answer::Accepted),
     }
 }
 
-// An accepted one hands back the four numbers and no target; question 8.
-fn prepared(s: Sizes, z: Contracted) -> Answered
-    ensures { answered_in result ≡ handed_back s z }
-{
-    match z {
-        Contracted::Overflow => unprepared(Refusal::ROOM),
-        Contracted::Kept(count) => Answered {
-            header: Header {
-                sizes: Sizes {
-                    n: s.n,
-                    m: s.m,
-                    pairs: count,
-                    card: s.card,
-                },
-                target: Target::Absent,
-            },
-            answer: Answer::Accepted,
-        },
-    }
-}
-
-// Prepares a card: questions 1 to 8; ranks, pairs, live times, and no target.
+// Prepares a card: questions 1 to 8; ranks, pairs, live times, and no target. Nine slices, as C lends them. They are asked before the
+// struct is built: held across a refusal, it is let go, and what stands behind it is not known (proof tried and not closed).
 pub fn prepare(
     card: &[u8],
     ranks: &mut [u32],
@@ -105,12 +71,20 @@ pub fn prepare(
         ranks, pairs, times, live, down, estimates, elapsed, leaving, groups,
     );
     match ask(card, l) {
-        Asked::No(q) => unprepared(q),
-        Asked::Yes(s) => {
-            let z = unit_preparing::prepare_areas(
-                s, card, ranks, pairs, times, live, down, estimates, elapsed, leaving, groups,
-            );
-            prepared(s, z)
+        Err(q) => handed(Err(q)),
+        Ok(s) => {
+            let areas = Areas {
+                ranks,
+                pairs,
+                times,
+                live,
+                down,
+                estimates,
+                elapsed,
+                leaving,
+                groups,
+            };
+            handed(unit_preparing::prepare_areas(s, card, areas))
         }
     }
 }

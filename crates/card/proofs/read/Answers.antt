@@ -1,98 +1,101 @@
--- Each return is by the first question that fails, since those before it passed. Once the table is right (`Right`), `card_reader::check`
--- asks the rest; a card that it passes has so few junctions and roads that both numbers are words (`n-fits`, `m-fits`).
+-- Each question is the first of those that are left: it passes (`step`), or its refusal is the answer (`stop`, `exit`). A card that
+-- `card_reader::check` passes has so few junctions and roads that both numbers are words (`n-fits`, `m-fits`).
 use mathlib.Core.Path.{◌∙◌, ◌≡◌, ap, refl, sym}
-use mathlib.Core.List.{List}
-use Prim.Native.Nat.{◌/◌, ℕ}
 use lib.ListN.{length}
-use native.Mathlib.Omega.{arith}
-use Rattle.model.specs.Layout.{access_fits, road_size, roads_in, sections}
-use Rattle.model.specs.Card.{count_ok}
-use Rattle.card.proofs.ReadWays.{Right, Tabled, m-fits, n-fits, read_1, read_1_table, read_2, read_2_kinds, read_3, read_4}
-use Rattle.card.proofs.ReadWays.{read_failed, read_passed}
-use Rattle.card.proofs.read.Goals.{After-access_fits, After-count_ok, Else-card-table_size, Else-not-access_fits}
+use Rattle.model.specs.Card.{card_refusal}
+use Rattle.card.proofs.ReadWays.{after_count, after_fits, after_four, after_kinds, after_starts, after_table, all_asked}
+use Rattle.card.proofs.ReadWays.{count-is, exit, m-fits, n-fits, read_passed, step, stop, table-is, third-is}
+use Rattle.card.proofs.read.Goals.{In_ok-ask, In_ok-ask-2, In_ok-ask-3, In_ok-ask-4, In_ok-ask-5, In_ok-ask-6}
 use Rattle.card.proofs.read.Goals as goal
 
 -- ---- past the questions
 
--- the number of sections is what was read
-counted : (c : After-count_ok) → count_ok (sections c.args.card.now) ≡ c.count_ok.result
-counted c = ap count_ok (sym c.sections-count.ensures) ∙ sym c.count_ok.ensures
+past_1 : (c : In_ok-ask) → card_refusal c.args.card.now ≡ after_four c.args.card.now
+past_1 c = step c.args.card.now _ _ _ (all_asked c.args.card.now) refl c.in_ok-ask.ensures
 
-table : (c : Else-card-table_size) → Tabled c.args.card.now
-table c = record {
-  four = c.if-card-lt-COUNT_SIZE.false;
-  count = ap count_ok (sym c.sections-count.ensures) ∙ sym c.count_ok.ensures ∙ c.if-not-count_ok.false;
-  long = omega (arith, c.if-card-table_size.false, c.table_size.ensures, c.sections-count.ensures);
-}
+past_2 : (c : In_ok-ask-2) → card_refusal c.args.card.now ≡ after_four c.args.card.now
+    → card_refusal c.args.card.now ≡ after_count c.args.card.now
+past_2 c left = step c.args.card.now _ _ _ left (count-is c.args.card.now c.count_ok.ensures c.sections-count.ensures) c.in_ok-ask-2.ensures
 
--- the third length was compared with the number of roads
-third : (c : After-access_fits) →
-    access_fits c.args.card.now (length (roads_in c.args.card.now) / road_size) ≡ c.access_fits.result
-third c =
-    ap (λ (l : List ℕ). access_fits c.args.card.now (length l / road_size)) (sym c.roads_of.ensures) ∙ sym c.access_fits.ensures
+past_3 : (c : In_ok-ask-3) → card_refusal c.args.card.now ≡ after_count c.args.card.now
+    → card_refusal c.args.card.now ≡ after_table c.args.card.now
+past_3 c left =
+    step c.args.card.now _ _ _ left (table-is c.args.card.now c.table_size.ensures c.sections-count.ensures) c.in_ok-ask-3.ensures
 
-right : (c : Else-not-access_fits) → Tabled c.args.card.now
-    → access_fits c.args.card.now (length (roads_in c.args.card.now) / road_size) ≡ c.access_fits.result → Right c.args.card.now
-right c t e = record {
-  table = t;
-  kinds = sym c.kinds_ok.ensures ∙ c.if-not-kinds_ok.false;
-  starts = sym c.starts_ok.ensures ∙ c.if-not-starts_ok.false;
-  third = e ∙ c.if-not-access_fits.false;
-}
+past_4 : (c : In_ok-ask-4) → card_refusal c.args.card.now ≡ after_table c.args.card.now
+    → card_refusal c.args.card.now ≡ after_kinds c.args.card.now
+past_4 c left = step c.args.card.now _ _ _ left c.kinds_ok.ensures c.in_ok-ask-4.ensures
+
+past_5 : (c : In_ok-ask-5) → card_refusal c.args.card.now ≡ after_kinds c.args.card.now
+    → card_refusal c.args.card.now ≡ after_starts c.args.card.now
+past_5 c left = step c.args.card.now _ _ _ left c.starts_ok.ensures c.in_ok-ask-5.ensures
+
+past_6 : (c : In_ok-ask-6) → card_refusal c.args.card.now ≡ after_starts c.args.card.now
+    → card_refusal c.args.card.now ≡ after_fits c.args.card.now
+past_6 c left = step c.args.card.now _ _ _ left (third-is c.args.card.now c.access_fits.ensures c.roads_of.ensures) c.in_ok-ask-6.ensures
 
 -- ---- the answers
 
-pub returns-then-card-lt-COUNT_SIZE : goal.returns-then-card-lt-COUNT_SIZE
-returns-then-card-lt-COUNT_SIZE c = read_1 _ c.if-card-lt-COUNT_SIZE.true
+pub returns-in_err-ask : goal.returns-in_err-ask
+returns-in_err-ask c =
+    exit c.args.card.now _ _ c.from_residual.ensures.1
+    (stop c.args.card.now _ _ _ (all_asked c.args.card.now) refl c.in_err-ask.ensures)
 
-pub returns-then-not-count_ok : goal.returns-then-not-count_ok
-returns-then-not-count_ok c =
-    let at = goal.at.returns-then-not-count_ok c in
-    read_2 _ c.if-card-lt-COUNT_SIZE.false (counted at.After-count_ok ∙ c.if-not-count_ok.true)
+pub returns-in_err-ask-2 : goal.returns-in_err-ask-2
+returns-in_err-ask-2 c =
+    let at = goal.at.returns-in_err-ask-2 c in
+    let left = past_1 at.In_ok-ask in
+    exit c.args.card.now _ _ c.from_residual-in_err-ask-2.ensures.1
+    (stop c.args.card.now _ _ _ left (count-is c.args.card.now c.count_ok.ensures c.sections-count.ensures) c.in_err-ask-2.ensures)
 
-pub returns-then-card-table_size : goal.returns-then-card-table_size
-returns-then-card-table_size c =
-    let at = goal.at.returns-then-card-table_size c in
-    read_1_table _ c.if-card-lt-COUNT_SIZE.false (counted at.After-count_ok ∙ c.if-not-count_ok.false)
-    (omega (arith, c.if-card-table_size.true, c.table_size.ensures, c.sections-count.ensures))
+pub returns-in_err-ask-3 : goal.returns-in_err-ask-3
+returns-in_err-ask-3 c =
+    let at = goal.at.returns-in_err-ask-3 c in
+    let left = past_2 at.In_ok-ask-2 (past_1 at.In_ok-ask) in
+    exit c.args.card.now _ _ c.from_residual-in_err-ask-3.ensures.1
+    (stop c.args.card.now _ _ _ left (table-is c.args.card.now c.table_size.ensures c.sections-count.ensures) c.in_err-ask-3.ensures)
 
-pub returns-then-not-kinds_ok : goal.returns-then-not-kinds_ok
-returns-then-not-kinds_ok c =
-    let at = goal.at.returns-then-not-kinds_ok c in
-    read_2_kinds (table at.Else-card-table_size) (sym c.kinds_ok.ensures ∙ c.if-not-kinds_ok.true)
+pub returns-in_err-ask-4 : goal.returns-in_err-ask-4
+returns-in_err-ask-4 c =
+    let at = goal.at.returns-in_err-ask-4 c in
+    let left = past_3 at.In_ok-ask-3 (past_2 at.In_ok-ask-2 (past_1 at.In_ok-ask)) in
+    exit c.args.card.now _ _ c.from_residual-in_err-ask-4.ensures.1
+    (stop c.args.card.now _ _ _ left c.kinds_ok.ensures c.in_err-ask-4.ensures)
 
-pub returns-then-not-starts_ok : goal.returns-then-not-starts_ok
-returns-then-not-starts_ok c =
-    let at = goal.at.returns-then-not-starts_ok c in
-    read_3 (table at.Else-card-table_size) (sym c.kinds_ok.ensures ∙ c.if-not-kinds_ok.false)
-    (sym c.starts_ok.ensures ∙ c.if-not-starts_ok.true)
+pub returns-in_err-ask-5 : goal.returns-in_err-ask-5
+returns-in_err-ask-5 c =
+    let at = goal.at.returns-in_err-ask-5 c in
+    let left = past_4 at.In_ok-ask-4 (past_3 at.In_ok-ask-3 (past_2 at.In_ok-ask-2 (past_1 at.In_ok-ask))) in
+    exit c.args.card.now _ _ c.from_residual-in_err-ask-5.ensures.1
+    (stop c.args.card.now _ _ _ left c.starts_ok.ensures c.in_err-ask-5.ensures)
 
-pub returns-then-not-access_fits : goal.returns-then-not-access_fits
-returns-then-not-access_fits c =
-    let at = goal.at.returns-then-not-access_fits c in
-    read_4 (table at.Else-card-table_size) (sym c.kinds_ok.ensures ∙ c.if-not-kinds_ok.false)
-    (sym c.starts_ok.ensures ∙ c.if-not-starts_ok.false) (third at.After-access_fits ∙ c.if-not-access_fits.true)
+pub returns-in_err-ask-6 : goal.returns-in_err-ask-6
+returns-in_err-ask-6 c =
+    let at = goal.at.returns-in_err-ask-6 c in
+    let table = past_3 at.In_ok-ask-3 (past_2 at.In_ok-ask-2 (past_1 at.In_ok-ask)) in
+    let left = past_5 at.In_ok-ask-5 (past_4 at.In_ok-ask-4 table) in
+    let third = third-is c.args.card.now c.access_fits.ensures c.roads_of.ensures in
+    exit c.args.card.now _ _ c.from_residual-in_err-ask-6.ensures.1
+    (stop c.args.card.now _ _ _ left third c.in_err-ask-6.ensures)
+
+pub returns-in_err-check : goal.returns-in_err-check
+returns-in_err-check c =
+    let at = goal.at.returns-in_err-check c in
+    let table = past_3 at.In_ok-ask-3 (past_2 at.In_ok-ask-2 (past_1 at.In_ok-ask)) in
+    let left = past_6 at.In_ok-ask-6 (past_5 at.In_ok-ask-5 (past_4 at.In_ok-ask-4 table)) in
+    exit c.args.card.now _ _ c.from_residual-in_err-check.ensures.1 (left ∙ sym c.in_err-check.ensures)
 
 pub overflow_cast-result : goal.overflow_cast-result
 overflow_cast-result c =
-    let at = goal.at.overflow_cast-result c in
-    let r = right at.Else-not-access_fits (table at.Else-card-table_size) (third at.After-access_fits) in
-    record { fits = n-fits r c.in-Passed.ensures refl (ap length c.order_of.ensures) }
+    record { fits = n-fits c.args.card.now c.in_ok-check.ensures (ap length c.order_of.ensures) }
 
-pub overflow_cast-result-in-Passed : goal.overflow_cast-result-in-Passed
-overflow_cast-result-in-Passed c =
-    let at = goal.at.overflow_cast-result-in-Passed c in
-    let r = right at.Else-not-access_fits (table at.Else-card-table_size) (third at.After-access_fits) in
-    record { fits = m-fits r c.in-Passed.ensures refl (ap length c.roads_of.ensures) }
+pub overflow_cast-result-2 : goal.overflow_cast-result-2
+overflow_cast-result-2 c =
+    record { fits = m-fits c.args.card.now c.in_ok-check.ensures (ap length c.roads_of.ensures) }
 
-pub returns-in-Failed : goal.returns-in-Failed
-returns-in-Failed c =
-    let at = goal.at.returns-in-Failed c in
-    let r = right at.Else-not-access_fits (table at.Else-card-table_size) (third at.After-access_fits) in
-    read_failed r c.in-Failed.ensures refl
-
-pub returns-in-Passed : goal.returns-in-Passed
-returns-in-Passed c =
-    let at = goal.at.returns-in-Passed c in
-    let r = right at.Else-not-access_fits (table at.Else-card-table_size) (third at.After-access_fits) in
-    read_passed r c.in-Passed.ensures refl (ap length c.order_of.ensures) (ap length c.roads_of.ensures)
+pub returns : goal.returns
+returns c =
+    let at = goal.at.returns c in
+    let table = past_3 at.In_ok-ask-3 (past_2 at.In_ok-ask-2 (past_1 at.In_ok-ask)) in
+    let left = past_6 at.In_ok-ask-6 (past_5 at.In_ok-ask-5 (past_4 at.In_ok-ask-4 table)) in
+    read_passed c.args.card.now c.in_ok-check.ensures left (ap length c.order_of.ensures) (ap length c.roads_of.ensures)

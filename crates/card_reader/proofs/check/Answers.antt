@@ -28,5 +28,5 @@ walked-bodies s r r' x y new-is moved-is ex ey = ap₂ bodies_refusal (ex ∙ fi
 pub returns : goal.returns
 returns c =
     c.check.ensures
-    ∙ walked-bodies c.args.card c.new-first.result c.moved_on-second.result c.body-roads.result.now c.body-order.result.now
-    c.new-first.ensures c.moved_on-second.ensures c.body-roads.ensures c.body-order.ensures
+    ∙ walked-bodies c.args.card c.new-first.result c.moved_on-second.result c.body.result.now c.body-2.result.now
+    c.new-first.ensures c.moved_on-second.ensures c.body.ensures c.body-2.ensures

@@ -1,36 +1,41 @@
 -- The digits that the loop has passed make v (`Passed`): a byte that is no digit, or a value that is too large, decides at once that s is
--- no number (`below-digits`, `above-digits`, `overflow`), and at the end v is the number (`passed-all`).
-use native.Mathlib.Omega.{arith}
-use Rattle.line_fields.proofs.Numbers.{Next, passed-all, passed-more}
-use Rattle.line_fields.proofs.Numbers.{above-digits, below-digits, long, overflow, short}
+-- no number (`other_byte`, `overflow`), and at the end v is the number (`passed-all`).
+use Rattle.std.proofs.Common.{rules, refl, sym, arith, get_or, ◌∙◌}
+use Rattle.line_fields.proofs.Numbers.{Next, long, other_byte, overflow, passed-all, passed-more, short}
 use Rattle.line_fields.proofs.read_number.Goals as goal
-use Rattle.line_fields.proofs.read_number.Goals.{After-wide-b}
+use Rattle.line_fields.proofs.read_number.Goals.{After-is_ascii_digit, then-is_empty-via-then-is_empty}
+use Rattle.line_fields.proofs.read_number.Goals.{then-is_empty-via-else-is_empty+then-s-gt-MOST_DIGITS}
 
--- ---- the byte of a turn
+-- the byte of a turn
+byte-read : (c : After-is_ascii_digit) → Next c.args.s.now c.loop-b.b-index c.loop-b.v (get_or c.args.s.now c.loop-b.b-index 0)
+byte-read c = record { passed = c.loop-b.invariant; below = c.loop-b-test.true; byte_is = refl }
 
-byte-read : (c : After-wide-b) → Next c.args.s.now c.loop-i.i c.loop-i.v c.wide-b.result
-byte-read c = record { passed = c.loop-i.invariant; below = c.loop-i-test.true; byte_is = c.wide-b.ensures }
+pub returns-then-is_empty : goal.returns-then-is_empty
+returns-then-is_empty c = elim c.then-is_empty.branch [
+  | then-is_empty-via-then-is_empty w ↦ short c.args.s.now (search rules)
+  | then-is_empty-via-else-is_empty+then-s-gt-MOST_DIGITS w ↦ long c.args.s.now w.if-s-gt-MOST_DIGITS.true
+]
 
--- ---- the answers
+pub returns-then-not-is_ascii_digit : goal.returns-then-not-is_ascii_digit
+returns-then-not-is_ascii_digit c =
+    other_byte (byte-read (goal.at.returns-then-not-is_ascii_digit c).After-is_ascii_digit) (sym c.if-not-is_ascii_digit.ensures.value)
 
-pub returns-then-s-lt1 : goal.returns-then-s-lt1
-returns-then-s-lt1 c = short c.args.s.now c.if-s-lt1.true
+pub returns-in_err-checked_mul : goal.returns-in_err-checked_mul
+returns-in_err-checked_mul c =
+    c.from_residual.ensures
+    ∙ overflow (byte-read (goal.at.returns-in_err-checked_mul c).After-is_ascii_digit) (omega (arith, c.in_err-checked_mul.ensures))
 
-pub returns-then-s-gt20 : goal.returns-then-s-gt20
-returns-then-s-gt20 c = long c.args.s.now c.if-s-gt20.true
+pub returns-in_err-v : goal.returns-in_err-v
+returns-in_err-v c =
+    c.from_residual-in_err-v.ensures
+    ∙ overflow (byte-read (goal.at.returns-in_err-v c).After-is_ascii_digit)
+    (omega (arith, c.in_err-v.ensures, c.in_ok-checked_mul.ensures, c.from.ensures))
 
-pub returns-then-b-lt48 : goal.returns-then-b-lt48
-returns-then-b-lt48 c = below-digits (byte-read (goal.at.returns-then-b-lt48 c).After-wide-b) c.if-b-lt48.true
-
-pub returns-then-b-gt57 : goal.returns-then-b-gt57
-returns-then-b-gt57 c = above-digits (byte-read (goal.at.returns-then-b-gt57 c).After-wide-b) c.if-b-gt57.true
-
-pub returns-then-d-v : goal.returns-then-d-v
-returns-then-d-v c = overflow (byte-read (goal.at.returns-then-d-v c).After-wide-b) (omega (arith, c.if-d-v.true))
-
-pub loop-i-preserved : goal.loop-i-preserved
-loop-i-preserved c =
-    passed-more (byte-read (goal.at.loop-i-preserved c).After-wide-b) c.if-b-lt48.false c.if-b-gt57.false c.if-d-v.false
+pub loop-b-preserved : goal.loop-b-preserved
+loop-b-preserved c =
+    let e = c.in_ok-v.ensures in let f = c.in_ok-checked_mul.ensures in
+    rw (e.1, f.1, c.from.ensures) (passed-more (byte-read (goal.at.loop-b-preserved c).After-is_ascii_digit)
+    (sym c.if-not-is_ascii_digit.ensures.value) (omega (arith, e, f, c.from.ensures)))
 
 pub returns : goal.returns
-returns c = passed-all c.loop-i-test.false c.if-s-lt1.false c.if-s-gt20.false c.loop-i.invariant
+returns c = passed-all c.loop-b-test.false (search rules) c.if-s-gt-MOST_DIGITS.false c.loop-b.invariant

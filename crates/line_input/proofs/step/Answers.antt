@@ -3,14 +3,13 @@
 use Rattle.std.proofs.Common.{inl, inr}
 use Rattle.line_input.proofs.Steps.{step-reads, step_takes}
 use Rattle.line_input.proofs.step.Goals as goal
-use Rattle.line_input.proofs.step.Goals.{else-at-r, then-at-r+else-at-chunk}
+use Rattle.line_input.proofs.step.Goals.{else-r-via-else-r, else-r-via-then-r+else-r-chunk}
 
-pub returns-then-at-chunk : goal.returns-then-at-chunk
-returns-then-at-chunk g c = step_takes c.if-at-r.true c.if-at-chunk.true c.take_one.ensures
+pub returns-then-r-chunk : goal.returns-then-r-chunk
+returns-then-r-chunk g c = step_takes c.if-r.true c.if-r-chunk.true c.take_one.ensures
 
 pub returns : goal.returns
-returns g c =
-    elim c.if-at-r.branch [
-      | then-at-r+else-at-chunk w ↦ step-reads (inr w.if-at-chunk.false) c.refill.ensures
-      | else-at-r w ↦ step-reads (inl w.if-at-r.false) c.refill.ensures
-    ]
+returns g c = elim c.else-r.branch [
+  | else-r-via-then-r+else-r-chunk w ↦ step-reads (inr w.if-r-chunk.false) c.refill.ensures
+  | else-r-via-else-r w ↦ step-reads (inl w.if-r.false) c.refill.ensures
+]

@@ -1,14 +1,8 @@
 -- The loop keeps that the first i words are in place and the rest is as it was (`Put`). A
 -- turn puts one word more (`put-turn`); once all are put, nothing else is left (`put-end`).
-use Prim.Native.Nat.{◌-◌}
-use lib.ListN.{length}
 use Rattle.network.proofs.Bytes.{Put}
 use Rattle.network.proofs.put_words.Given as goal
 
 abbrev pub invariant-loop-i : goal.invariant-loop-i
 invariant-loop-i l =
     Put l.initial.s l.words l.i l.s
-
-abbrev pub decreases-loop-i : goal.decreases-loop-i
-decreases-loop-i l =
-    length l.words - l.i

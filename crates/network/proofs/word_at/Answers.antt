@@ -1,4 +1,5 @@
--- The four bytes from i on, shifted and summed, are the word as `word_at` sums them.
+-- The word of the four bytes from i on is summed as `word_at` sums them.
+use mathlib.Core.Path.{◌∙◌}
 use native.Mathlib.Omega.{arith}
 use Rattle.model.specs.Bytes.{word_at}
 use Rattle.network.proofs.word_at.Goals as goal
@@ -6,4 +7,4 @@ use Rattle.network.proofs.word_at.Goals as goal
 pub returns : goal.returns
 unfolding word_at
 returns c =
-    omega arith
+    c.from_le_bytes.ensures ∙ omega arith

@@ -1,7 +1,8 @@
 -- The row of a road is the lower of its two ranks, both of which have entries (`ends`). If that is the tail, the road leads up to its
 -- head, else down from its tail (`road-up`, `road-down`).
-use mathlib.Core.Path.{ap, sym}
+use mathlib.Core.Path.{◌≡◌, ap, sym, refl}
 use mathlib.Core.Option.{some}
+use native.Mathlib.Omega.{arith}
 use Rattle.pairs_rows.specs.Steps.{by_most, lt_le}
 use Rattle.pairs_linking.proofs.Roads.{Road, ends, road-down, road-up}
 use Rattle.pairs_linking.proofs.relax_road.Goals as goal
@@ -19,9 +20,13 @@ road_read c =
 pub returns-then-a-b : goal.returns-then-a-b
 returns-then-a-b c =
     let road = road_read (goal.at.returns-then-a-b c).After-base_of-t in
-    road-up road c.if-a-b.true c.least_time.ensures (lt_le road.ends.head-below c.requires.touched-long) c.mark.ensures
+    let high : c.max-high.result ≡ c.rank_of-b.result.0 = omega (arith, c.max-high.ensures, c.if-a-b.true) in
+    rw (c.relax_entry.ensures, c.mark.ensures, high)
+    (road-up road c.if-a-b.true refl (lt_le road.ends.head-below c.requires.touched-long) refl)
 
 pub returns-else-a-b : goal.returns-else-a-b
 returns-else-a-b c =
     let road = road_read (goal.at.returns-else-a-b c).After-base_of-t in
-    road-down road c.if-a-b.false c.least_time-else-a-b.ensures (lt_le road.ends.tail-below c.requires.touched-long) c.mark-else-a-b.ensures
+    let high : c.max-high.result ≡ c.rank_of-a.result.0 = omega (arith, c.max-high.ensures, c.if-a-b.false) in
+    rw (c.relax_entry-else-a-b.ensures, c.mark.ensures, high)
+    (road-down road c.if-a-b.false refl (lt_le road.ends.tail-below c.requires.touched-long) refl)

@@ -3,12 +3,10 @@
 use Rattle.pairs_rows.proofs.Stored.{kept_by-down, kept_by-up}
 use Rattle.pairs_rows.proofs.is_kept.Goals as goal
 
-pub returns-then-is_none : goal.returns-then-is_none
-returns-then-is_none c =
-    let args = c.args in
-    kept_by-down args.up.0 args.down.0 c.is_none.ensures c.if-is_none.true c.is_none-then-is_none.ensures
+pub returns-then-not-is_none : goal.returns-then-not-is_none
+returns-then-not-is_none c =
+    kept_by-up c.args.up.0 c.args.down.0 c.is_none.ensures c.if-not-is_none.true
 
-pub returns : goal.returns
-returns c =
-    let args = c.args in
-    kept_by-up args.up.0 args.down.0 c.is_none.ensures c.if-is_none.false
+pub returns-else-not-is_none : goal.returns-else-not-is_none
+returns-else-not-is_none c =
+    kept_by-down c.args.up.0 c.args.down.0 c.is_none.ensures c.if-not-is_none.false c.is_none-else-not-is_none.ensures

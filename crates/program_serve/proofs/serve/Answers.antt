@@ -11,4 +11,4 @@ returns g c =
     areas_of a.ranks.now a.pairs.now a.times.now a.live.now a.down.now a.estimates.now a.elapsed.now a.leaving.now a.groups.now in
     let opened = c.open_card-opened in
     λ lends.
-    card-runs lent lends opened.new.out c.begin.ensures c.answer_lines.ensures opened.ensures.quiet (opened.ensures.right lends)
+    card-runs lent lends opened.new.out c.begin.ensures c.answer_lines.ensures (opened.ensures.right lends)

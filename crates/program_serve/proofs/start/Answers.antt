@@ -9,7 +9,7 @@ use Rattle.program_serve.proofs.start.Goals as goal
 
 pub returns : goal.returns
 returns g c =
-    let size = c.room_for-size in
+    let size = c.room_for-n in
     let served = c.serve in
     let left = served.new in
     let lent = lends c.args.file.now size.ensures.0 size.ensures.1 in

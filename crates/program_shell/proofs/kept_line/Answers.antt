@@ -2,5 +2,5 @@
 use Rattle.program_shell.proofs.Longs.{long-line}
 use Rattle.program_shell.proofs.kept_line.Goals as goal
 
-pub returns-then-p : goal.returns-then-p
-returns-then-p c = λ xs h w. long-line h w c.if-p.true
+pub returns-in-Long : goal.returns-in-Long
+returns-in-Long c = λ xs h w. long-line _ xs h (rw c.in-Long.is at w)

@@ -10,5 +10,5 @@ returns c =
     let a = c.args in
     let lent : Areas =
     areas_of a.ranks.now a.pairs.now a.times.now a.live.now a.down.now a.estimates.now a.elapsed.now a.leaving.now a.groups.now in
-    let is = prepared-way c.args.file.now lent c.prepare-prepared.ensures c.judge.ensures.a_after in
-    record { always = is; right = λ lends. is ∙ prepared-opens c.args.file.now lent lends; quiet = c.judge.ensures.length_value }
+    let is = prepared-way c.args.file.now lent c.prepare-prepared.ensures c.judge.ensures in
+    record { always = is; right = λ lends. is ∙ prepared-opens c.args.file.now lent lends }

@@ -6,8 +6,6 @@ use Rattle.search_run.proofs.write_back.Given as goal
 
 abbrev pub invariant-loop-j : goal.invariant-loop-j
 invariant-loop-j l =
-    Writing (labels_in l.n l.room).vias (back_in l.roads l.room l.n l.m) l.n l.k l.v l.initial.route l.j l.u l.route
-
-abbrev pub decreases-loop-j : goal.decreases-loop-j
-decreases-loop-j l =
-    l.j
+    let z = l.trip.sizes in
+    Writing (labels_in z.n l.room.words.now).vias (back_in l.atlas.roads.now l.room.words.now z.n z.m) z.n l.k l.trip.target.0
+    l.initial.route l.j l.u l.route

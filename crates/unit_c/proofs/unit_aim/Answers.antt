@@ -3,4 +3,4 @@ use Rattle.unit_c.proofs.Told.{alone-told}
 use Rattle.unit_c.proofs.unit_aim.Goals as goal
 
 pub returns : goal.returns
-returns c = alone-told c.aim.result c.header_of-h.ensures c.answer_of.ensures c.aim.ensures
+returns c = alone-told c.aim.result c.from-h.ensures c.from.ensures c.aim.ensures

@@ -3,4 +3,4 @@ use Rattle.unit_c.proofs.Told.{alone-told}
 use Rattle.unit_c.proofs.unit_estimate.Goals as goal
 
 pub returns : goal.returns
-returns c = alone-told c.estimate.result c.header_of-h.ensures c.answer_of.ensures c.estimate.ensures
+returns c = alone-told c.estimate.result c.from-h.ensures c.from.ensures c.estimate.ensures

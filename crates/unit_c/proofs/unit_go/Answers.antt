@@ -3,4 +3,4 @@ use Rattle.unit_c.proofs.Told.{call-told}
 use Rattle.unit_c.proofs.unit_go.Goals as goal
 
 pub returns : goal.returns
-returns c = call-told c.go.result c.header_of-h.ensures c.answer_of.ensures c.go.ensures
+returns c = call-told c.go.result c.from-h.ensures c.from.ensures c.go.ensures

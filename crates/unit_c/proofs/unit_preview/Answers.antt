@@ -3,4 +3,4 @@ use Rattle.unit_c.proofs.Told.{preview-told}
 use Rattle.unit_c.proofs.unit_preview.Goals as goal
 
 pub returns : goal.returns
-returns c = preview-told c.preview.result c.header_of-h.ensures c.answer_of.ensures c.of_word.ensures c.preview.ensures
+returns c = preview-told c.preview.result c.from-h.ensures c.from.ensures c.preview.ensures

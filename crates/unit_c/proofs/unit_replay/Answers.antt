@@ -3,4 +3,4 @@ use Rattle.unit_c.proofs.Told.{replay_told}
 use Rattle.unit_c.proofs.unit_replay.Goals as goal
 
 pub returns : goal.returns
-returns c = replay_told c.replay.result c.header_of-h.ensures c.words_of.ensures c.replay.ensures
+returns c = replay_told c.replay.result c.from-h.ensures c.from.ensures c.replay.ensures

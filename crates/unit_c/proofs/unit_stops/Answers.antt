@@ -3,4 +3,4 @@ use Rattle.unit_c.proofs.Told.{stops-told}
 use Rattle.unit_c.proofs.unit_stops.Goals as goal
 
 pub returns : goal.returns
-returns c = stops-told c.stops.result c.header_of-h.ensures c.stopped_of.ensures c.stops.ensures
+returns c = stops-told c.stops.result c.from-h.ensures c.from.ensures c.stops.ensures

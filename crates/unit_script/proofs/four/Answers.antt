@@ -1,9 +1,10 @@
--- Legs of zeros have the words of no legs (`four-only`).
-use mathlib.Core.Path.{refl}
+-- Legs of zeros have the words of no legs (`no-legs`).
+use Rattle.std.proofs.Common.{ap, refl}
+use Rattle.std.specs.Prelude.{List, ℕ, ◌++◌}
 use Rattle.model.specs.Limits.{most_legs}
-use Rattle.unit_script.proofs.Answers.{four-only}
+use Rattle.unit_script.specs.Words.{four_of}
+use Rattle.unit_script.proofs.Answers.{no-legs}
 use Rattle.unit_script.proofs.four.Goals as goal
 
 pub returns : goal.returns
-returns c =
-    let a = c.args in (refl, four-only a.one a.two a.three a.four most_legs most_legs)
+returns c = (refl, ap (λ (w : List ℕ). four_of c.args.words ++ w) (no-legs most_legs most_legs))

@@ -1,7 +1,5 @@
 -- One of the four calls and a list of stops are lent the first entries of route and log, and what they leave there is put back in front of
 -- the rest (`lent-made`). A preview is lent the work area, and leaves route and log (`preview-made`).
-use mathlib.Core.Path.{sym}
-use lib.Seq.{length-take-le}
 use Rattle.model.specs.Types.{Answered}
 use Rattle.unit.specs.Shape.{answered_in, header_in}
 use Rattle.unit.specs.declared.Stopped.{Stopped}
@@ -11,17 +9,7 @@ use Rattle.unit_script.proofs.make_call.Goals as goal
 
 -- what it hands back, as the model's
 abbrev handed : Stopped → Answered
-handed r = record { header = header_in r.header; answer = stopping_in r.answer r.legs }
-
-pub slice_bounds-call-end-in-Four : goal.slice_bounds-call-end-in-Four
-slice_bounds-call-end-in-Four c =
-    let (route-fits, _) = c.requires in
-    sym (length-take-le c.args.c.route c.args.route.now route-fits)
-
-pub slice_bounds-call-end-in-Four-3 : goal.slice_bounds-call-end-in-Four-3
-slice_bounds-call-end-in-Four-3 c =
-    let (_, log-fits) = c.requires in
-    sym (length-take-le c.args.c.log c.args.log.now log-fits)
+handed r = record { header = header_in r.header; answer = stopping_in r.answer }
 
 pub returns-in-Four : goal.returns-in-Four
 returns-in-Four c =
@@ -38,16 +26,6 @@ returns-in-Preview c =
     let (same, words) = c.of_answered-in-Preview.ensures in
     preview-made (answered_in preview.result) c.args.c _ _ route-fits log-fits same words c.in-Preview.is
     preview.ensures.call
-
-pub slice_bounds-stops-end-in-Stops : goal.slice_bounds-stops-end-in-Stops
-slice_bounds-stops-end-in-Stops c =
-    let (route-fits, _) = c.requires in
-    sym (length-take-le c.args.c.route c.args.route.now route-fits)
-
-pub slice_bounds-stops-end-in-Stops-3 : goal.slice_bounds-stops-end-in-Stops-3
-slice_bounds-stops-end-in-Stops-3 c =
-    let (_, log-fits) = c.requires in
-    sym (length-take-le c.args.c.log c.args.log.now log-fits)
 
 pub of_stopped-requires : goal.of_stopped-requires
 of_stopped-requires c = c.stops.ensures.rest

@@ -1,24 +1,23 @@
--- ask: what its loops keep stands in Invariants.antt.
+-- ask: what its loop keeps stands in Invariants.antt.
 use Rattle.search_junctions.proofs.Heads.{asking-end, asking-pass, asking-start, asking-turn, estimates-kept}
+use Rattle.search_junctions.proofs.Trip.ask.Goals.{else-i-self, then-i-self}
 use Rattle.search_junctions.proofs.Trip.ask.Goals as goal
 
-pub loop-k-init : goal.loop-k-init
-loop-k-init c =
+pub loop-i-init : goal.loop-i-init
+loop-i-init c =
     asking-start
 
 pub ask_head-requires : goal.ask_head-requires
 ask_head-requires c =
-    (c.if-i-m.true, estimates-kept c.requires c.loop-k.invariant.long)
+    (c.if-i-self.true, estimates-kept c.requires c.loop-i.invariant.long)
 
-pub loop-k-preserved-then-i-m : goal.loop-k-preserved-then-i-m
-loop-k-preserved-then-i-m c =
-    let estimates-kept = c.ask_head.auto.estimates in
-    asking-turn c.loop-k-test.true c.loop-k.invariant estimates-kept c.ask_head.ensures
-
-pub loop-k-preserved : goal.loop-k-preserved
-loop-k-preserved c =
-    asking-pass c.loop-k-test.true c.loop-k.invariant c.if-i-m.false
+pub loop-i-preserved : goal.loop-i-preserved
+loop-i-preserved c =
+    elim c.if-i-self.branch [
+      | then-i-self w ↦ rw w.estimates-is (asking-turn c.loop-i-test.true c.loop-i.invariant w.ask_head.auto.estimates w.ask_head.ensures)
+      | else-i-self w ↦ rw w.estimates-is (asking-pass c.loop-i-test.true c.loop-i.invariant w.if-i-self.false)
+    ]
 
 pub returns : goal.returns
 returns c =
-    asking-end c.loop-k-test.false c.loop-k.invariant
+    asking-end c.loop-i-test.false c.loop-i.invariant

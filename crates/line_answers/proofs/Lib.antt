@@ -1,2 +1,0 @@
--- Laws of the definitions, which several proofs cite.
-mod Ways
