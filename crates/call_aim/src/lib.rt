@@ -49,7 +49,7 @@ pub fn aim(
 {
     match aim_asked(sizes, card, l, j) {
         Err(q) => Aimed {
-            target: target,
+            target,
             answer: Err(q),
         },
         Ok(()) => {

@@ -47,14 +47,14 @@ pub fn estimate(
 {
     estimate_asked(sizes, target, p.card, l, j)?;
     let hierarchy = Hierarchy {
-        sizes: sizes,
+        sizes,
         order: card_layout::order_of(p.card),
         ranks: p.ranks,
         records: Records {
             pairs: p.pairs,
             times: p.times,
         },
-        down: down,
+        down,
     };
     Ok(Answer::Estimated(hierarchy.estimate(estimates, j)))
 }

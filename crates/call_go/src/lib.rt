@@ -14,7 +14,7 @@ ghost use Rattle.calls.specs.Meets.{Called, asks_trip};
 
 use network::{Junction, Refusal, Sizes, TimeWord, Verdict};
 use pairs_records::Records;
-use search_junctions::{Atlas, ByTail, Trip, View};
+use search_junctions::{Atlas, ByTail, Trip, View, Ways};
 use unit_answers::Answer;
 use unit_questions::{Lengths, Prepared};
 
@@ -81,24 +81,26 @@ pub fn go(
         start,
     )?;
     let trip = Trip {
-        sizes: sizes,
-        start: start,
+        sizes,
+        start,
         target: calls::aimed_at(target),
-        class: class,
+        class,
         view: View::Live,
     };
     // as call_preview has it: in place its fields compute, and a function's clause on each would be longer
     let atlas = Atlas {
-        roads: card_layout::roads_of(p.card),
+        ways: Ways {
+            roads: card_layout::roads_of(p.card),
+            access: card_layout::access_of(p.card),
+            live,
+        },
         order: card_layout::order_of(p.card),
-        access: card_layout::access_of(p.card),
         ranks: p.ranks,
         records: Records {
             pairs: p.pairs,
             times: p.times,
         },
-        live: live,
-        down: down,
+        down,
     };
     let by_tail = ByTail {
         leaving: p.leaving,

@@ -134,13 +134,6 @@ module _ {card : List ℕ} {c : ℕ} {stops : List ℕ} {s₀ : State} {l₀ : L
   same : SameLengths (lent_of route log) l₀
   same = record { route = inv.route; log = inv.log }
 
-  -- the route area keeps its length
-  pub route-stays : length y ≡ length (part at route) → length (back at route y) ≡ length l₀.route
-  route-stays kept = back-length at route y inv.within kept ∙ inv.route
-
-  pub still-within : length y ≡ length (part at route) → at ≤ length (back at route y)
-  still-within kept = omega (arith, inv.within, back-length at route y inv.within kept)
-
   module _ (p : Passed card c stops s₀ l₀) where
     abbrev way : OnWay card c s₀ l₀ stops (before h a.entry) (lent_of route log) totals roads whole at i
     way = inv.way p

@@ -124,10 +124,7 @@ fn leg(
     let answer = call_go::go(
         sizes, z, p, live, down, estimates, elapsed, route, log, class, from,
     );
-    Aimed {
-        target: z,
-        answer: answer,
-    }
+    Aimed { target: z, answer }
 }
 
 // What is handed back with a refusal.
@@ -135,7 +132,7 @@ fn refused(target: Option<Junction>, q: Refusal) -> Visited
     ensures { result ≡ record { target = target; answer = Err q } }
 {
     Visited {
-        target: target,
+        target,
         answer: Err(q),
     }
 }
@@ -187,10 +184,7 @@ fn visit(
         answer: Ok(Journey {
             number: number as u32,
             whole: whole.0,
-            legs: Legs {
-                totals: totals,
-                roads: roads,
-            },
+            legs: Legs { totals, roads },
         }),
     }
 }

@@ -1,12 +1,18 @@
 -- What a call may rely on once question 9 has passed. Assumes nothing.
 use Rattle.std.proofs.Common.{◌∙◌, ap, leb-true, arith}
-use Rattle.std.specs.Prelude.{◌≡◌, ◌&&◌, true, List, ◌*◌, ◌≤◌, ℕ, eqb, leb, length}
+use Rattle.std.specs.Prelude.{◌≡◌, refl, ◌&&◌, None, Option, true, List, ◌*◌, ◌≤◌, ℕ, eqb, leb, length}
 use Rattle.graph.proofs.Total.{and_true}
 use Rattle.model.specs.Types.{Header}
 use Rattle.model.specs.Limits.{most_junctions, most_pairs, most_roads}
 use Rattle.model.specs.Layout.{access_fits, named, names, order_in, place_size, road_size, roads_in}
 use Rattle.model.proofs.Accept.{names-length}
 use Rattle.model.specs.Areas.{Areas, Each, lengths, lengths_fit}
+use Rattle.graph.specs.Total.{Total}
+use Rattle.model.specs.Set.{set_refusal}
+use Rattle.model.specs.Calls.{known_of}
+use Rattle.network.specs.declared.Junction.{Junction}
+use Rattle.network.specs.declared.Sizes.{Sizes}
+use Rattle.calls.specs.Shape.{header_in, held}
 use Rattle.model.specs.State.{question9}
 use Rattle.model.specs.Good.{LengthFacts}
 use Rattle.model.proofs.Good.{lengths-facts}
@@ -70,3 +76,13 @@ sized a {h} {card} k er eo met-are elapsed-is = record {
   estimates_are = k.lengths.estimates;
   elapsed-is = elapsed-is;
 }
+
+-- 9 to 11 ask nothing of the target: what is said of a header without one is said of each
+pub fits-any : (s : Sizes) (t : Option Junction) (card : List ℕ) (l : Each ℕ)
+    → fits_by (header_in (held s t)) card l ≡ fits_by (header_in (held s None)) card l
+fits-any s t card l = refl
+
+pub set_refusal-any : (s : Sizes) (t : Option Junction) (base : ℕ → Total) (road time : ℕ)
+    → set_refusal (known_of base (header_in (held s t))) road time ≡ set_refusal (known_of base (header_in (held s None))) road time
+unfolding set_refusal
+set_refusal-any s t base road time = refl

@@ -1,4 +1,5 @@
-// What the calls share: the target, question 9, questions 12 and 13 of a start.
+// What the calls share: the target, question 9, questions 12 and 13 of a start. Sizes and target stand side by side here and in the calls'
+// crates: together they are the header, whose methods the calls are, and so it is declared above them, in `unit`.
 #![tactic(auto)]
 
 ghost use Rattle.std.specs.Prelude.{◌≡◌, None};
@@ -25,7 +26,7 @@ pub fn is_aimed(target: Option<Junction>) -> bool
     target.is_some()
 }
 
-// The target; junction 0 where there is none.
+// The target; junction 0 where there is none. (It may not fail: whoever asks has asked question 13.)
 pub fn aimed_at(target: Option<Junction>) -> Junction
     ensures { result.0 ≡ target_of (target_in target) }
 {

@@ -69,7 +69,7 @@ fn has_entry(card: &[u8], i: usize) -> bool
     (i < count) && (COUNT_SIZE + ENTRY_SIZE * (i + 1) <= card.len())
 }
 
-// Entry i; where there is none, that of an empty body.
+// Entry i; where there is none, that of an empty body, as its clause, `entry_of`, says of any i.
 #[tactic(auto, using(crate::proofs::Entries::fits), unfolding(model::specs::Layout::entry_of))]
 pub fn section_at(card: &[u8], i: usize) -> Section
     ensures { section_in result ≡ entry_of card.now i }

@@ -69,9 +69,6 @@ pub record Next (s : List ℕ) (i v b : ℕ) : Type 0 where
   pub below : i < length s
   pub byte_is : b ≡ get_or s i 0
 
-pub passed_none : {s : List ℕ} → Passed s 0 0
-passed_none = record { inside = omega arith; small = omega arith; value-left = refl; digits-left = refl }
-
 module _ {s : List ℕ} {i v b : ℕ} (next : Next s i v b) where
   digits-at : all_digits s ≡ is_digit b && all_digits (drop (i + 1) s)
   digits-at = next.passed.digits-left ∙ digits_step s i next.below ∙ simp (← next.byte_is)

@@ -2,6 +2,8 @@
 use Rattle.std.proofs.Common.{◌∙◌, ap, eqb-true, leb-true, ne_eqb, arith}
 use Rattle.std.specs.Prelude.{◌≡◌, refl, Bool, ◌&&◌, cond, false, true, List, [], ◌++◌, ◌∷◌, ◌+◌, ◌<◌, ◌≤◌, ℕ, None, Some, eqb, leb, length}
 use Rattle.std.specs.List.{position_or_len}
+use Rattle.std.specs.Str.{bytes_eq}
+use Rattle.std.proofs.lemmas.Slice.Eq.{bytes_eq-Decides}
 use Rattle.std.proofs.Math.Decide.{dec_lt}
 use Rattle.std.proofs.lemmas.Bool.{false≢true}
 use Rattle.std.proofs.lemmas.List.Sums.{passes_at_first, split_at_first}
@@ -75,3 +77,7 @@ split s = go (dec_lt (position_or_len is_space s) (length s))
     go : Dec (position_or_len is_space s < length s) → Split s
     go (yes l) = spaces (split_at_first is_space s 0 l ∙ rw (eqb-true _ 32 (passes_at_first is_space s 0 l)))
     go (no l) = nothing (drop_of_length-le s (omega arith))
+
+-- rows of bytes that the code finds the same are the same
+pub same-is : (a b : List ℕ) → bytes_eq a b ≡ true → a ≡ b
+same-is a b = (bytes_eq-Decides a b).0

@@ -15,7 +15,8 @@ pub const LINE_ROOM: usize = 46;
 // What is read at a time.
 pub const CHUNK_ROOM: usize = 4096;
 
-// The line as far as it was read: so many bytes, which stand first in a lent area, or more than that area has.
+// The line as far as it was read: so many bytes, which stand first in a lent area, or more than that area has. (No Option: a long line is
+// not the want of one, and each case has its name.)
 #[derive(Clone, Copy)]
 pub enum Part {
     Kept(usize),
@@ -95,7 +96,7 @@ fn take_one(r: Reader, b: u8, left: u64, line: &mut [u8]) -> Reader
     }
 }
 
-// What a read answered: none where it failed. "A line ends at a newline or at the end of the input; after a last newline no further line
+// What a read answered, no byte where it failed. "A line ends at a newline or at the end of the input; after a last newline no further line
 // follows": where the input ends, a line that has bytes is ready.
 fn take_read(r: Reader, got: io::Result<usize>, left: u64, chunk: &[u8]) -> Reader
     ensures end_in_bounds { result.end ≤ length chunk.now }

@@ -1,4 +1,4 @@
--- Decimal digits: the recursion that `put_number` takes, and lengths. Assumes nothing.
+-- Decimal digits: the recursion that `Out::number` takes, and lengths. Assumes nothing.
 use Rattle.std.proofs.Common.{◌∙◌, ap, sym, le-ltb, lt-ltb, length-append, pow-suc, arith}
 use Rattle.std.specs.Prelude.{◌≡◌, List, [], ◌++◌, ◌∷◌, ◌%◌, ◌+◌, ◌/◌, ◌<◌, ◌^◌, ◌≤◌, suc, zero, ℕ, length}
 use Rattle.std.proofs.Math.Decide.{dec_lt}

@@ -33,7 +33,7 @@ impl<'a> Out<'a> {
     }
 
     // Puts a number in decimal digits: those of its tenth, then its last. By hand, since `write!` may answer an error, and then promises
-    // nothing of what it wrote.
+    // nothing of what it wrote; the kit's `itoa` writes to a buffer of its own, which would be copied here byte by byte: no plainer.
     fn number(&mut self, n: u64)
         ensures { Added (decimal n) self.old self.new }
     {

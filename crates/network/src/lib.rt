@@ -228,7 +228,8 @@ pub fn word_at(s: &[u8], i: usize) -> u32
     u32::from_le_bytes([s[i], s[i + 1], s[i + 2], s[i + 3]])
 }
 
-// ---- the map's two bodies: roads of 12 bytes, places of the order of 4
+// ---- the map's two bodies: roads of 12 bytes, places of the order of 4 (that an entry is inside is a fact of two values, which no type of
+// one has: each function asks it)
 
 // The tail of road i.
 pub fn tail_of(roads: &[u8], i: usize) -> Junction

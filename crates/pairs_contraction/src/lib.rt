@@ -19,7 +19,8 @@ use pairs_linking::Links;
 use pairs_records::Records;
 use pairs_rows::{BLOCKS, Rows};
 
-// Fills the area of ranks: each junction's place in the order.
+// Fills the area of ranks: each junction's place in the order. (That roads and order are sound is asked as a clause, not of a type: they
+// are parts of C's card, which questions 1 to 7 have passed, and one caller knows it.)
 pub fn fill_ranks(order: &[u8], ranks: &mut [u32])
     requires { ((roads : List ℕ) × Sound roads order.now) × (length order.now ≡ 4 * length ranks.old) }
     ensures { (roads : List ℕ) → ranks.new ≡ ranks_in roads order.now }
@@ -50,8 +51,28 @@ fn contract_row(
     let n = ranks.len() as u32;
     rows.touched = [0; BLOCKS];
     pairs_linking::relax_roads(roads, ranks, links, r, rows);
-    pairs_passing::pass_lower(Records { pairs, times }, n, r, fronts, rows);
-    let k = pairs_storing::append_row(rows, n, r, count, pairs, times)?;
+    pairs_passing::pass_lower(
+        Records { pairs, times },
+        n,
+        r,
+        &mut fronts.cursor,
+        &mut fronts.ahead,
+        &fronts.ends,
+        &mut fronts.soon,
+        &mut rows.ups,
+        &mut rows.downs,
+        &mut rows.touched,
+    );
+    let k = pairs_storing::append_row(
+        &rows.touched,
+        n,
+        r,
+        count,
+        &mut rows.ups,
+        &mut rows.downs,
+        pairs,
+        times,
+    )?;
     // Lent anew, as parts: of the two areas themselves, after their last change, the check can't tell one lifetime from two.
     let records = Records {
         pairs: &pairs[..],
@@ -62,7 +83,8 @@ fn contract_row(
     Some(k)
 }
 
-// The kept pairs, row by row: contraction in the given order, with no witness test. The answer is their number, if they fit.
+// The kept pairs, row by row: contraction in the given order, with no witness test. The answer is their number, if they fit. (Ranks and
+// times of the pairs are two slices, as C lends them.)
 pub fn contract(
     roads: &[u8],
     order: &[u8],

@@ -9,15 +9,15 @@ ghost use Rattle.std.specs.Prelude.{◌≡◌, cond, ◌*◌, ◌+◌, ◌<◌, 
 ghost use Rattle.graph.specs.Path.{Weights};
 ghost use Rattle.model.specs.Areas.{record_size};
 ghost use Rattle.pairs_records.specs.Words.{high_in};
-ghost use Rattle.pairs_fronts.specs.Fronts.{Reached};
-ghost use Rattle.pairs_fronts.specs.Lending.{FrontDone, OverDone, StageIn, Steady};
+ghost use Rattle.pairs_fronts.specs.Fronts.{Over, Reached, Stage};
+ghost use Rattle.pairs_fronts.specs.Lending.{FrontDone};
 
-use network::{JUNCTIONS, Rank};
+use network::{JUNCTIONS, Rank, TimeWord};
 use pairs_records::Records;
-use pairs_rows::{BLOCK, BLOCKS, Rows};
+use pairs_rows::{BLOCK, BLOCKS};
 
 // The front of each lower rank: the place where it stands in the rank's records, the high there, and the place after the last; and the
-// bound of each block.
+// bound of each block. (Arrays side by side: fixed memory, of which a loop reads one or two.)
 #[derive(Drop)]
 pub struct Fronts {
     pub cursor: [u32; JUNCTIONS],
@@ -27,24 +27,31 @@ pub struct Fronts {
 }
 
 // The paths over the low of record i, between its high and those of the records after it, relax both rows.
-fn relax_over(records: Records, i: u32, end: u32, rows: &mut Rows)
+fn relax_over(
+    records: Records,
+    i: u32,
+    end: u32,
+    ups: &mut [TimeWord],
+    downs: &mut [TimeWord],
+    touched: &mut [u32],
+)
     requires { (i < end)
         × (record_size * end ≤ length records.pairs.now)
         × (length records.times.now ≡ length records.pairs.now)
-        × Reached records.pairs.now (i + 1) end rows.old.ups rows.old.downs rows.old.touched }
-    ensures { OverDone records.entry.pairs.now records.entry.times.now i end rows.old rows.new }
+        × Reached records.pairs.now (i + 1) end ups.old downs.old touched.old }
+    ensures { Over records.entry.pairs.now records.entry.times.now i end ups.old downs.old touched.old ups.new downs.new touched.new }
 {
     let down = records.down(i);
     let up = records.up(i);
     for j in i + 1..end {
         let h = records.high(j).0 as usize;
-        pairs_rows::relax_entry(&mut rows.ups, h, down.plus(records.up(j)));
-        pairs_rows::relax_entry(&mut rows.downs, h, up.plus(records.down(j)));
-        rows.mark(h);
+        pairs_rows::relax_entry(ups, h, down.plus(records.up(j)));
+        pairs_rows::relax_entry(downs, h, up.plus(records.down(j)));
+        pairs_rows::mark(touched, h);
     }
 }
 
-// The high of record i; n where it is past the last of its row.
+// The high of record i; n where it is past the last of its row. (No Option: highs and n are compared as numbers, and their least is kept.)
 pub fn ahead_at(records: Records, i: u32, end: u32, n: u32) -> u32
     requires { record_size * end ≤ length records.pairs.now }
     ensures { result ≡ cond (ltb i end) (high_in records.entry.pairs.now i) n }
@@ -58,23 +65,27 @@ pub fn pass_rank(
     n: u32,
     r: Rank,
     v: Rank,
-    fronts: &mut Fronts,
-    rows: &mut Rows,
+    cursor: &mut [u32],
+    ahead: &mut [u32],
+    ends: &[u32],
+    ups: &mut [TimeWord],
+    downs: &mut [TimeWord],
+    touched: &mut [u32],
 ) -> u32
-    requires { ((w : Weights) × StageIn w n r.0 v.0 records.pairs.now records.times.now fronts.old rows.old)
-        × (v.0 < r.0) × (get_or fronts.old.ahead v.0 0 ≡ r.0) }
-    ensures ahead { result ≡ get_or fronts.new.ahead v.0 0 }
-    ensures passed { (w : Weights) → StageIn w n r.0 v.0 records.entry.pairs.now records.entry.times.now fronts.old rows.old
-        → StageIn w n r.0 (v.0 + 1) records.entry.pairs.now records.entry.times.now fronts.new rows.new }
-    ensures steady { Steady fronts.old fronts.new }
+    requires { ((w : Weights) × Stage w n r.0 v.0 records.pairs.now records.times.now cursor.old ahead.old ends.now
+        ups.old downs.old touched.old) × (v.0 < r.0) × (get_or ahead.old v.0 0 ≡ r.0) }
+    ensures ahead { result ≡ get_or ahead.new v.0 0 }
+    ensures passed { (w : Weights) → Stage w n r.0 v.0 records.entry.pairs.now records.entry.times.now cursor.old ahead.old ends.now
+        ups.old downs.old touched.old → Stage w n r.0 (v.0 + 1) records.entry.pairs.now records.entry.times.now cursor.new ahead.new
+        ends.now ups.new downs.new touched.new }
 {
     let k = v.0 as usize;
-    let i = fronts.cursor[k];
-    let end = fronts.ends[k];
-    relax_over(records, i, end, rows);
+    let i = cursor[k];
+    let end = ends[k];
+    relax_over(records, i, end, ups, downs, touched);
     let high = ahead_at(records, i + 1, end, n);
-    fronts.cursor[k] = i + 1;
-    fronts.ahead[k] = high;
+    cursor[k] = i + 1;
+    ahead[k] = high;
     high
 }
 

@@ -9,7 +9,7 @@ ghost use Rattle.pairs_records.specs.Words.{Starts, answer, below_in, down_in, h
 
 use network::{RECORD, Rank, Time, TimeWord};
 
-// ---- record i
+// ---- record i (that it is inside is a fact of it and of the areas, which no type of one has: each function asks it)
 
 // Where its high and its down time stand; its low and its up time are the first words that it has in their areas.
 const SECOND: usize = 1;
@@ -103,8 +103,8 @@ pub struct Record {
     pub down: Time,
 }
 
-// Writes the two words that record i has in an area.
-fn put_two<T: Copy>(area: &mut [T], i: u32, first: T, second: T)
+// Writes the two words that record i has in an area: of ranks or of times, alone, without the other area.
+pub fn put_two<T: Copy>(area: &mut [T], i: u32, first: T, second: T)
     requires { record_size * i + record_size ≤ length area.old }
     ensures { area.new ≡ with_record area.old i first second }
 {

@@ -13,7 +13,8 @@ pub const BLOCK: u32 = 32;
 
 pub const BLOCKS: usize = JUNCTIONS / (BLOCK as usize);
 
-// The two rows of times of a rank, upwards and downwards, and the marks of their blocks.
+// The two rows of times of a rank, upwards and downwards, and the marks of their blocks, words 0 or 1. (Arrays side by side: fixed memory,
+// of which a loop reads one or two.)
 #[derive(Drop)]
 pub struct Rows {
     pub ups: [TimeWord; JUNCTIONS],
@@ -27,8 +28,16 @@ impl Rows {
         requires { h < JUNCTIONS }
         ensures { self.new ≡ record self.old { touched = set self.old.touched (h / block) 1 } }
     {
-        self.touched[h / (BLOCK as usize)] = 1;
+        mark(&mut self.touched, h);
     }
+}
+
+// The block of rank h is touched, of marks of any length.
+pub fn mark(touched: &mut [u32], h: usize)
+    requires { h < block * length touched.old }
+    ensures { touched.new ≡ set touched.old (h / block) 1 }
+{
+    touched[h / (BLOCK as usize)] = 1;
 }
 
 // The entry of rank h of a row, upwards or downwards, is relaxed by a time.

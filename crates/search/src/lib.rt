@@ -26,7 +26,8 @@ const LARGE: usize = WORDS * 2560;
 
 const LARGEST: usize = WORDS * JUNCTIONS;
 
-// The answer of a search: the total, the number of logged junctions (document 01: count), and of the route's roads.
+// The answer of a search: the total, the number of logged junctions (document 01: count), and of the route's roads, 0 without a total (a
+// number beside it and not in it, as the words of an answer have them).
 #[derive(Clone, Copy)]
 pub struct Searched {
     pub total: Option<TimeWord>,
@@ -62,7 +63,7 @@ fn search_in(
             roads: 0,
         };
     }
-    let roads = way_back(trip, atlas, room, route);
+    let roads = way_back(trip, atlas, room.words, route);
     Searched {
         total: Some(total.0),
         count: logged.count,
@@ -145,7 +146,7 @@ pub fn totals(
 ) -> TwoTotals
     requires { LendsBoth (given trip atlas.now) by_tail.leaving.now by_tail.groups.now
         trip.start.0 trip.target.0 estimates.old work.old }
-    ensures { FindsBoth (given trip atlas.now) (met (seen_by trip view) atlas.now.access.now atlas.now.live.now)
+    ensures { FindsBoth (given trip atlas.now) (met (seen_by trip view) atlas.now.ways.access.now atlas.now.ways.live.now)
         by_tail.entry.leaving.now by_tail.entry.groups.now
         trip.start.0 trip.target.0 estimates.old estimates.new (total_in result.present) (total_in result.new) }
 {

@@ -11,8 +11,8 @@ use Rattle.model.specs.Go.{live_of}
 use Rattle.network.specs.declared.Sizes.{Sizes}
 use Rattle.search_labels.specs.Labelling.{Ordered, labels_in}
 use Rattle.search_labels.specs.Labelled.{Labels, Searchable}
-use Rattle.search_junctions.specs.declared.Atlas.{Atlas}
 use Rattle.search_junctions.specs.declared.Trip.{Trip}
+use Rattle.search_junctions.specs.declared.Ways.{Ways}
 use Rattle.search_junctions.specs.Views.{met}
 use Rattle.search_junctions.specs.Groups.{IsGroup}
 
@@ -23,8 +23,8 @@ pub record Read : Type 0 where
   pub live : List ℕ
   pub estimates : List ℕ
 
-abbrev pub read_of : Trip → Atlas → (estimates : List ℕ) → Read
-read_of t a e = record { sizes = t.sizes; roads = a.roads.now; live = met t a.access.now a.live.now; estimates = e }
+abbrev pub read_of : Trip → Ways → (estimates : List ℕ) → Read
+read_of t w e = record { sizes = t.sizes; roads = w.roads.now; live = met t w.access.now w.live.now; estimates = e }
 
 -- lengths of what is read
 pub record ReadIn (r : Read) : Type 0 where

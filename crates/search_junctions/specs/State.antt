@@ -32,7 +32,8 @@ given_of n a b c d t e f = record { sizes = n; roads = a; order = b; ranks = c; 
 -- the same of what is lent to a trip, at the times that it goes by
 abbrev pub given : Trip → Atlas → Given
 given t a =
-    given_of t.sizes a.roads.now a.order.now a.ranks.now a.records.pairs.now a.records.times.now (met t a.access.now a.live.now) a.down.now
+    given_of t.sizes a.ways.roads.now a.order.now a.ranks.now a.records.pairs.now a.records.times.now
+    (met t a.ways.access.now a.ways.live.now) a.down.now
 
 -- the map that the bodies hold, and document 01's search on it
 abbrev pub map_given : Given → Map

@@ -22,7 +22,16 @@ use search_queue::Room;
 
 // ---- the roads of a junction
 
-// The roads by the junction that they leave, and where the group of each junction starts (document 02, A1).
+// The group that starts at a, up to b: what lies of it within the area.
+pub fn group_at(leaving: &[u32], a: u32, b: u32) -> &[u32]
+    ensures { result.now ≡ part_of leaving.now a b }
+{
+    let end = leaving.len().min(b as usize);
+    let start = end.min(a as usize);
+    &leaving[start..end]
+}
+
+// The roads by the junction that they leave, and where the group of each junction starts (document 02, A1): two areas, as C lends them.
 #[derive(Clone, Copy)]
 pub struct ByTail<'a> {
     pub leaving: &'a [u32],
@@ -30,31 +39,37 @@ pub struct ByTail<'a> {
 }
 
 impl<'a> ByTail<'a> {
-    // The group of junction v, from its start up to the next: what lies of it within the area.
+    // The group of junction v, from its start up to the next.
     pub fn group(self, v: u32) -> &'a [u32]
         requires { v + 1 < length self.groups.now }
         ensures { result.now ≡ part_of self.entry.leaving.now (get_or self.entry.groups.now v 0) (get_or self.entry.groups.now (v + 1) 0) }
     {
-        let a = self.groups[v as usize];
-        let b = self.groups[v as usize + 1];
-        let end = self.leaving.len().min(b as usize);
-        let start = end.min(a as usize);
-        &self.leaving[start..end]
+        group_at(
+            self.leaving,
+            self.groups[v as usize],
+            self.groups[v as usize + 1],
+        )
     }
 }
 
 // ---- a trip
 
-// What a trip reads and does not alter: the map's two bodies, the bytes of its roads, what preparing made of them but for the roads by
-// tail, the live times, and the down totals of the target.
+// What relaxing reads of the map: its roads, their bytes, and their live times. It knows no pairs.
+#[derive(Clone, Copy)]
+pub struct Ways<'a> {
+    pub roads: &'a [u8],
+    pub access: &'a [u8],
+    pub live: &'a [TimeWord],
+}
+
+// What a trip reads and does not alter: the map's two bodies, the bytes of its roads and the live times, what preparing made of them but
+// for the roads by tail, and the down totals of the target.
 #[derive(Clone, Copy)]
 pub struct Atlas<'a> {
-    pub roads: &'a [u8],
+    pub ways: Ways<'a>,
     pub order: &'a [u8],
-    pub access: &'a [u8],
     pub ranks: &'a [u32],
     pub records: Records<'a>,
-    pub live: &'a [TimeWord],
     pub down: &'a [TimeWord],
 }
 
@@ -92,12 +107,12 @@ pub struct Trip {
 
 impl Trip {
     // The time of a road in force for the trip: a road that is barred to its class counts as closed.
-    fn time_of(self, atlas: &Atlas, i: u32) -> Time
-        requires { i < length (met self atlas.now.access.now atlas.now.live.now) }
-        ensures { result.0 ≡ get_or (met self atlas.now.access.now atlas.now.live.now) i 0 }
+    fn time_of(self, ways: &Ways, i: u32) -> Time
+        requires { i < length (met self ways.now.access.now ways.now.live.now) }
+        ensures { result.0 ≡ get_or (met self ways.now.access.now ways.now.live.now) i 0 }
     {
-        if admits(atlas.access, self.class, i as usize) {
-            self.view.time_of(atlas.live, i)
+        if admits(ways.access, self.class, i as usize) {
+            self.view.time_of(ways.live, i)
         } else {
             Time::CLOSED
         }
@@ -126,13 +141,13 @@ impl Trip {
 // Asks the estimate of the head of road i, if the road is open. Most are known, and need no call.
 fn ask_head(trip: Trip, atlas: &Atlas, estimates: &mut [TimeWord], i: u32)
     requires { (i < trip.sizes.m) × EstimatesIn (given trip atlas.now) estimates.old }
-    ensures { Asks (given trip atlas.now) (word_at atlas.now.roads.now (road_size * i)) i (i + 1) estimates.old estimates.new }
+    ensures { Asks (given trip atlas.now) (word_at atlas.now.ways.roads.now (road_size * i)) i (i + 1) estimates.old estimates.new }
 {
-    let time = trip.time_of(atlas, i);
+    let time = trip.time_of(&atlas.ways, i);
     if time.is_closed() {
         return;
     }
-    let head = head_of(atlas.roads, i as usize);
+    let head = head_of(atlas.ways.roads, i as usize);
     if trip.sizes.n <= head.0 {
         return;
     }
@@ -144,24 +159,17 @@ fn ask_head(trip: Trip, atlas: &Atlas, estimates: &mut [TimeWord], i: u32)
 }
 
 // Relaxes road i, whose tail has the time `from`: if it is open, it offers its head a time.
-fn relax_road(
-    trip: Trip,
-    atlas: &Atlas,
-    estimates: &[TimeWord],
-    room: &mut Room,
-    i: u32,
-    from: Time,
-)
-    requires { (i < trip.sizes.m) × ReadIn (read_of trip atlas.now estimates.now) × RoomOf trip.sizes.n room.old }
-    ensures relaxed { Relaxes (read_of trip atlas.now estimates.now) (word_at atlas.now.roads.now (road_size * i)) from.0 i (i + 1)
+fn relax_road(trip: Trip, ways: &Ways, estimates: &[TimeWord], room: &mut Room, i: u32, from: Time)
+    requires { (i < trip.sizes.m) × ReadIn (read_of trip ways.now estimates.now) × RoomOf trip.sizes.n room.old }
+    ensures relaxed { Relaxes (read_of trip ways.now estimates.now) (word_at ways.now.roads.now (road_size * i)) from.0 i (i + 1)
         room.old.words.now room.new.words.now }
     ensures same { SameRoom room.old room.new }
 {
-    let cost = trip.time_of(atlas, i);
+    let cost = trip.time_of(ways, i);
     if cost.is_closed() {
         return;
     }
-    let head = head_of(atlas.roads, i as usize);
+    let head = head_of(ways.roads, i as usize);
     if trip.sizes.n <= head.0 {
         return;
     }
@@ -205,19 +213,19 @@ impl Trip {
     // Relaxes the group of roads of a logged junction, whose time is `from`; the estimates of their heads have been asked.
     pub fn relax(
         self,
-        atlas: &Atlas,
+        ways: &Ways,
         estimates: &[TimeWord],
         room: &mut Room,
         group: &[u32],
         from: Time,
     )
-        requires { ReadIn (read_of self atlas.now estimates.now) × RoomOf self.sizes.n room.old }
-        ensures relaxed { RelaxesGroup (read_of self atlas.now estimates.now) group.now from.0 room.old.words.now room.new.words.now }
+        requires { ReadIn (read_of self ways.now estimates.now) × RoomOf self.sizes.n room.old }
+        ensures relaxed { RelaxesGroup (read_of self ways.now estimates.now) group.now from.0 room.old.words.now room.new.words.now }
         ensures same { SameRoom room.old room.new }
     {
         for &road in group {
             if road < self.sizes.m {
-                relax_road(self, atlas, estimates, room, road, from);
+                relax_road(self, ways, estimates, room, road, from);
             }
         }
     }
@@ -234,17 +242,17 @@ impl Trip {
 
 impl Trip {
     // The tail of the road that gave v its time, or v where there is none such.
-    pub fn step_back(self, atlas: &Atlas, room: &Room, v: u32) -> u32
-        requires { (v < self.sizes.n) × (room.now.n ≡ self.sizes.n)
-            × (road_size * self.sizes.m ≤ length atlas.now.roads.now) }
-        ensures { (result ≡ step_back atlas.now.roads.now (labels_in self.sizes.n room.now.words.now).vias self.sizes.n self.sizes.m v)
+    pub fn step_back(self, atlas: &Atlas, words: &[u64], v: u32) -> u32
+        requires { (v < self.sizes.n) × (3 * self.sizes.n ≤ length words.now)
+            × (road_size * self.sizes.m ≤ length atlas.now.ways.roads.now) }
+        ensures { (result ≡ step_back atlas.now.ways.roads.now (labels_in self.sizes.n words.now).vias self.sizes.n self.sizes.m v)
             × (result < self.sizes.n) }
     {
-        let i = via_of(room, v);
+        let i = via_of(words, self.sizes.n, v);
         if self.sizes.m <= i {
             return v;
         }
-        let tail = tail_of(atlas.roads, i as usize).0;
+        let tail = tail_of(atlas.ways.roads, i as usize).0;
         if tail < self.sizes.n { tail } else { v }
     }
 }

@@ -3,31 +3,40 @@
 // the arc.
 #![tactic(auto)]
 
-ghost use Rattle.std.specs.Prelude.{◌≡◌, ◌<◌, length};
+ghost use Rattle.std.specs.Prelude.{◌≡◌, ◌*◌, ◌<◌, ◌≤◌, length};
 ghost use Rattle.search_queue.specs.Order.{most_nodes};
 ghost use Rattle.search_labels.specs.Labelling.{Fits, Improved, Ordered, Taken, labels_in};
 
 use network::Time;
 use search_queue::{Room, SETTLED, lower_of, upper_of, word_of};
 
-// ---- the words of a node
+// ---- the words of a node, for who holds the words to read them alone (that it is one of n, and that there are three words for each, are
+// facts of them together, which no type of one has: each function asks them)
 
 // The time of v, a candidate or a logged node.
-pub fn time_of(room: &Room, v: u32) -> Time
-    requires { v < room.now.n }
-    ensures { result.0 ≡ (labels_in room.now.n room.now.words.now).times v }
+pub fn time_of(words: &[u64], n: u32, v: u32) -> Time
+    requires { (v < n) × (3 * n ≤ length words.now) }
+    ensures { result.0 ≡ (labels_in n words.now).times v }
 {
-    let at = 2 * (room.n as usize) + v as usize;
-    Time(upper_of(room.words[at]))
+    let at = 2 * (n as usize) + v as usize;
+    Time(upper_of(words[at]))
 }
 
 // The arc that gave v its time.
-pub fn via_of(room: &Room, v: u32) -> u32
-    requires { v < room.now.n }
-    ensures { result ≡ (labels_in room.now.n room.now.words.now).vias v }
+pub fn via_of(words: &[u64], n: u32, v: u32) -> u32
+    requires { (v < n) × (3 * n ≤ length words.now) }
+    ensures { result ≡ (labels_in n words.now).vias v }
 {
-    let at = 2 * (room.n as usize) + v as usize;
-    lower_of(room.words[at])
+    let at = 2 * (n as usize) + v as usize;
+    lower_of(words[at])
+}
+
+// The same time in a room, which is then still known to be the same room.
+pub fn room_time(room: &Room, v: u32) -> Time
+    requires { v < room.now.n }
+    ensures { result.0 ≡ (labels_in room.now.n room.now.words.now).times v }
+{
+    time_of(room.words, room.n, v)
 }
 
 // ---- a label

@@ -87,7 +87,8 @@ impl Room<'_> {
         upper_of(self.words[at])
     }
 
-    // Of the words of two candidates with one key, the one that comes first: by the smaller time, then by the smaller number.
+    // Of the words of two candidates with one key, the one that comes first: by the smaller time, then by the smaller number. (An order
+    // of tuples would tell which is less, and the word itself is wanted.)
     fn better_tied(&self, x: u64, y: u64) -> u64
         requires { (x % most_nodes < self.now.n) × (y % most_nodes < self.now.n) }
         ensures { x / most_nodes ≡ y / most_nodes → x / key_unit < settled_key

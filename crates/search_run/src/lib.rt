@@ -13,7 +13,7 @@ ghost use Rattle.search_run.specs.Runs.{Advances, LendsRoom, back_in, written};
 
 use network::{Time, TimeWord};
 use search_junctions::{Atlas, ByTail, Trip};
-use search_labels::{time_of, via_of};
+use search_labels::{room_time, via_of};
 use search_queue::{Room, SETTLED};
 
 // How many nodes are logged (document 01: count), and whether the log is complete.
@@ -55,7 +55,7 @@ pub fn advance(
         }
         log[count as usize] = v;
         count += 1;
-        let from = time_of(room, v);
+        let from = room_time(room, v);
         elapsed[v as usize] = from.0;
         room.put(v, SETTLED);
         if trip.is_goal(v) {
@@ -63,7 +63,7 @@ pub fn advance(
         } else {
             let group = by_tail.group(v);
             trip.ask(atlas, estimates, group);
-            trip.relax(atlas, estimates, room, group, from);
+            trip.relax(&atlas.ways, estimates, room, group, from);
             next = room.choose();
         }
     }
@@ -73,14 +73,14 @@ pub fn advance(
     }
 }
 
-// ---- the way back
+// ---- the way back (what is asked is of trip, atlas and words together, which search keeps apart: no type of one has it)
 
 // How many arcs lead from where the way begins to its end.
-fn arcs_back(trip: Trip, atlas: &Atlas, room: &Room) -> u32
-    requires { (trip.target.0 < trip.sizes.n) × (room.now.n ≡ trip.sizes.n)
-        × (road_size * trip.sizes.m ≤ length atlas.now.roads.now) }
+fn arcs_back(trip: Trip, atlas: &Atlas, words: &[u64]) -> u32
+    requires { (trip.target.0 < trip.sizes.n) × (3 * trip.sizes.n ≤ length words.now)
+        × (road_size * trip.sizes.m ≤ length atlas.now.ways.roads.now) }
     ensures { (result ≡ arcs_back (λ u. eqb u trip.start.0)
-        (back_in atlas.now.roads.now room.now.words.now trip.sizes.n trip.sizes.m) trip.sizes.n trip.target.0)
+        (back_in atlas.now.ways.roads.now words.now trip.sizes.n trip.sizes.m) trip.sizes.n trip.target.0)
         × (result ≤ trip.sizes.n) }
 {
     let n = trip.sizes.n;
@@ -89,35 +89,35 @@ fn arcs_back(trip: Trip, atlas: &Atlas, room: &Room) -> u32
         if u == trip.start.0 {
             return k;
         }
-        u = trip.step_back(atlas, room, u);
+        u = trip.step_back(atlas, words, u);
     }
     n
 }
 
 // Writes the k arcs that lead to the end, back to front.
-fn write_back(trip: Trip, atlas: &Atlas, room: &Room, k: u32, route: &mut [u32])
-    requires { (trip.target.0 < trip.sizes.n) × (room.now.n ≡ trip.sizes.n)
-        × (road_size * trip.sizes.m ≤ length atlas.now.roads.now) × (k ≤ length route.old) }
-    ensures { route.new ≡ first (way_of (labels_in trip.sizes.n room.now.words.now).vias
-        (back_in atlas.now.roads.now room.now.words.now trip.sizes.n trip.sizes.m) k trip.target.0) route.old }
+fn write_back(trip: Trip, atlas: &Atlas, words: &[u64], k: u32, route: &mut [u32])
+    requires { (trip.target.0 < trip.sizes.n) × (3 * trip.sizes.n ≤ length words.now)
+        × (road_size * trip.sizes.m ≤ length atlas.now.ways.roads.now) × (k ≤ length route.old) }
+    ensures { route.new ≡ first (way_of (labels_in trip.sizes.n words.now).vias
+        (back_in atlas.now.ways.roads.now words.now trip.sizes.n trip.sizes.m) k trip.target.0) route.old }
 {
     let mut u = trip.target.0;
     for j in (0..k as usize).rev() {
-        route[j] = via_of(room, u);
-        u = trip.step_back(atlas, room, u);
+        route[j] = via_of(words, trip.sizes.n, u);
+        u = trip.step_back(atlas, words, u);
     }
 }
 
 // The route from the trip's start to its target, forwards, first in the part lent; answered with its number of arcs.
-pub fn way_back(trip: Trip, atlas: &Atlas, room: &Room, route: &mut [u32]) -> u32
-    requires { (trip.target.0 < trip.sizes.n) × (room.now.n ≡ trip.sizes.n)
-        × (road_size * trip.sizes.m ≤ length atlas.now.roads.now) × (trip.sizes.n ≤ length route.old) }
+pub fn way_back(trip: Trip, atlas: &Atlas, words: &[u64], route: &mut [u32]) -> u32
+    requires { (trip.target.0 < trip.sizes.n) × (3 * trip.sizes.n ≤ length words.now)
+        × (road_size * trip.sizes.m ≤ length atlas.now.ways.roads.now) × (trip.sizes.n ≤ length route.old) }
     ensures { (result ≡ arcs_back (λ u. eqb u trip.start.0)
-        (back_in atlas.now.roads.now room.now.words.now trip.sizes.n trip.sizes.m) trip.sizes.n trip.target.0)
-        × (route.new ≡ first (way_of (labels_in trip.sizes.n room.now.words.now).vias
-        (back_in atlas.now.roads.now room.now.words.now trip.sizes.n trip.sizes.m) result trip.target.0) route.old) }
+        (back_in atlas.now.ways.roads.now words.now trip.sizes.n trip.sizes.m) trip.sizes.n trip.target.0)
+        × (route.new ≡ first (way_of (labels_in trip.sizes.n words.now).vias
+        (back_in atlas.now.ways.roads.now words.now trip.sizes.n trip.sizes.m) result trip.target.0) route.old) }
 {
-    let k = arcs_back(trip, atlas, room);
-    write_back(trip, atlas, room, k, route);
+    let k = arcs_back(trip, atlas, words);
+    write_back(trip, atlas, words, k, route);
     k
 }

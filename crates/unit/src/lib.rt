@@ -35,6 +35,8 @@ pub struct Stopped {
 }
 
 impl Header {
+    // (The areas that calls alter are lent one by one: each call is lent to be written just what it writes.)
+
     // Sets a road's live time, from its base time to 10,000,000, or closed.
     pub fn set(
         self,
@@ -110,7 +112,7 @@ impl Header {
         let answer = call_estimate::estimate(self.sizes, self.target, p, l, down, estimates, j);
         Answered {
             header: self,
-            answer: answer,
+            answer,
         }
     }
 
@@ -146,7 +148,7 @@ impl Header {
         );
         Answered {
             header: self,
-            answer: answer,
+            answer,
         }
     }
 
@@ -184,7 +186,7 @@ impl Header {
         );
         Answered {
             header: self,
-            answer: answer,
+            answer,
         }
     }
 
@@ -229,7 +231,7 @@ impl Header {
     }
 }
 
-// Any of document 01's four calls. Route and log are go's; the others leave them as they are.
+// Any of document 01's four calls, and so lent what any of them writes. Route and log are go's; the others leave them as they are.
 pub fn call(
     header: Header,
     p: Prepared,

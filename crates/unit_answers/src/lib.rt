@@ -19,7 +19,7 @@ pub enum Call {
 }
 
 // What a call answers that no question refuses. `Gone` has total, count and number of roads; `Previewed` present total, new total and
-// change.
+// change. (An estimate is a Time: with its marks, which are words of C's areas, it is handed on as it is kept.)
 #[derive(Clone, Copy, Debug, PartialEq, Eq)]
 pub enum Answer {
     Accepted,

@@ -30,6 +30,7 @@ pub struct Lengths {
 }
 
 // The card, and the areas that preparing makes and no call alters.
+// (Five areas side by side, as C lends them.)
 #[derive(Clone, Copy)]
 pub struct Prepared<'a> {
     pub card: &'a [u8],
@@ -51,21 +52,21 @@ impl<'a> Prepared<'a> {
     ) -> Lengths
         ensures { lengths_in result ≡ lengths (areas_with self live down estimates elapsed).entry }
     {
-        Lengths {
-            ranks: self.ranks.len(),
-            pairs: self.pairs.len(),
-            times: self.times.len(),
-            live: live.len(),
-            down: down.len(),
-            estimates: estimates.len(),
-            elapsed: elapsed.len(),
-            leaving: self.leaving.len(),
-            groups: self.groups.len(),
-        }
+        lengths_of(
+            self.ranks,
+            self.pairs,
+            self.times,
+            live,
+            down,
+            estimates,
+            elapsed,
+            self.leaving,
+            self.groups,
+        )
     }
 }
 
-// The lengths of the areas that are lent.
+// The lengths of the areas that are lent, one by one, as C lends them to preparing.
 pub fn lengths_of(
     ranks: &[u32],
     pairs: &[u32],

@@ -69,7 +69,7 @@ enum Kind {
 }
 
 impl Kind {
-    // The kind of a number, if it has one.
+    // The kind of a number, if it has one. (No TryFrom: nobody asks why a number has none.)
     fn of_word(number: u32) -> Option<Kind>
         ensures { result ≡ kind_of number }
     {
@@ -105,8 +105,8 @@ fn lending(call: Call, route: usize, log: usize) -> Scripted
 {
     Scripted {
         asked: Asked::Four(call),
-        route: route,
-        log: log,
+        route,
+        log,
     }
 }
 
@@ -117,7 +117,7 @@ fn time_of(lower: u32, upper: u32) -> Time
     Time(lower as TimeWord + WORD * (upper as TimeWord))
 }
 
-// ---- at a place of a script
+// ---- at a place of a script (that it is within is a fact of both, which no type of one has: each function asks it)
 
 // Word i from a place on, 0 past the end.
 fn word_at(script: &[u32], at: usize, i: usize) -> u32
@@ -169,8 +169,8 @@ fn call_at(script: &[u32], at: usize, kind: Kind, route: usize, log: usize) -> S
         Kind::Go => lending(Call::Go(one, Junction(two)), roads, logged),
         Kind::Preview => Scripted {
             asked: Asked::Preview(one, two, time_of(three, four), Junction(five)),
-            route: route,
-            log: log,
+            route,
+            log,
         },
         Kind::Stops => Scripted {
             asked: Asked::Stops(one),
@@ -238,8 +238,8 @@ fn four(header: Header, words: [u64; FOUR]) -> Made
     ensures { (header_in result.header ≡ header_in header) × (made_words result ≡ four_of words ++ replicate (2 * most_legs) 0) }
 {
     Made {
-        header: header,
-        words: words,
+        header,
+        words,
         legs: Legs {
             totals: [0; MOST_LEGS],
             roads: [0; MOST_LEGS],
@@ -248,7 +248,7 @@ fn four(header: Header, words: [u64; FOUR]) -> Made
 }
 
 // The words of what a call handed back: the number of the question that refuses, or 0; estimate or total; count; number of roads. Of a
-// preview: 0, present total, new total, change.
+// preview: 0, present total, new total, change. (No From: the next function, of a list of stops, asks something of what it is given.)
 fn of_answered(r: Answered) -> Made
     ensures { (header_in result.header ≡ header_in r.header) × (made_words result ≡ answer_words (answer_in r.answer)) }
 {
@@ -274,7 +274,7 @@ fn of_stopped(r: Stopped) -> Made
     match r.answer {
         Err(q) => four(header, refused(q)),
         Ok(j) => Made {
-            header: header,
+            header,
             words: [0, j.whole, 0, u64::from(j.number)],
             legs: j.legs,
         },

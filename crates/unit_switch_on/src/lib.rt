@@ -29,8 +29,8 @@ fn ask(card: &[u8], l: Lengths) -> Result<Sizes, Refusal>
 {
     let (n, m) = card::read(card)?;
     let s = Sizes {
-        n: n,
-        m: m,
+        n,
+        m,
         pairs: 0,
         card: card.len() as u32,
     };

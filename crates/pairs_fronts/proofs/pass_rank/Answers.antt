@@ -5,8 +5,8 @@ use Rattle.pairs_fronts.proofs.Passes.{Meeting, meeting, reached, stage-pass}
 use Rattle.pairs_fronts.proofs.pass_rank.Goals as goal
 use Rattle.pairs_fronts.proofs.pass_rank.Goals.{Start}
 
-met : (c : Start) → Meeting c.requires.0.0 c.args.n c.args.r.0 c.args.v.0 (get_or c.args.fronts.now.cursor c.args.v.0 0)
-    (get_or c.args.fronts.now.ends c.args.v.0 0) c.args.records.pairs.now c.args.records.times.now
+met : (c : Start) → Meeting c.requires.0.0 c.args.n c.args.r.0 c.args.v.0 (get_or c.args.cursor.now c.args.v.0 0)
+    (get_or c.args.ends.now c.args.v.0 0) c.args.records.pairs.now c.args.records.times.now
 met c = let ((_, stage), below, at-r) = c.requires in meeting stage below at-r
 
 pub relax_over-requires : goal.relax_over-requires

@@ -1,6 +1,5 @@
 -- The high of record j has its mark, so the turn relaxes both rows by one record more (`going_turn`).
 use mathlib.Core.Path.{◌∙◌, refl}
-use lib.ListN.{length-set}
 use Rattle.pairs_rows.specs.Steps.{by-below, in_blocks, lt_next}
 use Rattle.pairs_fronts.proofs.Passes.{going_end, going_start, going_turn}
 use Rattle.pairs_fronts.proofs.relax_over.Goals as goal
@@ -14,11 +13,11 @@ loop-j-preserved c =
     let inv = c.loop-j.invariant in
     let (_, _, _, reached) = c.requires in
     let marked = in_blocks (by-below c.high-h.ensures (reached.marks_in c.loop-j.j c.loop-j.auto.j in-range)) inv.touched-kept in
-    rw c.mark.ensures (record {
-      touched-kept = length-set c.loop-j.rows.touched _ _ ∙ inv.touched-kept;
+    record {
+      touched-kept = c.mark.auto.touched ∙ inv.touched-kept;
       going = going_turn c.loop-j.auto.j in-range c.high-h.ensures c.up.ensures (rw c.plus.ensures at c.relax_entry.ensures) c.down.ensures
-          (rw c.plus-in-loop-j.ensures at c.relax_entry-in-loop-j.ensures) marked refl inv.going;
-    })
+          (rw c.plus-in-loop-j.ensures at c.relax_entry-in-loop-j.ensures) marked c.mark.ensures inv.going;
+    }
 
 pub returns : goal.returns
 returns c =

@@ -3,15 +3,15 @@ use mathlib.Core.Path.{◌≡◌}
 use mathlib.Core.List.{List}
 use Prim.Native.Nat.{◌+◌, ℕ}
 use lib.ListN.{length}
-use Rattle.pairs_rows.specs.declared.Rows.{Rows}
 use Rattle.pairs_fronts.proofs.Passes.{Going}
 use Rattle.pairs_fronts.proofs.relax_over.Given as goal
 
 -- the records after i and before j have relaxed the rows
-pub record RelaxingOver (pairs times : List ℕ) (i end down up : ℕ) (t₀ t : Rows) (j : ℕ) : Type 0 where
-  pub touched-kept : length t.touched ≡ length t₀.touched
-  pub going : Going pairs times (i + 1) end down up j t₀.ups t₀.downs t₀.touched t.ups t.downs t.touched
+pub record RelaxingOver (pairs times : List ℕ) (i end down up : ℕ) (ups₀ downs₀ touched₀ ups downs touched : List ℕ) (j : ℕ) : Type 0 where
+  pub touched-kept : length touched ≡ length touched₀
+  pub going : Going pairs times (i + 1) end down up j ups₀ downs₀ touched₀ ups downs touched
 
 abbrev pub invariant-loop-j : goal.invariant-loop-j
 invariant-loop-j l =
-    RelaxingOver l.records.pairs.now l.records.times.now l.i l.end l.down.0 l.up.0 l.initial.rows l.rows l.j
+    RelaxingOver l.records.pairs.now l.records.times.now l.i l.end l.down.0 l.up.0 l.initial.ups l.initial.downs l.initial.touched
+    l.ups l.downs l.touched l.j

@@ -13,19 +13,13 @@ loop-v-preserved c =
     elim c.if-high-r.branch [
       | then-high-r w ↦
           let passed = w.pass_rank-next.ensures in
-          rw (w.fronts-is, w.rows-is) (record {
-            scanned = λ u s. scanned_pass (inv.scanned u s) below-r (w.next-is ∙ passed.ahead) c.min-bound.ensures
-                (passed.passed u (inv.scanned u s).stage);
-            steady = record { ends = passed.steady.ends ∙ inv.steady.ends; soon = passed.steady.soon ∙ inv.steady.soon };
-          })
+          rw (w.cursor-is, w.ahead-is, w.ups-is, w.downs-is, w.touched-is) (λ u s.
+          scanned_pass (inv u s) below-r (w.next-is ∙ passed.ahead) c.min-bound.ensures (passed.passed u (inv u s).stage))
       | else-high-r w ↦
-          rw (w.fronts-is, w.rows-is) (record {
-            scanned = λ u s. scanned_skip (inv.scanned u s) below-r w.next-is (λ q. w.if-high-r.false (sym w.next-is ∙ q))
-                c.min-bound.ensures;
-            steady = inv.steady;
-          })
+          rw (w.cursor-is, w.ahead-is, w.ups-is, w.downs-is, w.touched-is) (λ u s.
+          scanned_skip (inv u s) below-r w.next-is (λ q. w.if-high-r.false (sym w.next-is ∙ q)) c.min-bound.ensures)
     ]
 
-pub returns-clause-scanned : goal.returns-clause-scanned
-returns-clause-scanned c =
-    λ w s. scanned_end (c.loop-v.auto.v-end c.requires.1) c.loop-v-test.false (c.loop-v.invariant.scanned w s)
+pub returns : goal.returns
+returns c =
+    λ w s. scanned_end (c.loop-v.auto.v-end c.requires.1) c.loop-v-test.false (c.loop-v.invariant w s)

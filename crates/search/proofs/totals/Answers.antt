@@ -8,7 +8,7 @@ use Rattle.search.proofs.totals.Goals as goal
 pub search-present-requires : goal.search-present-requires
 search-present-requires c =
     let a = c.args in
-    let live = met a.trip a.atlas.now.access.now a.atlas.now.live.now in
+    let live = met a.trip a.atlas.now.ways.access.now a.atlas.now.ways.live.now in
     record {
       within = within-again c.requires.within live refl refl (first_half a.work.now c.requires.work-is);
       ways-long = long_enough c.requires.within refl;
@@ -21,8 +21,8 @@ search-new-requires c =
     let a = c.args in
     let kept = c.search-present.auto in
     record {
-      within = within-again c.requires.within (met (seen_by a.trip a.view) a.atlas.now.access.now a.atlas.now.live.now)
-          (views_long a.trip a.view a.atlas.now.access.now a.atlas.now.live.now) kept.estimates
+      within = within-again c.requires.within (met (seen_by a.trip a.view) a.atlas.now.ways.access.now a.atlas.now.ways.live.now)
+          (views_long a.trip a.view a.atlas.now.ways.access.now a.atlas.now.ways.live.now) kept.estimates
           (second_half a.work.now c.requires.work-is c.search-present.new.elapsed kept.elapsed);
       ways-long = long_enough c.requires.within kept.route;
       log-long = long_enough c.requires.within kept.log;

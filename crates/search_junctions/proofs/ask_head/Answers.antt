@@ -11,8 +11,8 @@ use Rattle.search_junctions.proofs.ask_head.Goals.{Else-trip-head}
 
 -- the road, once its words are read
 open-road : (c : Else-trip-head) → let args = c.args in
-    let atlas = args.atlas.now in
-    OpenRoad args.trip.sizes atlas.roads.now (met args.trip atlas.access.now atlas.live.now) args.i
+    let ways = args.atlas.now.ways in
+    OpenRoad args.trip.sizes ways.roads.now (met args.trip ways.access.now ways.live.now) args.i
     c.time_of-time.result.0
     c.head_of-head.result.0
 open-road c = record {

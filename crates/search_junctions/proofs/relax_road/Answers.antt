@@ -20,8 +20,8 @@ returns-then-trip-head-clause-relaxed c =
 pub returns-clause-relaxed : goal.returns-clause-relaxed
 returns-clause-relaxed c =
     let args = c.args in
-    let atlas = args.atlas.now in
-    let open-road : OpenRoad args.trip.sizes atlas.roads.now (met args.trip atlas.access.now atlas.live.now) args.i
+    let ways = args.ways.now in
+    let open-road : OpenRoad args.trip.sizes ways.roads.now (met args.trip ways.access.now ways.live.now) args.i
     c.time_of-cost.result.0
     c.head_of-head.result.0 = record {
       road_in = c.requires.0;

@@ -52,7 +52,7 @@ loop-next-preserved-then-is_goal c =
     let put = c.put.ensures in (
       same_then same put.n_is put.long put.lent,
       tt,
-      running_goal (rw c.in-Some.is at running) turn (rw n_is at c.time_of-from.ensures)
+      running_goal (rw c.in-Some.is at running) turn (rw n_is at c.room_time-from.ensures)
           (rw (put.n_is ∙ n_is) at c.put.new.self.sized) (rw n_is at put.put) (sym c.is_goal.ensures ∙ c.if-is_goal.true),
     )
 
@@ -86,7 +86,7 @@ loop-next-preserved c =
     let settled = put.n_is ∙ n_is in
     let right = c.relax.ensures.relaxed.room in
     let picks = rw (c.relax.ensures.same.n-is ∙ settled) at c.choose-next-else-is_goal.ensures in
-    let from_is = rw n_is at c.time_of-from.ensures in (
+    let from_is = rw n_is at c.room_time-from.ensures in (
       same_trans (same_then same put.n_is put.long put.lent) c.relax.ensures.same,
       picks.inside (order_of c.args.trip.sizes.n c.relax.new.room.words.now) (omega (arith, lv)) right.n-high right.right,
       running_on (rw c.in-Some.is at running) turn from_is (rw settled at c.put.new.self.sized) (rw n_is at put.put)

@@ -7,4 +7,4 @@ use Rattle.search_run.proofs.arcs_back.Given as goal
 
 abbrev pub invariant-loop-k : goal.invariant-loop-k
 invariant-loop-k l =
-    Counting (λ u. eqb u l.trip.start.0) (back_in l.atlas.roads.now l.room.words.now l.n l.trip.sizes.m) l.n l.trip.target.0 l.k l.u
+    Counting (λ u. eqb u l.trip.start.0) (back_in l.atlas.ways.roads.now l.words l.n l.trip.sizes.m) l.n l.trip.target.0 l.k l.u

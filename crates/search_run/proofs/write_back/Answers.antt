@@ -12,7 +12,7 @@ loop-j-init c =
 pub loop-j-preserved : goal.loop-j-preserved
 loop-j-preserved c =
     let (back, inside) = c.step_back-u.ensures in
-    write_turn c.loop-j.invariant (omega arith) (omega arith) (rw c.requires.1 at c.via_of.ensures) back inside
+    write_turn c.loop-j.invariant (omega arith) (omega arith) c.via_of.ensures back inside
 
 pub returns : goal.returns
 returns c =

@@ -7,5 +7,5 @@ use Rattle.search_run.proofs.write_back.Given as goal
 abbrev pub invariant-loop-j : goal.invariant-loop-j
 invariant-loop-j l =
     let z = l.trip.sizes in
-    Writing (labels_in z.n l.room.words.now).vias (back_in l.atlas.roads.now l.room.words.now z.n z.m) z.n l.k l.trip.target.0
+    Writing (labels_in z.n l.words).vias (back_in l.atlas.ways.roads.now l.words z.n z.m) z.n l.k l.trip.target.0
     l.initial.route l.j l.u l.route

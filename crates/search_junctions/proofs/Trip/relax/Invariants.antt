@@ -8,4 +8,4 @@ use Rattle.search_junctions.proofs.Trip.relax.Given as goal
 abbrev pub invariant-loop-road : goal.invariant-loop-road
 invariant-loop-road l =
     SameRoom l.initial.room l.room
-    × Relaxing (read_of l.self l.atlas l.estimates) l.group l.from.0 l.road-index l.initial.room.words.now l.room.words.now
+    × Relaxing (read_of l.self l.ways l.estimates) l.group l.from.0 l.road-index l.initial.room.words.now l.room.words.now

@@ -9,25 +9,22 @@ use Rattle.search_junctions.proofs.Trip.step_back.Goals as goal
 pub returns-then-self-i : goal.returns-then-self-i
 returns-then-self-i c =
     let z = c.args.self.sizes in
-    let vias = (labels_in z.n c.args.room.now.words.now).vias in
-    let i-is = rw c.requires.1 at c.via_of-i.ensures in
-    (step-none c.args.atlas.now.roads.now vias z.n c.args.v i-is c.if-self-i.true, search rules)
+    let vias = (labels_in z.n c.args.words.now).vias in
+    (step-none c.args.atlas.now.ways.roads.now vias z.n c.args.v c.via_of-i.ensures c.if-self-i.true, search rules)
 
 pub returns-then-tail-self : goal.returns-then-tail-self
 returns-then-tail-self c =
     let z = c.args.self.sizes in
-    let vias = (labels_in z.n c.args.room.now.words.now).vias in
-    let i-is = rw c.requires.1 at c.via_of-i.ensures in (
-      step-to c.args.atlas.now.roads.now vias z.n c.args.v i-is (omega arith) c.tail_of-tail.ensures c.if-tail-self.true,
+    let vias = (labels_in z.n c.args.words.now).vias in (
+      step-to c.args.atlas.now.ways.roads.now vias z.n c.args.v c.via_of-i.ensures (omega arith) c.tail_of-tail.ensures c.if-tail-self.true,
       search rules,
     )
 
 pub returns-else-tail-self : goal.returns-else-tail-self
 returns-else-tail-self c =
     let z = c.args.self.sizes in
-    let vias = (labels_in z.n c.args.room.now.words.now).vias in
-    let i-is = rw c.requires.1 at c.via_of-i.ensures in (
-      step_far c.args.atlas.now.roads.now vias z.n c.args.v i-is (omega arith) c.tail_of-tail.ensures
+    let vias = (labels_in z.n c.args.words.now).vias in (
+      step_far c.args.atlas.now.ways.roads.now vias z.n c.args.v c.via_of-i.ensures (omega arith) c.tail_of-tail.ensures
           (omega (arith, c.if-tail-self.false)),
       search rules,
     )

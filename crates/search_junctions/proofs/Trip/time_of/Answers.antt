@@ -4,14 +4,14 @@ use Rattle.search_junctions.proofs.Trip.time_of.Goals as goal
 
 pub time_of-requires : goal.time_of-requires
 time_of-requires c =
-    met_in c.args.self c.args.atlas.now.access.now c.args.atlas.now.live.now c.args.i c.requires
+    met_in c.args.self c.args.ways.now.access.now c.args.ways.now.live.now c.args.i c.requires
 
 pub returns-then-admits : goal.returns-then-admits
 returns-then-admits c =
-    met_let_in c.args.self c.args.atlas.now.access.now c.args.atlas.now.live.now c.args.i c.requires
+    met_let_in c.args.self c.args.ways.now.access.now c.args.ways.now.live.now c.args.i c.requires
     c.admits.ensures c.if-admits.true c.time_of.ensures
 
 pub returns-else-admits : goal.returns-else-admits
 returns-else-admits c =
-    met-barred c.args.self c.args.atlas.now.access.now c.args.atlas.now.live.now c.args.i c.requires
+    met-barred c.args.self c.args.ways.now.access.now c.args.ways.now.live.now c.args.i c.requires
     c.admits.ensures c.if-admits.false
