@@ -50,6 +50,9 @@ LENT = [
      'A1: no list of calls writes the roads by tail, nor any other area that preparing made for good'),
     ('call_set', 'set', 'card', 'live', 'sizes l road time', '01: a set knows one area, the live times'),
     ('call_set', 'time_asked', 'card', '', 'sizes road time', '01: 11 asks the base time, not the live one'),
+    ('call_aim', 'aim', 'card pairs times', 'down estimates', 'sizes target l j', 'DECISIONS: set, aim and estimate are lent only what they read or write'),
+    ('call_estimate', 'estimate', 'card ranks pairs times down', 'estimates', 'sizes target l j',
+     'DECISIONS: set, aim and estimate are lent only what they read or write'),
     ('card', 'write', 'roads order', 'area', '', 'A6: the writer still knows only maps without classes'),
     ('network', 'rank_of', 'ranks', '', 'j', '01: junction number and rank are converted only through the rank area or the order'),
     ('network', 'junction_of', 'order', '', 'r', '01: junction number and rank are converted only through the rank area or the order'),
@@ -264,12 +267,23 @@ def asked(all_functions):
                 yield f'{path(f)} is public and has a `requires`'
 
 
+# They turn a junction into its rank, or the other way; the third asks the second, of a number that may be no rank.
+CONVERTED = 'network::rank_of network::junction_of pairs_descents::junction_in'.split()
+
+
 def converted(all_functions):
-    """Two functions alone take a junction and answer a rank, or the other way."""
+    """These functions alone take a junction and answer a rank, or the other way, be it one that may be absent."""
+    def kind(told):
+        return re.sub(r'^Option<(.*)>$', r'\1', told)
+    found = set()
     for f in all_functions:
         for one, other in (('Junction', 'Rank'), ('Rank', 'Junction')):
-            if one in f.parameters.values() and f.result == other and path(f) not in ('network::rank_of', 'network::junction_of'):
-                yield f'{path(f)} makes a {other} of a {one}; only the rank area and the order may'
+            if one in map(kind, f.parameters.values()) and kind(f.result) == other:
+                found.add(path(f))
+                if path(f) not in CONVERTED:
+                    yield f'{path(f)} makes a {other} of a {one}; only the rank area and the order may'
+    for name in sorted(set(CONVERTED) - found):
+        yield f'{name} makes no rank of a junction, nor the other way'
 
 
 def narrow(all_functions):

@@ -6,8 +6,8 @@ use Rattle.model.specs.Areas.{Areas, Each, lengths}
 use Rattle.model.specs.Calls.{Estimate}
 use Rattle.network.specs.Lending.{Slice}
 use Rattle.network.specs.declared.Refusal.{Refusal}
+use Rattle.pairs_records.specs.declared.Records.{Records}
 use Rattle.unit_answers.specs.declared.Answer.{Answer}
-use Rattle.unit_questions.specs.declared.Prepared.{Prepared}
 use Rattle.calls.specs.Shape.{Held, handed}
 use Rattle.calls.specs.Meets.{CalledAlone, with_aimed}
 
@@ -19,9 +19,9 @@ pub record EstimateLengths (l : Each ℕ) (ranks pairs times down estimates : Li
   pub down_is : l.aimed.down ≡ length down
   pub estimates_are : l.aimed.estimates ≡ length estimates
 
-abbrev pub EstimatePart : (card : List ℕ) → Held → Each ℕ → Both Prepared Prepared → (down estimates : Slice) → (junction : ℕ)
-    → Result Answer Refusal → Type 0
-EstimatePart card h l p down estimates j r = (a : Areas) → lengths a ≡ l
-    → a.built.ranks ≡ p.entry.ranks.now → a.built.pairs ≡ p.entry.pairs.now → a.built.times ≡ p.entry.times.now
+abbrev pub EstimatePart : (card : List ℕ) → Held → Each ℕ → (ranks : Slice) → Both Records Records → (down estimates : Slice)
+    → (junction : ℕ) → Result Answer Refusal → Type 0
+EstimatePart card h l ranks records down estimates j r = (a : Areas) → lengths a ≡ l
+    → a.built.ranks ≡ ranks.entry.now → a.built.pairs ≡ records.entry.pairs.now → a.built.times ≡ records.entry.times.now
     → a.aimed ≡ record { down = down.entry.now; estimates = estimates.entry.now }
     → CalledAlone card h (record { entry = a; exit = with_aimed a down.entry.now estimates.exit.now }) (Estimate j) (handed h r)

@@ -14,7 +14,7 @@ use network::{Junction, Refusal, Sizes, TimeWord, Verdict};
 use pairs_hierarchy::Hierarchy;
 use pairs_records::Records;
 use unit_answers::Answer;
-use unit_questions::{Lengths, Prepared};
+use unit_questions::Lengths;
 
 // Questions 9, 12 and 13.
 #[tactic(auto, unfolding(model::specs::Estimate::estimate_refusal))]
@@ -36,24 +36,23 @@ fn estimate_asked(
 pub fn estimate(
     sizes: Sizes,
     target: Option<Junction>,
-    p: Prepared,
+    card: &[u8],
     l: Lengths,
+    ranks: &[u32],
+    records: Records,
     down: &[TimeWord],
     estimates: &mut [TimeWord],
     j: Junction,
 ) -> Result<Answer, Refusal>
-    requires { EstimateLengths (lengths_in l) p.ranks.now p.pairs.now p.times.now down.now estimates.old }
-    ensures { EstimatePart p.entry.card.now (held sizes target) (lengths_in l) p down (mut estimates) j.0 result }
+    requires { EstimateLengths (lengths_in l) ranks.now records.pairs.now records.times.now down.now estimates.old }
+    ensures { EstimatePart card.now (held sizes target) (lengths_in l) ranks records down (mut estimates) j.0 result }
 {
-    estimate_asked(sizes, target, p.card, l, j)?;
+    estimate_asked(sizes, target, card, l, j)?;
     let hierarchy = Hierarchy {
         sizes,
-        order: card_layout::order_of(p.card),
-        ranks: p.ranks,
-        records: Records {
-            pairs: p.pairs,
-            times: p.times,
-        },
+        order: card_layout::order_of(card),
+        ranks,
+        records,
         down,
     };
     Ok(Answer::Estimated(hierarchy.estimate(estimates, j)))

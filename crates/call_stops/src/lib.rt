@@ -22,14 +22,14 @@ use unit_questions::{Lengths, Prepared};
 pub const MOST_LEGS: usize = MOST_STOPS - 1;
 
 // The total and the number of roads of each leg; 0 past the last. Two arrays, as the C interface hands them back (unit_c's UnitStops).
-#[derive(Drop)]
+#[derive(Clone, Copy)]
 pub struct Legs {
     pub totals: [TimeWord; MOST_LEGS],
     pub roads: [u32; MOST_LEGS],
 }
 
 // What a list of stops whose every leg has a path answers: the number of legs, the whole total, the legs.
-#[derive(Drop)]
+#[derive(Clone, Copy)]
 pub struct Journey {
     pub number: u32,
     pub whole: TimeWord,

@@ -12,7 +12,9 @@ ghost use Rattle.calls.specs.Meets.{start_asked, target_asked};
 use network::{Junction, Refusal, Sizes, Verdict};
 use unit_questions::Lengths;
 
-// Question 9; a header out of range is refused too, and a card whose table names other bodies: no list of calls leaves one.
+// Question 9; a header out of range is refused too, and a card whose table names other bodies: no list of calls leaves one. (The hint:
+// put into each call, it finds the lengths in the argument list; as a function it is lent them in memory.)
+#[inline(always)]
 pub fn fits(sizes: Sizes, card: &[u8], l: Lengths) -> bool
     ensures { result ≡ fits_by (header_in (held sizes None)) card.now (lengths_in l) }
 {

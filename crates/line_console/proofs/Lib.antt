@@ -1,4 +1,4 @@
 -- Laws of the definitions, which several proofs cite, and the worked lines.
 mod Words
 pub mod Grammar
-mod Examples
+pub mod Examples

@@ -109,7 +109,21 @@ impl Header {
             (Estimate j.0) result }
     {
         let l = p.lengths(live, down, estimates, elapsed);
-        let answer = call_estimate::estimate(self.sizes, self.target, p, l, down, estimates, j);
+        let records = Records {
+            pairs: p.pairs,
+            times: p.times,
+        };
+        let answer = call_estimate::estimate(
+            self.sizes,
+            self.target,
+            p.card,
+            l,
+            p.ranks,
+            records,
+            down,
+            estimates,
+            j,
+        );
         Answered {
             header: self,
             answer,

@@ -126,7 +126,9 @@ pub fn sized(s: Sizes, card: usize, l: Lengths) -> bool
     (card == s.card as usize) & lengths_fit(s, l)
 }
 
-// A header out of range is refused by 9 too, and a card whose table names other bodies: no list of calls leaves one.
+// A header out of range is refused by 9 too, and a card whose table names other bodies: no list of calls leaves one. (The hint: where LLVM
+// puts this into `calls::fits`, it leaves that a function, which is lent the lengths in memory, and a set takes half as long again.)
+#[inline(never)]
 pub fn usable(s: Sizes, card: &[u8]) -> bool
     ensures { result ≡ (leb s.n most_junctions && leb s.m most_roads && named card.now s.n s.m) }
 {

@@ -14,8 +14,8 @@ use Rattle.call_estimate.proofs.estimate.Goals.{In_ok-estimate_asked}
 
 -- no question refuses
 passed : (c : In_ok-estimate_asked) → let a = c.args in
-    CallPassed a.p.card.now (held a.sizes a.target) (lengths_in a.l) (Estimate a.j.0)
-passed c = call-passed c.in_ok-estimate_asked.was (c.estimate_asked.ensures (base_on c.args.p.card.now))
+    CallPassed a.card.now (held a.sizes a.target) (lengths_in a.l) (Estimate a.j.0)
+passed c = call-passed c.in_ok-estimate_asked.was (c.estimate_asked.ensures (base_on c.args.card.now))
 
 pub estimate-requires : goal.estimate-requires
 estimate-requires c =
@@ -37,7 +37,7 @@ pub returns-in_err-estimate_asked : goal.returns-in_err-estimate_asked
 returns-in_err-estimate_asked c b lengths-are ranks_are pairs_are times_are aimed-is k =
     let a = c.args in
     let h = held a.sizes a.target in
-    let says = c.estimate_asked.ensures (base_on a.p.card.now) in
+    let says = c.estimate_asked.ensures (base_on a.card.now) in
     same-aimed (refused {h = h} lengths-are c.in_err-estimate_asked.was says (ap (handed h) (handed_on c.from_residual.ensures.1))) aimed-is
 
 pub returns : goal.returns
