@@ -267,22 +267,22 @@ def asked(all_functions):
                 yield f'{path(f)} is public and has a `requires`'
 
 
-# They turn a junction into its rank, or the other way; the third asks the second, of a number that may be no rank.
+# Who makes a rank of a junction, or the other way. The third asks the second, of a number that may be no rank.
 CONVERTED = 'network::rank_of network::junction_of pairs_descents::junction_in'.split()
 
 
+def inner(kind):
+    """What a type holds, without a reference and what an absence or a refusal puts around it."""
+    return bare(re.sub(r'^(?:Option|Result)<(\w+)\b.*>$', r'\1', bare(kind)))
+
+
 def converted(all_functions):
-    """These functions alone take a junction and answer a rank, or the other way, be it one that may be absent."""
-    def kind(told):
-        return re.sub(r'^Option<(.*)>$', r'\1', told)
-    found = set()
-    for f in all_functions:
-        for one, other in (('Junction', 'Rank'), ('Rank', 'Junction')):
-            if one in map(kind, f.parameters.values()) and kind(f.result) == other:
-                found.add(path(f))
-                if path(f) not in CONVERTED:
-                    yield f'{path(f)} makes a {other} of a {one}; only the rank area and the order may'
-    for name in sorted(set(CONVERTED) - found):
+    """CONVERTED alone take a junction and answer a rank, or the other way."""
+    found = {path(f): f for f in all_functions for one, other in (('Junction', 'Rank'), ('Rank', 'Junction'))
+             if one in map(inner, f.parameters.values()) and inner(f.result) == other}
+    for name in sorted(set(found) - set(CONVERTED)):
+        yield f'{name} makes a {inner(found[name].result)}; only the rank area and the order make a rank of a junction, or the other way'
+    for name in sorted(set(CONVERTED) - set(found)):
         yield f'{name} makes no rank of a junction, nor the other way'
 
 

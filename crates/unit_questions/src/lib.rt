@@ -127,7 +127,7 @@ pub fn sized(s: Sizes, card: usize, l: Lengths) -> bool
 }
 
 // A header out of range is refused by 9 too, and a card whose table names other bodies: no list of calls leaves one. (The hint: where LLVM
-// puts this into `calls::fits`, it leaves that a function, which is lent the lengths in memory, and a set takes half as long again.)
+// puts this into `calls::fits`, it leaves that a function, which is lent the lengths in memory, and a set takes 1.4 to 1.5 times as long.)
 #[inline(never)]
 pub fn usable(s: Sizes, card: &[u8]) -> bool
     ensures { result ≡ (leb s.n most_junctions && leb s.m most_roads && named card.now s.n s.m) }
